@@ -1,0 +1,80 @@
+-- Images: what a `Found` stands for, and the image of a tree.
+use Rattle.std.specs.Prelude.{ℕ, Bool, List}
+use Rattle.content_tree.specs.Tree as tree
+use Rattle.content_tree.specs.Tree.{Tree, Payload, Trees, Pairs, Fields}
+use Rattle.content_tree.specs.declared.number.Number.{Number}
+
+mutual
+  -- an image: a value with no case, no static mark and no variant index
+  pub data Image : Type 0 where
+    unit : Image
+    boolean : Bool → Image
+    number : Number → Image
+    character : ℕ → Image
+    text : List ℕ → Image
+    octets : List ℕ → Image
+    seq : Images → Image
+    map : Entries → Image
+    absent : Image
+    present : Image → Image
+    structure : List ℕ → Content → Image
+    enumeration : List ℕ → List ℕ → Content → Image
+    tuple : Images → Image
+    identifier : List ℕ → Image
+
+  -- what a struct or a variant holds
+  pub data Content : Type 0 where
+    no_content : Content
+    one : Image → Content
+    many : Images → Content
+    named : Members → Content
+
+  -- images, in order
+  pub data Images : Type 0 where
+    no_images : Images
+    image_then : Image → Images → Images
+
+  -- pairs of images, in order
+  pub data Entries : Type 0 where
+    no_entries : Entries
+    entry_then : Image → Image → Entries → Entries
+
+  -- keys with images, in order
+  pub data Members : Type 0 where
+    no_members : Members
+    member_then : List ℕ → Image → Members → Members
+
+-- the image of a tree: the same shape, with no marks and no variant index
+abbrev mutual
+  pub image : Tree → Image
+  image tree.unit = unit
+  image (tree.boolean b) = boolean b
+  image (tree.number n) = number n
+  image (tree.character c) = character c
+  image (tree.text t) = text t.content
+  image (tree.octets t) = octets t.content
+  image (tree.seq ts) = seq (image_each ts)
+  image (tree.map ps) = map (image_pairs ps)
+  image tree.absent = absent
+  image (tree.present t) = present (image t)
+  image (tree.structure n p) = structure n.content (image_payload p)
+  image (tree.enumeration n i v p) = enumeration n.content v.content (image_payload p)
+  image (tree.tuple ts) = tuple (image_each ts)
+
+  pub image_payload : Payload → Content
+  image_payload tree.no_payload = no_content
+  image_payload (tree.one t) = one (image t)
+  image_payload (tree.many ts) = many (image_each ts)
+  image_payload (tree.named fs) = named (image_fields fs)
+
+  pub image_each : Trees → Images
+  image_each tree.no_trees = no_images
+  image_each (tree.tree_then t ts) = image_then (image t) (image_each ts)
+
+  pub image_pairs : Pairs → Entries
+  image_pairs tree.no_pairs = no_entries
+  image_pairs (tree.pair_then k t ps) = entry_then (image k) (image t) (image_pairs ps)
+
+  pub image_fields : Fields → Members
+  image_fields tree.no_fields = no_members
+  image_fields (tree.field_then k t fs) = member_then k.content (image t) (image_fields fs)

@@ -1,0 +1,70 @@
+-- What images print.
+use Rattle.std.specs.Prelude.{ℕ, List, [], ◌∷◌, ◌++◌, flat_map, codes, if◌then◌else◌, ◌==◌, nat_lt, ◌||◌, false, encode_utf8}
+use Rattle.std.specs.Str.{chars}
+use Rattle.std.specs.Fmt.{decimal, signed_decimal, digits}
+use Rattle.content_tree.specs.declared.number.Number.{Number}
+use Rattle.content_tree.specs.declared.number.Number.TheVariants as num
+use Rattle.content_tree.specs.Image.{Image, Content, Images, Entries, Members, unit, boolean, number, character, text, octets, seq, map, absent, present, structure, enumeration, tuple, identifier, no_content, one, many, named, no_images, image_then, no_entries, entry_then, no_members, member_then}
+
+-- a number, with its kind at once
+abbrev pub number_text : Number → List ℕ
+number_text (num.I8 n) = signed_decimal n ++ codes "i8"
+number_text (num.U8 n) = decimal n ++ codes "u8"
+number_text (num.I16 n) = signed_decimal n ++ codes "i16"
+number_text (num.U16 n) = decimal n ++ codes "u16"
+number_text (num.I32 n) = signed_decimal n ++ codes "i32"
+number_text (num.U32 n) = decimal n ++ codes "u32"
+number_text (num.I64 n) = signed_decimal n ++ codes "i64"
+number_text (num.U64 n) = decimal n ++ codes "u64"
+number_text (num.I128 n) = signed_decimal n ++ codes "i128"
+number_text (num.U128 n) = decimal n ++ codes "u128"
+
+-- a character of a quoted text; past ASCII it stays as it is
+abbrev pub escaped : ℕ → List ℕ
+escaped c = if c == 34 then codes "\\\"" else (if c == 92 then codes "\\\\" else (if c == 9 then codes "\\t" else (if c == 10 then codes "\\n"
+    else (if c == 13 then codes "\\r" else (if c == 0 then codes "\\0" else (if nat_lt c 32 || c == 127 then codes "\\u{" ++ (digits 16 false c ++ codes "}") else encode_utf8 c))))))
+
+-- a text in quotes, as Rust's debug form has it for ASCII
+abbrev pub quoted : List ℕ → List ℕ
+quoted bytes = 34 ∷ (flat_map escaped (chars bytes) ++ codes "\"")
+
+-- bytes, the first after `lead` and each other after a comma
+abbrev pub byte_list : List ℕ → List ℕ → List ℕ
+byte_list lead [] = []
+byte_list lead (b ∷ bs) = lead ++ (decimal b ++ byte_list (codes ", ") bs)
+
+-- the text of an image
+abbrev mutual
+  pub printed : Image → List ℕ
+  printed unit = codes "()"
+  printed (boolean b) = if b then codes "true" else codes "false"
+  printed (number n) = number_text n
+  printed (character c) = codes "'" ++ (encode_utf8 c ++ codes "'")
+  printed (text t) = quoted t
+  printed (octets bs) = codes "&[" ++ (byte_list [] bs ++ codes "]")
+  printed (seq is) = codes "[" ++ (printed_list [] is ++ codes "]")
+  printed (map es) = codes "{ " ++ (printed_entries [] es ++ codes " }")
+  printed absent = codes "None"
+  printed (present i) = codes "Some(" ++ (printed i ++ codes ")")
+  printed (structure n c) = n ++ printed_content c
+  printed (enumeration n v c) = n ++ (codes "::" ++ (v ++ printed_content c))
+  printed (tuple is) = codes "(" ++ (printed_list [] is ++ codes ")")
+  printed (identifier t) = t
+
+  pub printed_content : Content → List ℕ
+  printed_content no_content = []
+  printed_content (one i) = codes "(" ++ (printed i ++ codes ")")
+  printed_content (many is) = codes "(" ++ (printed_list [] is ++ codes ")")
+  printed_content (named ms) = codes " { " ++ (printed_members [] ms ++ codes " }")
+
+  pub printed_list : List ℕ → Images → List ℕ
+  printed_list lead no_images = []
+  printed_list lead (image_then i is) = lead ++ (printed i ++ printed_list (codes ", ") is)
+
+  pub printed_entries : List ℕ → Entries → List ℕ
+  printed_entries lead no_entries = []
+  printed_entries lead (entry_then k v es) = lead ++ (printed k ++ (codes ": " ++ (printed v ++ printed_entries (codes ", ") es)))
+
+  pub printed_members : List ℕ → Members → List ℕ
+  printed_members lead no_members = []
+  printed_members lead (member_then k v ms) = lead ++ (k ++ (codes ": " ++ (printed v ++ printed_members (codes ", ") ms)))

@@ -1,0 +1,9 @@
+//! A container for any value of Serde's data model.
+#![tactic(auto)]
+
+pub use content_tree::{
+    CowBytes, CowStr, Data, DataType, Enum, Error, ErrorKind, Expected, Found, FoundData, Number, Result, Struct, Value,
+};
+
+#[cfg(test)]
+mod tests;

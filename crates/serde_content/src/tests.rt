@@ -1,0 +1,2 @@
+//! Tests over every crate, with expected values from the written rules.
+mod texts;
