@@ -2,10 +2,13 @@
 #![tactic(auto)]
 
 mod cow;
+mod display;
 mod error;
 mod expected;
 mod found;
+mod image;
 mod number;
+mod quote;
 mod value;
 
 pub use cow::{CowBytes, CowStr};
