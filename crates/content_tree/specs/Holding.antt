@@ -1,0 +1,19 @@
+-- What a text or bytes hold where they are owned.
+use Rattle.std.specs.Prelude.{ℕ, Option, Some, None}
+use Rattle.std.specs.declared.alloc.Global.{Global}
+use Rattle.std.specs.declared.string.String.{String}
+use Rattle.std.specs.declared.vec.Vec.{Vec}
+use Rattle.content_tree.specs.declared.cow.CowStr.{CowStr}
+use Rattle.content_tree.specs.declared.cow.CowStr.TheVariants as cow_str
+use Rattle.content_tree.specs.declared.cow.CowBytes.{CowBytes}
+use Rattle.content_tree.specs.declared.cow.CowBytes.TheVariants as cow_bytes
+
+-- the `String` inside an owned text
+abbrev pub string_in : CowStr → Option (String Global)
+string_in (cow_str.Borrowed s) = None
+string_in (cow_str.Owned s) = Some s
+
+-- the `Vec` inside owned bytes
+abbrev pub vec_in : CowBytes → Option (Vec ℕ Global)
+vec_in (cow_bytes.Borrowed s) = None
+vec_in (cow_bytes.Owned v) = Some v
