@@ -1,7 +1,7 @@
 //! Texts and bytes that are borrowed or owned.
 ghost use Rattle.std.specs.Prelude.{◌≡◌, IsTrue, Ok, IfOk, IfErr, IsOk, IfSome, string_bytes};
 ghost use Rattle.content_tree.specs.Text.{text_of, bytes_of, text_content, bytes_content};
-ghost use Rattle.content_tree.specs.Holding.{string_in, vec_in};
+ghost use Rattle.content_tree.specs.Cases.{string_in, vec_in};
 ghost use Rattle.content_tree.specs.Kind.{IsOutOfMemory};
 
 use crate::error::Result;
