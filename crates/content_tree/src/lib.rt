@@ -2,6 +2,7 @@
 #![tactic(auto)]
 
 mod convert;
+mod copy_value;
 mod cow;
 mod error;
 mod expected;
