@@ -8,6 +8,7 @@ mod error;
 mod expected;
 mod found;
 mod number;
+mod owned;
 mod value;
 
 pub use cow::{CowBytes, CowStr};
