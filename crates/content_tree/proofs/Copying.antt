@@ -10,7 +10,7 @@ pub copied_more : (pairs copies : List (NamedValue × NamedValue)) (i : ℕ) (no
     → map pair_tree (copies ++ (key, value) ∷ []) ≡ map pair_tree (take (i + 1) pairs)
 copied_more pairs copies i none key value below keys values before =
     map-append pair_tree copies ((key, value) ∷ [])
-        ∙ ap (λ done. done ++ (tree_of key, tree_of value) ∷ []) before
-        ∙ ap (λ k. map pair_tree (take i pairs) ++ (k, tree_of value) ∷ []) keys
-        ∙ ap (λ v. map pair_tree (take i pairs) ++ (tree_of (get_or pairs i none).0, v) ∷ []) values
-        ∙ sym (map_more pair_tree pairs i none below)
+    ∙ ap (λ done. done ++ (tree_of key, tree_of value) ∷ []) before
+    ∙ ap (λ k. map pair_tree (take i pairs) ++ (k, tree_of value) ∷ []) keys
+    ∙ ap (λ v. map pair_tree (take i pairs) ++ (tree_of (get_or pairs i none).0, v) ∷ []) values
+    ∙ sym (map_more pair_tree pairs i none below)

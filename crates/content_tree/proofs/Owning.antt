@@ -3,7 +3,7 @@ use Rattle.std.proofs.Common.{◌≡◌, List, [], ◌∷◌, ◌++◌, map, len
 use Rattle.content_tree.specs.Text.{Text, text_of, to_owned}
 use Rattle.content_tree.specs.Tree as tree
 use Rattle.content_tree.specs.Tree.{Tree, owned, at_texts_each, at_texts_pairs, at_texts_fields}
-use Rattle.content_tree.specs.Value.{tree_of, trees_of, pairs_of, fields_of, trees_view, pairs_view, fields_view, pair_tree}
+use Rattle.content_tree.specs.Value.{tree_of, trees_of, pairs_of, fields_of, trees_view, pairs_view, fields_view}
 use Rattle.content_tree.specs.declared.cow.CowStr.{CowStr}
 use Rattle.content_tree.specs.declared.value.NamedValue.{NamedValue}
 

@@ -7,3 +7,4 @@ pub mod Printed
 pub mod Kind
 pub mod Texts
 pub mod Cases
+pub mod Fault

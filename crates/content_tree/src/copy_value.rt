@@ -25,8 +25,14 @@ impl<'a, 'n> NamedValue<'a, 'n> {
             NamedValue::Seq(items) => Ok(NamedValue::Seq(clone_items(alloc, items)?)),
             NamedValue::Map(pairs) => Ok(NamedValue::Map(clone_pairs(alloc, pairs)?)),
             NamedValue::Option(held) => Ok(NamedValue::Option(clone_held(alloc, held)?)),
-            NamedValue::Struct(inner) => Ok(NamedValue::Struct(Box::new(alloc, inner.try_clone(alloc)?)?)),
-            NamedValue::Enum(inner) => Ok(NamedValue::Enum(Box::new(alloc, inner.try_clone(alloc)?)?)),
+            NamedValue::Struct(inner) => Ok(NamedValue::Struct(Box::new(
+                alloc,
+                inner.try_clone(alloc)?,
+            )?)),
+            NamedValue::Enum(inner) => Ok(NamedValue::Enum(Box::new(
+                alloc,
+                inner.try_clone(alloc)?,
+            )?)),
             NamedValue::Tuple(items) => Ok(NamedValue::Tuple(clone_items(alloc, items)?)),
         }
     }
@@ -101,7 +107,10 @@ fn clone_held<'a, 'n>(
 }
 
 #[cycle(copy_value)]
-fn clone_items<'a, 'n>(alloc: Global, items: &Vec<NamedValue<'a, 'n>>) -> Result<Vec<NamedValue<'a, 'n>>>
+fn clone_items<'a, 'n>(
+    alloc: Global,
+    items: &Vec<NamedValue<'a, 'n>>,
+) -> Result<Vec<NamedValue<'a, 'n>>>
     ensures value { IfOk result (λ copies. trees_view copies.items ≡ trees_view items.now.items) }
     ensures memory { IfErr result (λ e. IsOutOfMemory e) }
 {

@@ -2,6 +2,8 @@
 #![tactic(auto)]
 
 mod convert;
+mod copy_error;
+mod copy_found;
 mod copy_value;
 mod cow;
 mod error;

@@ -14,7 +14,7 @@ impl<'a, 'n> NamedValue<'a, 'n> {
     /// The same tree with every text and byte value owned; names, variants and keys stay as they were. What is owned already is moved.
     #[cycle(own_value)]
     pub fn into_owned(self, alloc: Global) -> Result<NamedValue<'static, 'n>>
-        ensures value { IfOk result (λ v. tree_of v ≡ owned (tree_of self.entry)) }
+        ensures value { IfOk result (λ own. tree_of own ≡ owned (tree_of self.entry)) }
         ensures memory { IfErr result (λ e. IsOutOfMemory e) }
     {
         match self {
@@ -22,8 +22,12 @@ impl<'a, 'n> NamedValue<'a, 'n> {
             NamedValue::Bool(boolean) => Ok(NamedValue::Bool(boolean)),
             NamedValue::Number(number) => Ok(NamedValue::Number(number)),
             NamedValue::Char(character) => Ok(NamedValue::Char(character)),
-            NamedValue::String(text) => Ok(NamedValue::String(CowStr::Owned(text.into_owned(alloc)?))),
-            NamedValue::Bytes(bytes) => Ok(NamedValue::Bytes(CowBytes::Owned(bytes.into_owned(alloc)?))),
+            NamedValue::String(text) => Ok(NamedValue::String(CowStr::Owned(text.into_owned(
+                alloc,
+            )?))),
+            NamedValue::Bytes(bytes) => Ok(NamedValue::Bytes(CowBytes::Owned(bytes.into_owned(
+                alloc,
+            )?))),
             NamedValue::Seq(items) => Ok(NamedValue::Seq(own_items(alloc, items)?)),
             NamedValue::Map(pairs) => Ok(NamedValue::Map(own_pairs(alloc, pairs)?)),
             NamedValue::Option(held) => Ok(NamedValue::Option(own_held(alloc, held)?)),
@@ -44,7 +48,7 @@ impl<'a, 'n> NamedStruct<'a, 'n> {
     /// The same tree with every text and byte value owned; names, variants and keys stay as they were. What is owned already is moved.
     #[cycle(own_value)]
     pub fn into_owned(self, alloc: Global) -> Result<NamedStruct<'static, 'n>>
-        ensures value { IfOk result (λ v. struct_tree v ≡ owned (struct_tree self.entry)) }
+        ensures value { IfOk result (λ own. struct_tree own ≡ owned (struct_tree self.entry)) }
         ensures memory { IfErr result (λ e. IsOutOfMemory e) }
     {
         let NamedStruct { name, data } = self;
@@ -57,7 +61,7 @@ impl<'a, 'n> NamedEnum<'a, 'n> {
     /// The same tree with every text and byte value owned; names, variants and keys stay as they were. What is owned already is moved.
     #[cycle(own_value)]
     pub fn into_owned(self, alloc: Global) -> Result<NamedEnum<'static, 'n>>
-        ensures value { IfOk result (λ v. enum_tree v ≡ owned (enum_tree self.entry)) }
+        ensures value { IfOk result (λ own. enum_tree own ≡ owned (enum_tree self.entry)) }
         ensures memory { IfErr result (λ e. IsOutOfMemory e) }
     {
         let NamedEnum {
@@ -80,7 +84,7 @@ impl<'a, 'n> NamedData<'a, 'n> {
     /// The same tree with every text and byte value owned; names, variants and keys stay as they were. What is owned already is moved.
     #[cycle(own_value)]
     pub fn into_owned(self, alloc: Global) -> Result<NamedData<'static, 'n>>
-        ensures value { IfOk result (λ v. payload_of v ≡ owned_payload (payload_of self.entry)) }
+        ensures value { IfOk result (λ own. payload_of own ≡ owned_payload (payload_of self.entry)) }
         ensures memory { IfErr result (λ e. IsOutOfMemory e) }
     {
         match self {
@@ -103,7 +107,7 @@ fn own_held<'a, 'n>(
     alloc: Global,
     held: Option<Box<NamedValue<'a, 'n>>>,
 ) -> Result<Option<Box<NamedValue<'static, 'n>>>>
-    ensures value { IfOk result (λ v. held_view v ≡ owned (held_view held.entry)) }
+    ensures value { IfOk result (λ own. held_view own ≡ owned (held_view held.entry)) }
     ensures memory { IfErr result (λ e. IsOutOfMemory e) }
 {
     match held {
@@ -116,8 +120,11 @@ fn own_held<'a, 'n>(
 }
 
 #[cycle(own_value)]
-fn own_items<'a, 'n>(alloc: Global, items: Vec<NamedValue<'a, 'n>>) -> Result<Vec<NamedValue<'static, 'n>>>
-    ensures value { IfOk result (λ v. trees_view v.items ≡ at_texts_each to_owned (λ n. n) (trees_view items.entry.items)) }
+fn own_items<'a, 'n>(
+    alloc: Global,
+    items: Vec<NamedValue<'a, 'n>>,
+) -> Result<Vec<NamedValue<'static, 'n>>>
+    ensures value { IfOk result (λ own. trees_view own.items ≡ at_texts_each to_owned (λ n. n) (trees_view items.entry.items)) }
     ensures memory { IfErr result (λ e. IsOutOfMemory e) }
 {
     let mut owned = Vec::new(alloc);
@@ -132,7 +139,7 @@ fn own_pairs<'a, 'n>(
     alloc: Global,
     pairs: Vec<(NamedValue<'a, 'n>, NamedValue<'a, 'n>)>,
 ) -> Result<Vec<(NamedValue<'static, 'n>, NamedValue<'static, 'n>)>>
-    ensures value { IfOk result (λ v. pairs_view v.items ≡ at_texts_pairs to_owned (λ n. n) (pairs_view pairs.entry.items)) }
+    ensures value { IfOk result (λ own. pairs_view own.items ≡ at_texts_pairs to_owned (λ n. n) (pairs_view pairs.entry.items)) }
     ensures memory { IfErr result (λ e. IsOutOfMemory e) }
 {
     let mut owned = Vec::new(alloc);
@@ -149,7 +156,7 @@ fn own_fields<'a, 'n>(
     alloc: Global,
     fields: Vec<(CowStr<'n>, NamedValue<'a, 'n>)>,
 ) -> Result<Vec<(CowStr<'n>, NamedValue<'static, 'n>)>>
-    ensures value { IfOk result (λ v. fields_view v.items ≡ at_texts_fields to_owned (λ n. n) (fields_view fields.entry.items)) }
+    ensures value { IfOk result (λ own. fields_view own.items ≡ at_texts_fields to_owned (λ n. n) (fields_view fields.entry.items)) }
     ensures memory { IfErr result (λ e. IsOutOfMemory e) }
 {
     let mut owned = Vec::new(alloc);
