@@ -1,6 +1,7 @@
 //! Trees of Serde's data model: the types, their conversions, errors and printed texts.
 #![tactic(auto)]
 
+mod compare;
 mod cow;
 mod error;
 mod expected;
