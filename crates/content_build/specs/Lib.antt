@@ -1,2 +1,3 @@
 pub mod Partial
 pub mod Answers
+pub mod Recorder

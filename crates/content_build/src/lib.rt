@@ -2,5 +2,7 @@
 #![tactic(auto)]
 
 mod calls_error;
+mod recorder;
 
 pub use calls_error::CallsError;
+pub use recorder::Recorder;

@@ -36,7 +36,7 @@ impl<'a> CowStr<'a> {
         }
     }
 
-    /// Whether the text is borrowed.
+    /// Whether the text is borrowed; of a name: whether it is static.
     pub fn is_borrowed(&self) -> bool
         ensures { result ≡ (text_of self.now).borrowed }
     {

@@ -5,6 +5,7 @@ mod convert;
 mod copy_error;
 mod copy_found;
 mod copy_value;
+mod compare;
 mod cow;
 mod display;
 mod error;
