@@ -6,3 +6,11 @@ pub mod Found
 pub mod Printed
 pub mod Kind
 pub mod Texts
+pub mod Order
+pub mod Ranked
+pub mod RankedTree
+pub mod Decide
+pub mod SameTree
+pub mod ImageOrder
+pub mod RankedImage
+pub mod SameImage
