@@ -14,3 +14,4 @@ pub mod SameTree
 pub mod ImageOrder
 pub mod RankedImage
 pub mod SameImage
+pub mod ErrorOrder

@@ -72,7 +72,10 @@ pub(crate) fn compare<'a, 'n>(a: &NamedValue<'a, 'n>, b: &NamedValue<'a, 'n>) ->
 
 /// Two optional values: none before some.
 #[cycle(compare)]
-fn compare_held<'a, 'n>(a: &Option<Box<NamedValue<'a, 'n>>>, b: &Option<Box<NamedValue<'a, 'n>>>) -> Ordering
+fn compare_held<'a, 'n>(
+    a: &Option<Box<NamedValue<'a, 'n>>>,
+    b: &Option<Box<NamedValue<'a, 'n>>>,
+) -> Ordering
     ensures { result ≡ tree_cmp (held_view a.now) (held_view b.now) }
 {
     match (a, b) {
@@ -99,7 +102,11 @@ pub(crate) fn compare_struct<'a, 'n>(a: &NamedStruct<'a, 'n>, b: &NamedStruct<'a
 pub(crate) fn compare_enum<'a, 'n>(a: &NamedEnum<'a, 'n>, b: &NamedEnum<'a, 'n>) -> Ordering
     ensures { result ≡ tree_cmp (enum_tree a.now) (enum_tree b.now) }
 {
-    match a.name.cmp(&b.name).then(a.variant_index.cmp(&b.variant_index)) {
+    match a
+        .name
+        .cmp(&b.name)
+        .then(a.variant_index.cmp(&b.variant_index))
+    {
         Ordering::Equal => match a.variant.cmp(&b.variant) {
             Ordering::Equal => compare_data(&a.data, &b.data),
             unequal => unequal,
@@ -117,7 +124,9 @@ pub(crate) fn compare_data<'a, 'n>(a: &NamedData<'a, 'n>, b: &NamedData<'a, 'n>)
         (NamedData::Unit, NamedData::Unit) => Ordering::Equal,
         (NamedData::NewType { value: x }, NamedData::NewType { value: y }) => compare(x, y),
         (NamedData::Tuple { values: xs }, NamedData::Tuple { values: ys }) => compare_items(xs, ys),
-        (NamedData::Struct { fields: xs }, NamedData::Struct { fields: ys }) => compare_fields(xs, ys),
+        (NamedData::Struct { fields: xs }, NamedData::Struct { fields: ys }) => compare_fields(
+            xs, ys,
+        ),
         _ => rank_of_data(a).cmp(&rank_of_data(b)),
     }
 }
