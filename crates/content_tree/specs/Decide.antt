@@ -1,7 +1,7 @@
 -- When two parts are compared and neither is less: what that decides.
-use Rattle.std.proofs.Common.{◌≡◌, ℕ, ℤ, Bool, true, false, List, refl, sym, ap, ◌∙◌, subst, Ordering, Less, Equal, Greater, nat_cmp}
+use Rattle.std.proofs.Common.{◌≡◌, ℕ, Bool, true, false, List, refl, ap, subst, Ordering, Less, Equal, Greater, nat_cmp}
 use Rattle.std.specs.Bool.{Decides}
-use Rattle.std.specs.Ordering.{is_eq, int_cmp, bool_cmp, ordering_then}
+use Rattle.std.specs.Ordering.{is_eq, bool_cmp, ordering_then}
 use Rattle.std.specs.Cmp.{unsigned_ties}
 use Rattle.std.specs.Cmp.Lexicographic.{slice_cmp, texts_ties}
 use Rattle.std.proofs.lemmas.Bool.Decides.{Decides-int_eq, Decides-eqb}

@@ -1,12 +1,10 @@
 -- The order of expectations and errors: cases first, as they are listed, then contents from left to right.
-use Rattle.std.specs.Prelude.{ℕ, Option, string_bytes}
+use Rattle.std.specs.Prelude.{ℕ}
 use Rattle.std.specs.Ordering.{nat_cmp, ordering_then}
 use Rattle.std.specs.Option.{option_cmp}
 use Rattle.std.specs.declared.cmp.Ordering.{Ordering}
-use Rattle.std.specs.declared.alloc.Global.{Global}
-use Rattle.std.specs.declared.string.String.{String}
 use Rattle.content_tree.specs.Found.{image_view}
-use Rattle.content_tree.specs.ImageOrder.{bytes_cmp, image_cmp}
+use Rattle.content_tree.specs.ImageOrder.{string_cmp, image_cmp}
 use Rattle.content_tree.specs.Kind.{kind_of}
 use Rattle.content_tree.specs.declared.expected.DataType.{DataType}
 use Rattle.content_tree.specs.declared.expected.DataType.TheVariants as kind
@@ -15,10 +13,6 @@ use Rattle.content_tree.specs.declared.expected.Expected.TheVariants as want
 use Rattle.content_tree.specs.declared.error.ErrorKind.{ErrorKind}
 use Rattle.content_tree.specs.declared.error.ErrorKind.TheVariants as error
 use Rattle.content_tree.specs.declared.error.Error.{Error}
-
--- names and custom texts go by their bytes
-abbrev pub string_cmp : String Global → String Global → Ordering
-string_cmp a b = bytes_cmp (string_bytes a) (string_bytes b)
 
 -- the place of a type among the four
 abbrev pub type_rank : DataType → ℕ

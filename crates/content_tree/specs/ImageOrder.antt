@@ -1,7 +1,9 @@
 -- The order of images: cases first, as they are listed, then contents from left to right.
-use Rattle.std.specs.Prelude.{ℕ, Bool, List}
+use Rattle.std.specs.Prelude.{ℕ, Bool, List, string_bytes}
 use Rattle.std.specs.Ordering.{nat_cmp, bool_cmp, ordering_then, eq_by_cmp}
 use Rattle.std.specs.Cmp.Lexicographic.{slice_cmp}
+use Rattle.std.specs.declared.alloc.Global.{Global}
+use Rattle.std.specs.declared.string.String.{String}
 use Rattle.std.specs.declared.cmp.Ordering.{Ordering}
 use Rattle.std.specs.declared.cmp.Ordering.TheVariants.{Less, Equal, Greater}
 use Rattle.content_tree.specs.Order.{number_cmp}
@@ -10,6 +12,10 @@ use Rattle.content_tree.specs.Image.{Image, unit, boolean, number, character, te
 -- texts and bytes go byte by byte, a proper beginning first
 abbrev pub bytes_cmp : List ℕ → List ℕ → Ordering
 bytes_cmp = slice_cmp nat_cmp
+
+-- strings go by their bytes
+abbrev pub string_cmp : String Global → String Global → Ordering
+string_cmp a b = bytes_cmp (string_bytes a) (string_bytes b)
 
 -- the place of an image's case among the thirteen
 abbrev pub image_rank : Image → ℕ

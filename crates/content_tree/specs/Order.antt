@@ -1,5 +1,5 @@
 -- The order of trees: cases first, as they are listed, then contents from left to right; marks are not seen.
-use Rattle.std.specs.Prelude.{ℕ, Bool, Some, Option}
+use Rattle.std.specs.Prelude.{ℕ, Bool}
 use Rattle.std.specs.Ordering.{nat_cmp, int_cmp, bool_cmp, ordering_then, eq_by_cmp}
 use Rattle.std.specs.Cmp.Lexicographic.{slice_cmp}
 use Rattle.std.specs.declared.cmp.Ordering.{Ordering}

@@ -1,6 +1,6 @@
 -- Ranked trees, with one shape of node: a label and children. Their order is total, and that of trees and images is theirs.
 use Rattle.std.specs.Prelude.{◌≡◌, ℕ, ℤ, List, refl}
-use Rattle.std.proofs.Common.{sym, ap, ◌∙◌, Less, Equal, Greater, Ordering, nat_cmp}
+use Rattle.std.proofs.Common.{sym, Less, Equal, Greater, Ordering, nat_cmp}
 use Rattle.std.specs.Ordering.{ordering_reverse, ordering_then, int_cmp, then_cmp, on}
 use Rattle.std.specs.Cmp.{IsTotalOrder, nat_cmp_total, int_cmp_total, then_total, on_total, alike_right}
 use Rattle.std.specs.Cmp.Lexicographic.{slice_cmp, nat_list_cmp_total}

@@ -1,8 +1,8 @@
 -- The order of trees is total: it is that of their ranked trees.
-use Rattle.std.specs.Prelude.{◌≡◌, ℕ, ℤ, pos, Bool, true, false, List, [], ◌∷◌, refl, Some}
+use Rattle.std.specs.Prelude.{◌≡◌, ℕ, ℤ, pos, Bool, true, false, List, [], ◌∷◌, refl}
 use Rattle.std.proofs.Common.{subst, sym, ap, ◌∙◌, Ordering, Equal, nat_cmp}
 use Rattle.std.specs.Ordering.{ordering_then, as_partial_cmp}
-use Rattle.std.specs.Cmp.{IsTotalOrder, IsEquivalence, IsPartialOrder, IsPartialEquivalence, on_total, eq_by_cmp_equiv, partial_equiv_from_equiv, partial_order_from_total}
+use Rattle.std.specs.Cmp.{IsTotalOrder, IsEquivalence, IsPartialOrder, on_total, eq_by_cmp_equiv, partial_order_from_total}
 use Rattle.content_tree.specs.Ranked.{Ranked, ranked, Children, no_children, child_then, ranked_cmp, children_cmp, then_equal, then_assoc, ranked_total}
 use Rattle.content_tree.specs.Tree.{Tree, unit, boolean, number, character, text, octets, seq, map, absent, present, structure, enumeration, tuple, Payload, no_payload, one, many, named, Trees, no_trees, tree_then, Pairs, no_pairs, pair_then, Fields, no_fields, field_then}
 use Rattle.content_tree.specs.declared.number.Number.{Number}

@@ -1,6 +1,5 @@
 -- The order finds neither of two images less exactly if they are equal.
 use Rattle.std.proofs.Common.{◌≡◌, refl, ap}
-use Rattle.std.specs.Ordering.{ordering_then}
 use Rattle.content_tree.specs.Decide.{Ties, along, both, nats_tie, bytes_tie, bools_tie, numbers_tie}
 use Rattle.content_tree.specs.Image.{Image, unit, boolean, number, character, text, octets, seq, map, absent, present, structure, enumeration, tuple, identifier, Content, no_content, one, many, named, Images, no_images, image_then, Entries, no_entries, entry_then, Members, no_members, member_then}
 use Rattle.content_tree.specs.ImageOrder.{bytes_cmp, image_cmp, content_cmp, images_cmp, entries_cmp, members_cmp}

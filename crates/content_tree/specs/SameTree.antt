@@ -1,6 +1,5 @@
 -- The order finds neither of two trees less exactly if they are equal with the marks taken off.
-use Rattle.std.proofs.Common.{◌≡◌, refl, ap, Ordering, nat_cmp}
-use Rattle.std.specs.Ordering.{ordering_then}
+use Rattle.std.proofs.Common.{◌≡◌, refl, ap, nat_cmp}
 use Rattle.content_tree.specs.Decide.{Ties, along, both, nats_tie, bools_tie, texts_tie, numbers_tie}
 use Rattle.content_tree.specs.Text.{to_owned}
 use Rattle.content_tree.specs.Tree.{unmarked, unmarked_payload, at_texts_each, at_texts_pairs, at_texts_fields, Tree, unit, boolean, number, character, text, octets, seq, map, absent, present, structure, enumeration, tuple, Payload, no_payload, one, many, named, Trees, no_trees, tree_then, Pairs, no_pairs, pair_then, Fields, no_fields, field_then}

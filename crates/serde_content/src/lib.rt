@@ -2,8 +2,7 @@
 #![tactic(auto)]
 
 pub use content_tree::{
-    CowBytes, CowStr, Data, DataType, Enum, Error, ErrorKind, Expected, Found, FoundData, Number,
-    Result, Struct, Value,
+    CowBytes, CowStr, Data, DataType, Enum, Error, ErrorKind, Expected, Found, FoundData, Number, Result, Struct, Value,
 };
 
 #[cfg(test)]

@@ -15,7 +15,7 @@ impl PartialEq for Found {
 
     ghost laws = { on_per image_view (partial_equiv_from_equiv image_equiv) };
 
-    fn eq(&self, other: &Self) -> bool {
+    fn eq(&self, other: &Found) -> bool {
         self.cmp(other).is_eq()
     }
 }
@@ -29,7 +29,7 @@ impl PartialOrd for Found {
 
     ghost laws = { on_po image_view image_partial_order };
 
-    fn partial_cmp(&self, other: &Self) -> Option<Ordering> {
+    fn partial_cmp(&self, other: &Found) -> Option<Ordering> {
         Some(self.cmp(other))
     }
 }
@@ -43,7 +43,7 @@ impl Ord for Found {
 
     ghost matches_eq = { λ a b. refl };
 
-    fn cmp(&self, other: &Self) -> Ordering {
+    fn cmp(&self, other: &Found) -> Ordering {
         compare(self, other)
     }
 }
@@ -53,7 +53,7 @@ impl PartialEq for FoundData {
 
     ghost laws = { on_per content_view (partial_equiv_from_equiv content_equiv) };
 
-    fn eq(&self, other: &Self) -> bool {
+    fn eq(&self, other: &FoundData) -> bool {
         self.cmp(other).is_eq()
     }
 }
@@ -67,7 +67,7 @@ impl PartialOrd for FoundData {
 
     ghost laws = { on_po content_view content_partial_order };
 
-    fn partial_cmp(&self, other: &Self) -> Option<Ordering> {
+    fn partial_cmp(&self, other: &FoundData) -> Option<Ordering> {
         Some(self.cmp(other))
     }
 }
@@ -81,7 +81,7 @@ impl Ord for FoundData {
 
     ghost matches_eq = { λ a b. refl };
 
-    fn cmp(&self, other: &Self) -> Ordering {
+    fn cmp(&self, other: &FoundData) -> Ordering {
         compare_data(self, other)
     }
 }

@@ -1,9 +1,9 @@
 //! The comparison of two images, case by case; it stops at the first difference.
 
-ghost use Rattle.std.specs.Prelude.{◌≡◌, string_bytes};
+ghost use Rattle.std.specs.Prelude.{◌≡◌};
 ghost use Rattle.std.specs.Ordering.{ordering_then};
 ghost use Rattle.content_tree.specs.Found.{image_view, content_view, held_image, images_view, entries_view, members_view};
-ghost use Rattle.content_tree.specs.ImageOrder.{bytes_cmp, image_rank, content_rank, image_cmp, content_cmp, images_cmp, entries_cmp, members_cmp};
+ghost use Rattle.content_tree.specs.ImageOrder.{string_cmp, image_rank, content_rank, image_cmp, content_cmp, images_cmp, entries_cmp, members_cmp};
 
 use crate::compare::tree::compare_numbers;
 use crate::found::{Found, FoundData};
@@ -62,7 +62,7 @@ pub(crate) fn compare(a: &Found, b: &Found) -> Ordering
         (Found::Map(xs), Found::Map(ys)) => compare_pairs(xs, ys),
         (Found::Option(x), Found::Option(y)) => compare_held(x, y),
         (Found::Struct { name: n, data: x }, Found::Struct { name: m, data: y }) => {
-            compare_struct(n, x, m, y)
+            compare_named(n, x, m, y)
         }
         (
             Found::Enum {
@@ -76,7 +76,7 @@ pub(crate) fn compare(a: &Found, b: &Found) -> Ordering
                 data: y,
             },
         ) => match n.cmp(m) {
-            Ordering::Equal => compare_struct(v, x, w, y),
+            Ordering::Equal => compare_named(v, x, w, y),
             unequal => unequal,
         },
         (Found::Tuple(xs), Found::Tuple(ys)) => compare_items(xs, ys),
@@ -100,11 +100,16 @@ fn compare_held(a: &Option<Box<Found>>, b: &Option<Box<Found>>) -> Ordering
 
 /// Two names with what they hold: by name, then by contents.
 #[cycle(compare)]
-fn compare_struct(n: &String, x: &Box<FoundData>, m: &String, y: &Box<FoundData>) -> Ordering
-    ensures { result ≡ ordering_then (bytes_cmp (string_bytes n.now) (string_bytes m.now)) (content_cmp (content_view x.now.value) (content_view y.now.value)) }
+fn compare_named(
+    name: &String,
+    content: &FoundData,
+    other_name: &String,
+    other: &FoundData,
+) -> Ordering
+    ensures { result ≡ ordering_then (string_cmp name.now other_name.now) (content_cmp (content_view content.now) (content_view other.now)) }
 {
-    match n.cmp(m) {
-        Ordering::Equal => compare_data(x, y),
+    match name.cmp(other_name) {
+        Ordering::Equal => compare_data(content, other),
         unequal => unequal,
     }
 }

@@ -15,7 +15,7 @@ impl<'a, 'n> PartialEq for NamedValue<'a, 'n> {
 
     ghost laws = { on_per tree_of (partial_equiv_from_equiv tree_equiv) };
 
-    fn eq(&self, other: &Self) -> bool {
+    fn eq(&self, other: &NamedValue<'a, 'n>) -> bool {
         self.cmp(other).is_eq()
     }
 }
@@ -29,7 +29,7 @@ impl<'a, 'n> PartialOrd for NamedValue<'a, 'n> {
 
     ghost laws = { on_po tree_of tree_partial_order };
 
-    fn partial_cmp(&self, other: &Self) -> Option<Ordering> {
+    fn partial_cmp(&self, other: &NamedValue<'a, 'n>) -> Option<Ordering> {
         Some(self.cmp(other))
     }
 }
@@ -43,7 +43,7 @@ impl<'a, 'n> Ord for NamedValue<'a, 'n> {
 
     ghost matches_eq = { λ a b. refl };
 
-    fn cmp(&self, other: &Self) -> Ordering {
+    fn cmp(&self, other: &NamedValue<'a, 'n>) -> Ordering {
         compare(self, other)
     }
 }
@@ -53,7 +53,7 @@ impl<'a, 'n> PartialEq for NamedStruct<'a, 'n> {
 
     ghost laws = { on_per struct_tree (partial_equiv_from_equiv tree_equiv) };
 
-    fn eq(&self, other: &Self) -> bool {
+    fn eq(&self, other: &NamedStruct<'a, 'n>) -> bool {
         self.cmp(other).is_eq()
     }
 }
@@ -67,7 +67,7 @@ impl<'a, 'n> PartialOrd for NamedStruct<'a, 'n> {
 
     ghost laws = { on_po struct_tree tree_partial_order };
 
-    fn partial_cmp(&self, other: &Self) -> Option<Ordering> {
+    fn partial_cmp(&self, other: &NamedStruct<'a, 'n>) -> Option<Ordering> {
         Some(self.cmp(other))
     }
 }
@@ -81,7 +81,7 @@ impl<'a, 'n> Ord for NamedStruct<'a, 'n> {
 
     ghost matches_eq = { λ a b. refl };
 
-    fn cmp(&self, other: &Self) -> Ordering {
+    fn cmp(&self, other: &NamedStruct<'a, 'n>) -> Ordering {
         compare_struct(self, other)
     }
 }
@@ -91,7 +91,7 @@ impl<'a, 'n> PartialEq for NamedEnum<'a, 'n> {
 
     ghost laws = { on_per enum_tree (partial_equiv_from_equiv tree_equiv) };
 
-    fn eq(&self, other: &Self) -> bool {
+    fn eq(&self, other: &NamedEnum<'a, 'n>) -> bool {
         self.cmp(other).is_eq()
     }
 }
@@ -105,7 +105,7 @@ impl<'a, 'n> PartialOrd for NamedEnum<'a, 'n> {
 
     ghost laws = { on_po enum_tree tree_partial_order };
 
-    fn partial_cmp(&self, other: &Self) -> Option<Ordering> {
+    fn partial_cmp(&self, other: &NamedEnum<'a, 'n>) -> Option<Ordering> {
         Some(self.cmp(other))
     }
 }
@@ -119,7 +119,7 @@ impl<'a, 'n> Ord for NamedEnum<'a, 'n> {
 
     ghost matches_eq = { λ a b. refl };
 
-    fn cmp(&self, other: &Self) -> Ordering {
+    fn cmp(&self, other: &NamedEnum<'a, 'n>) -> Ordering {
         compare_enum(self, other)
     }
 }
@@ -129,7 +129,7 @@ impl<'a, 'n> PartialEq for NamedData<'a, 'n> {
 
     ghost laws = { on_per payload_of (partial_equiv_from_equiv payload_equiv) };
 
-    fn eq(&self, other: &Self) -> bool {
+    fn eq(&self, other: &NamedData<'a, 'n>) -> bool {
         self.cmp(other).is_eq()
     }
 }
@@ -143,7 +143,7 @@ impl<'a, 'n> PartialOrd for NamedData<'a, 'n> {
 
     ghost laws = { on_po payload_of payload_partial_order };
 
-    fn partial_cmp(&self, other: &Self) -> Option<Ordering> {
+    fn partial_cmp(&self, other: &NamedData<'a, 'n>) -> Option<Ordering> {
         Some(self.cmp(other))
     }
 }
@@ -157,7 +157,7 @@ impl<'a, 'n> Ord for NamedData<'a, 'n> {
 
     ghost matches_eq = { λ a b. refl };
 
-    fn cmp(&self, other: &Self) -> Ordering {
+    fn cmp(&self, other: &NamedData<'a, 'n>) -> Ordering {
         compare_data(self, other)
     }
 }

@@ -85,26 +85,39 @@ fn numbers_go_by_kind_and_then_by_value(rt: HostRuntime) -> Result<(), Fail> {
     Ok(())
 }
 
-#[test]
-fn each_case_comes_before_the_next(rt: HostRuntime) -> Result<(), Fail> {
-    let alloc = rt.alloc();
-    let values = [
+fn leaves() -> [Value<'static>; 6] {
+    [
         Value::Unit,
         Value::Bool(true),
         Value::Number(Number::U128(9)),
         Value::Char('z'),
         Value::String(CowStr::Borrowed("z")),
         Value::Bytes(CowBytes::Borrowed(&[255])),
+    ]
+}
+
+fn compounds(alloc: Global) -> Result<[Value<'static>; 6], Fail> {
+    let named = structure(CowStr::Borrowed("z"), Data::Unit);
+    Ok([
         Value::Seq(units(alloc, 1)?),
         Value::Map(vec![in alloc; (Value::Unit, Value::Unit)]?),
         Value::Option(None),
-        Value::Struct(Box::new(alloc, structure(CowStr::Borrowed("z"), Data::Unit))?),
+        Value::Struct(Box::new(alloc, named)?),
         Value::Enum(Box::new(alloc, variant("z", 9, "z"))?),
         Value::Tuple(units(alloc, 0)?),
-    ];
-    for pair in values.windows(2) {
-        assert!(rt; pair[0] < pair[1]);
-        assert!(rt; pair[0] != pair[1]);
+    ])
+}
+
+#[test]
+fn each_case_comes_before_the_next(rt: HostRuntime) -> Result<(), Fail> {
+    let leaves = leaves();
+    let compounds = compounds(rt.alloc())?;
+    for pair in leaves.windows(2) {
+        assert!(rt; pair[0] < pair[1] && pair[0] != pair[1]);
+    }
+    assert!(rt; leaves[5] < compounds[0]);
+    for pair in compounds.windows(2) {
+        assert!(rt; pair[0] < pair[1] && pair[0] != pair[1]);
     }
     Ok(())
 }

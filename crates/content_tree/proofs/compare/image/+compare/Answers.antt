@@ -1,4 +1,4 @@
-use Rattle.std.proofs.Common.{refl, sym, ◌∙◌, arith, rules}
+use Rattle.std.proofs.Common.{refl, arith, rules}
 use Rattle.content_tree.specs.ImageOrder.{images_cmp, entries_cmp, members_cmp}
 use Rattle.content_tree.specs.Found.{images_view, entries_view, members_view}
 use Rattle.content_tree.proofs.Ends.{at_the_end}

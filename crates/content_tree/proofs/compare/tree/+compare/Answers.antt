@@ -1,4 +1,4 @@
-use Rattle.std.proofs.Common.{refl, sym, ◌∙◌, arith, rules}
+use Rattle.std.proofs.Common.{refl, arith, rules}
 use Rattle.content_tree.specs.Order.{trees_cmp, pairs_cmp, fields_cmp}
 use Rattle.content_tree.specs.Value.{trees_view, pairs_view, fields_view}
 use Rattle.content_tree.proofs.Ends.{at_the_end}
