@@ -1,3 +1,4 @@
 //! Tests over every crate, with expected values from the written rules.
 mod images;
+mod order;
 mod texts;
