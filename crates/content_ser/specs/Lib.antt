@@ -4,3 +4,4 @@ pub mod Kind
 pub mod Spells
 pub mod Laws
 pub mod Lawful
+pub mod Scripts
