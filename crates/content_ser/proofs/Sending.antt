@@ -4,6 +4,7 @@ use Rattle.std.proofs.lemmas.Result.{err_from_is_err_and}
 use Rattle.content_tree.specs.declared.error.Error.{Error}
 use Rattle.content_ser.specs.Event.{Event}
 use Rattle.content_ser.specs.Lawful.{Seen, Step, Refuses, Answer, run, Took, Takes, Script, done, stop_with, call_then, calls_of, stop_of, and_then, Sent, Sends}
+use Rattle.content_ser.specs.ScriptLaws.{calls_of_both, stop_of_both, stopped_both}
 
 run_append_at : {S : Type 0} (step : Step S) (xs ys : List Event) (o : Option S)
     → ((s : S) → run step s (xs ++ ys) ≡ option_and_then (λ mid. run step mid ys) (run step s xs))
@@ -14,21 +15,6 @@ run_append_at step xs ys (Some t) h = h t
 run_append : {S : Type 0} (step : Step S) (xs ys : List Event) (s : S) → run step s (xs ++ ys) ≡ option_and_then (λ mid. run step mid ys) (run step s xs)
 run_append step [] ys s = refl
 run_append step (x ∷ xs) ys s = run_append_at step xs ys (step s x) (run_append step xs ys)
-
-calls_of_both : (a b : Script) → stop_of a ≡ None → calls_of (and_then a b) ≡ calls_of a ++ calls_of b
-calls_of_both done b e = refl
-calls_of_both (stop_with text) b e = absurd (cc e)
-calls_of_both (call_then c a) b e = ap (λ es. c ∷ es) (calls_of_both a b e)
-
-stop_of_both : (a b : Script) → stop_of a ≡ None → stop_of (and_then a b) ≡ stop_of b
-stop_of_both done b e = refl
-stop_of_both (stop_with text) b e = absurd (cc e)
-stop_of_both (call_then c a) b e = stop_of_both a b e
-
-stopped_both : (a b : Script) (text : List ℕ) → stop_of a ≡ Some text → and_then a b ≡ a
-stopped_both done b text e = absurd (cc e)
-stopped_both (stop_with t) b text e = refl
-stopped_both (call_then c a) b text e = ap (call_then c) (stopped_both a b text e)
 
 -- a beginning of the first script is one of both
 more : (a b : Script) → (rest : List Event) × (calls_of (and_then a b) ≡ calls_of a ++ rest)

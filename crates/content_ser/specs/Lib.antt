@@ -5,3 +5,6 @@ pub mod Spells
 pub mod Laws
 pub mod Lawful
 pub mod Scripts
+pub mod ScriptLaws
+pub mod Fits
+pub mod Lawfulness

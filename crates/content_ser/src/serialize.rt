@@ -1,7 +1,7 @@
 //! The trait of what serialisers take.
 
 ghost use Rattle.std.specs.Prelude.{Bool};
-ghost use Rattle.content_ser.specs.Lawful.{Script, Sends};
+ghost use Rattle.content_ser.specs.Lawful.{IsLawful, Script, Sends};
 
 use crate::serializer::Serializer;
 use content_tree::Result;
@@ -17,9 +17,12 @@ pub trait Serialize {
 
     /// Makes the calls of the script, one after another.
     ///
-    /// `Ok` says that all of them were made and none stop is in the script. `Err` says that the
-    /// serialiser refused one of them, or that the script stops (`Custom` with its text), or that
-    /// memory was refused. A serialiser that has failed before refuses every call.
+    /// `Ok` says that all of them were made and that the script has no stop. `Err` says that the
+    /// serialiser refused one of them, or that all were made and the script stops (`Custom` with
+    /// its text), or that memory was refused. A serialiser that has failed before refuses them all.
     fn serialize<S: Serializer>(&self, alloc: Global, serializer: &mut S) -> Result<()>
         ensures { Sends S.step (S.seen serializer.old) (script self.now) result (S.seen serializer.new) };
+
+    /// Without a stop the calls spell a tree; with a stop some calls can follow that make them spell one.
+    ghost lawful: { (x : Self) (readable : Bool) → IsLawful (script x readable) };
 }

@@ -2,6 +2,7 @@
 #![tactic(auto, using(crate::proofs::Sending::sending))]
 
 ghost use Rattle.content_ser.specs.Scripts.{option_script};
+ghost use Rattle.content_ser.specs.Lawfulness.{option_lawful};
 
 use crate::serialize::Serialize;
 use crate::serializer::Serializer;
@@ -10,6 +11,8 @@ use std::alloc::Global;
 
 impl<T: Serialize> Serialize for Option<T> {
     ghost script = { option_script T.script };
+
+    ghost lawful = { option_lawful T.lawful };
 
     fn serialize<S: Serializer>(&self, alloc: Global, serializer: &mut S) -> Result<()> {
         match self {
@@ -24,6 +27,8 @@ impl<T: Serialize> Serialize for Option<T> {
 
 impl<T: Serialize> Serialize for Box<T> {
     ghost script = { λ b. T.script b.value };
+
+    ghost lawful = { λ b. T.lawful b.value };
 
     fn serialize<S: Serializer>(&self, alloc: Global, serializer: &mut S) -> Result<()> {
         Serialize::serialize(&**self, alloc, serializer)

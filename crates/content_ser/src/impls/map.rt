@@ -2,6 +2,7 @@
 #![tactic(auto, using(crate::proofs::Sending::sending))]
 
 ghost use Rattle.content_ser.specs.Scripts.{map_script};
+ghost use Rattle.content_ser.specs.Lawfulness.{map_lawful};
 
 use crate::serialize::Serialize;
 use crate::serializer::Serializer;
@@ -11,6 +12,8 @@ use std::collections::BTreeMap;
 
 impl<K: Serialize + Ord, V: Serialize> Serialize for BTreeMap<K, V> {
     ghost script = { λ m. map_script K.script V.script m.entries };
+
+    ghost lawful = { λ m. map_lawful K.lawful V.lawful m.entries };
 
     fn serialize<S: Serializer>(&self, alloc: Global, serializer: &mut S) -> Result<()> {
         serializer.serialize_map(Some(self.len()))?;

@@ -4,6 +4,8 @@
 ghost use Rattle.std.specs.Prelude.{string_bytes};
 ghost use Rattle.content_ser.specs.Event.{boolean, character, text, unit};
 ghost use Rattle.content_ser.specs.Scripts.{only};
+ghost use Rattle.std.specs.Prelude.{refl};
+ghost use Rattle.content_ser.specs.Lawfulness.{leaf_lawful};
 
 use crate::serialize::Serialize;
 use crate::serializer::Serializer;
@@ -13,6 +15,8 @@ use std::alloc::Global;
 impl Serialize for bool {
     ghost script = { λ b. only (boolean b) };
 
+    ghost lawful = { λ x readable. leaf_lawful refl };
+
     fn serialize<S: Serializer>(&self, _alloc: Global, serializer: &mut S) -> Result<()> {
         serializer.serialize_bool(*self)
     }
@@ -20,6 +24,8 @@ impl Serialize for bool {
 
 impl Serialize for char {
     ghost script = { λ c. only (character c) };
+
+    ghost lawful = { λ x readable. leaf_lawful refl };
 
     fn serialize<S: Serializer>(&self, _alloc: Global, serializer: &mut S) -> Result<()> {
         serializer.serialize_char(*self)
@@ -29,6 +35,8 @@ impl Serialize for char {
 impl Serialize for String {
     ghost script = { λ s. only (text (string_bytes s)) };
 
+    ghost lawful = { λ x readable. leaf_lawful refl };
+
     fn serialize<S: Serializer>(&self, _alloc: Global, serializer: &mut S) -> Result<()> {
         serializer.serialize_str(self.as_str())
     }
@@ -37,6 +45,8 @@ impl Serialize for String {
 impl Serialize for &str {
     ghost script = { λ s. only (text s.now) };
 
+    ghost lawful = { λ x readable. leaf_lawful refl };
+
     fn serialize<S: Serializer>(&self, _alloc: Global, serializer: &mut S) -> Result<()> {
         serializer.serialize_str(self)
     }
@@ -44,6 +54,8 @@ impl Serialize for &str {
 
 impl Serialize for () {
     ghost script = { λ u. only unit };
+
+    ghost lawful = { λ x readable. leaf_lawful refl };
 
     fn serialize<S: Serializer>(&self, _alloc: Global, serializer: &mut S) -> Result<()> {
         serializer.serialize_unit()

@@ -4,6 +4,8 @@
 ghost use Rattle.content_ser.specs.Event.{number};
 ghost use Rattle.content_ser.specs.Scripts.{only};
 ghost use Rattle.content_tree.specs.declared.number.Number.TheVariants as num;
+ghost use Rattle.std.specs.Prelude.{refl};
+ghost use Rattle.content_ser.specs.Lawfulness.{leaf_lawful};
 
 use crate::serialize::Serialize;
 use crate::serializer::Serializer;
@@ -13,6 +15,8 @@ use std::alloc::Global;
 impl Serialize for i8 {
     ghost script = { λ n. only (number (num.I8 n)) };
 
+    ghost lawful = { λ x readable. leaf_lawful refl };
+
     fn serialize<S: Serializer>(&self, _alloc: Global, serializer: &mut S) -> Result<()> {
         serializer.serialize_i8(*self)
     }
@@ -20,6 +24,8 @@ impl Serialize for i8 {
 
 impl Serialize for u8 {
     ghost script = { λ n. only (number (num.U8 n)) };
+
+    ghost lawful = { λ x readable. leaf_lawful refl };
 
     fn serialize<S: Serializer>(&self, _alloc: Global, serializer: &mut S) -> Result<()> {
         serializer.serialize_u8(*self)
@@ -29,6 +35,8 @@ impl Serialize for u8 {
 impl Serialize for i16 {
     ghost script = { λ n. only (number (num.I16 n)) };
 
+    ghost lawful = { λ x readable. leaf_lawful refl };
+
     fn serialize<S: Serializer>(&self, _alloc: Global, serializer: &mut S) -> Result<()> {
         serializer.serialize_i16(*self)
     }
@@ -36,6 +44,8 @@ impl Serialize for i16 {
 
 impl Serialize for u16 {
     ghost script = { λ n. only (number (num.U16 n)) };
+
+    ghost lawful = { λ x readable. leaf_lawful refl };
 
     fn serialize<S: Serializer>(&self, _alloc: Global, serializer: &mut S) -> Result<()> {
         serializer.serialize_u16(*self)
@@ -45,6 +55,8 @@ impl Serialize for u16 {
 impl Serialize for i32 {
     ghost script = { λ n. only (number (num.I32 n)) };
 
+    ghost lawful = { λ x readable. leaf_lawful refl };
+
     fn serialize<S: Serializer>(&self, _alloc: Global, serializer: &mut S) -> Result<()> {
         serializer.serialize_i32(*self)
     }
@@ -52,6 +64,8 @@ impl Serialize for i32 {
 
 impl Serialize for u32 {
     ghost script = { λ n. only (number (num.U32 n)) };
+
+    ghost lawful = { λ x readable. leaf_lawful refl };
 
     fn serialize<S: Serializer>(&self, _alloc: Global, serializer: &mut S) -> Result<()> {
         serializer.serialize_u32(*self)
@@ -61,6 +75,8 @@ impl Serialize for u32 {
 impl Serialize for i64 {
     ghost script = { λ n. only (number (num.I64 n)) };
 
+    ghost lawful = { λ x readable. leaf_lawful refl };
+
     fn serialize<S: Serializer>(&self, _alloc: Global, serializer: &mut S) -> Result<()> {
         serializer.serialize_i64(*self)
     }
@@ -68,6 +84,8 @@ impl Serialize for i64 {
 
 impl Serialize for u64 {
     ghost script = { λ n. only (number (num.U64 n)) };
+
+    ghost lawful = { λ x readable. leaf_lawful refl };
 
     fn serialize<S: Serializer>(&self, _alloc: Global, serializer: &mut S) -> Result<()> {
         serializer.serialize_u64(*self)
@@ -77,6 +95,8 @@ impl Serialize for u64 {
 impl Serialize for i128 {
     ghost script = { λ n. only (number (num.I128 n)) };
 
+    ghost lawful = { λ x readable. leaf_lawful refl };
+
     fn serialize<S: Serializer>(&self, _alloc: Global, serializer: &mut S) -> Result<()> {
         serializer.serialize_i128(*self)
     }
@@ -84,6 +104,8 @@ impl Serialize for i128 {
 
 impl Serialize for u128 {
     ghost script = { λ n. only (number (num.U128 n)) };
+
+    ghost lawful = { λ x readable. leaf_lawful refl };
 
     fn serialize<S: Serializer>(&self, _alloc: Global, serializer: &mut S) -> Result<()> {
         serializer.serialize_u128(*self)
@@ -93,6 +115,8 @@ impl Serialize for u128 {
 impl Serialize for usize {
     ghost script = { λ n. only (number (num.U64 n)) };
 
+    ghost lawful = { λ x readable. leaf_lawful refl };
+
     fn serialize<S: Serializer>(&self, _alloc: Global, serializer: &mut S) -> Result<()> {
         serializer.serialize_u64(*self as u64)
     }
@@ -101,6 +125,8 @@ impl Serialize for usize {
 impl Serialize for isize {
     ghost script = { λ n. only (number (num.I64 n)) };
 
+    ghost lawful = { λ x readable. leaf_lawful refl };
+
     fn serialize<S: Serializer>(&self, _alloc: Global, serializer: &mut S) -> Result<()> {
         serializer.serialize_i64(*self as i64)
     }
@@ -108,6 +134,8 @@ impl Serialize for isize {
 
 impl Serialize for Number {
     ghost script = { λ n. only (number n) };
+
+    ghost lawful = { λ x readable. leaf_lawful refl };
 
     fn serialize<S: Serializer>(&self, _alloc: Global, serializer: &mut S) -> Result<()> {
         match *self {
