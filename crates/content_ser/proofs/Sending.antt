@@ -1,5 +1,5 @@
 -- Scripts sent piece by piece.
-use Rattle.std.proofs.Common.{◌≡◌, ◌⊎◌, inl, inr, ℕ, Bool, List, [], ◌∷◌, ◌++◌, Option, Some, None, Ok, Err, IsErrAnd, refl, sym, ap, subst, ◌∙◌, append_assoc, option_and_then}
+use Rattle.std.proofs.Common.{◌≡◌, inl, inr, ℕ, Bool, List, [], ◌∷◌, ◌++◌, Option, Some, None, Ok, Err, IsErrAnd, refl, sym, ap, subst, ◌∙◌, append_assoc, option_and_then}
 use Rattle.std.proofs.lemmas.Result.{err_from_is_err_and}
 use Rattle.content_tree.specs.declared.error.Error.{Error}
 use Rattle.content_ser.specs.Event.{Event}

@@ -78,15 +78,21 @@ fits_call f q = record {
 viable_then : {P Q R : List Kind → List Kind → Type 0} (a b : Script) (o : Option (List ℕ)) → stop_of a ≡ o
     → ((calls mid rest : List Kind) → P calls mid → Q mid rest → R calls rest) → Fits P a → Fits Q b
     → (more : List Event) × ((rest : List Kind) → R (kinds (calls_of (and_then a b)) ++ (kinds more ++ rest)) rest)
-viable_then {P} {Q} {R} a b None free f p q = (q.viable.0, λ rest.
-    let last = kinds q.viable.0 ++ rest in
-    let split = ap (λ cs. kinds cs ++ last) (calls_of_both a b free) ∙ kinds_append (calls_of a) (calls_of b) last in
-    subst (λ ks. R ks rest) (sym split) (f _ _ rest (p.whole free (kinds (calls_of b) ++ last)) (q.viable.1 rest)))
-viable_then {P} {Q} {R} a b (Some message) stops f p q = (p.viable.0 ++ (calls_of b ++ q.viable.0), λ rest.
-    let last = kinds q.viable.0 ++ rest in
-    let split = ap (λ sc. kinds (calls_of sc) ++ (kinds (p.viable.0 ++ (calls_of b ++ q.viable.0)) ++ rest)) (stopped_both a b message stops)
-        ∙ ap (λ ks. kinds (calls_of a) ++ ks) (kinds_append p.viable.0 (calls_of b ++ q.viable.0) rest ∙ ap (λ ks. kinds p.viable.0 ++ ks) (kinds_append (calls_of b) q.viable.0 rest)) in
-    subst (λ ks. R ks rest) (sym split) (f _ _ rest (p.viable.1 (kinds (calls_of b) ++ last)) (q.viable.1 rest)))
+viable_then {P} {Q} {R} a b None free f p q = (
+  q.viable.0,
+  λ rest.
+      let last = kinds q.viable.0 ++ rest in
+      let split = ap (λ cs. kinds cs ++ last) (calls_of_both a b free) ∙ kinds_append (calls_of a) (calls_of b) last in
+      subst (λ ks. R ks rest) (sym split) (f _ _ rest (p.whole free (kinds (calls_of b) ++ last)) (q.viable.1 rest)),
+)
+viable_then {P} {Q} {R} a b (Some message) stops f p q = (
+  p.viable.0 ++ (calls_of b ++ q.viable.0),
+  λ rest.
+      let last = kinds q.viable.0 ++ rest in
+      let split = ap (λ sc. kinds (calls_of sc) ++ (kinds (p.viable.0 ++ (calls_of b ++ q.viable.0)) ++ rest)) (stopped_both a b message stops)
+      ∙ ap (λ ks. kinds (calls_of a) ++ ks) (kinds_append p.viable.0 (calls_of b ++ q.viable.0) rest ∙ ap (λ ks. kinds p.viable.0 ++ ks) (kinds_append (calls_of b) q.viable.0 rest)) in
+      subst (λ ks. R ks rest) (sym split) (f _ _ rest (p.viable.1 (kinds (calls_of b) ++ last)) (q.viable.1 rest)),
+)
 
 -- a script, and then another
 pub fits_then : {P Q R : List Kind → List Kind → Type 0} {a b : Script}

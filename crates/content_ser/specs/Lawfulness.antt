@@ -1,5 +1,5 @@
 -- The scripts of the standard library's types are lawful.
-use Rattle.std.specs.Prelude.{◌≡◌, ℕ, Bool, List, [], ◌∷◌, Option, Some, None, refl}
+use Rattle.std.specs.Prelude.{◌≡◌, ℕ, Bool, List, [], ◌∷◌, Some, None, refl}
 use Rattle.std.proofs.Common.{subst, sym}
 use Rattle.content_tree.specs.Tree as tree
 use Rattle.content_tree.specs.Tree.{Tree}
@@ -9,7 +9,7 @@ use Rattle.content_ser.specs.Kind as kind
 use Rattle.content_ser.specs.Kind.{Kind, leaf}
 use Rattle.content_ser.specs.Spells.{Spells, spells_leaf, spells_wrap, spells_row, spells_map, elements_end, elements_more, items_end, items_entry}
 use Rattle.content_ser.specs.Lawful.{Script, done, call_then, and_then, IsLawful}
-use Rattle.content_ser.specs.Scripts.{ScriptOf, option_script, items_script, seq_script, entries_script, map_script, tuple_script}
+use Rattle.content_ser.specs.Scripts.{ScriptOf, option_script, items_script, seq_script, entries_script, map_script}
 use Rattle.content_ser.specs.Fits.{ATree, ARow, AMap, ATreeAndMap, Fits, fits_only, fits_call, fits_then, lawful_from_fits, fits_from_lawful}
 
 -- each value's script is lawful

@@ -1,7 +1,6 @@
 -- What the calls and the stop of two scripts in a row are.
-use Rattle.std.specs.Prelude.{◌≡◌, ℕ, List, [], ◌∷◌, ◌++◌, Some, None, refl}
+use Rattle.std.specs.Prelude.{◌≡◌, ℕ, List, ◌∷◌, ◌++◌, Some, None, refl}
 use Rattle.std.proofs.Common.{ap}
-use Rattle.content_ser.specs.Event.{Event}
 use Rattle.content_ser.specs.Lawful.{Script, done, stop_with, call_then, calls_of, stop_of, and_then}
 
 -- where the first has no stop, all calls are made

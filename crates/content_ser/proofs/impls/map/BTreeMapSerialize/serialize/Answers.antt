@@ -1,5 +1,4 @@
 use Rattle.std.proofs.Common.{◌≡◌, [], length, Some, rules}
-use Rattle.std.proofs.lemmas.Grind.{common_steps}
 use Rattle.content_ser.specs.Event as event
 use Rattle.content_ser.proofs.Sending.{took_only, took_then, took_err, sent_then, sent_err, at_exit, told_then, told_err}
 use Rattle.content_ser.proofs.impls.map.BTreeMapSerialize.serialize.Goals as goal

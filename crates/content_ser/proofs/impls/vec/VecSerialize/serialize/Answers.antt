@@ -1,4 +1,4 @@
-use Rattle.std.proofs.Common.{◌≡◌, ◌∷◌, ◌+◌, [], length, drop, Some, sym, ap, ◌∙◌, arith, rules}
+use Rattle.std.proofs.Common.{◌≡◌, [], length, drop, Some, arith, rules}
 use Rattle.std.proofs.lemmas.List.{drop_all}
 use Rattle.content_ser.specs.Event as event
 use Rattle.content_ser.proofs.Sending.{took_only, took_then, took_err, sent_then, sent_err, at_exit, told_then, told_err}
