@@ -1,2 +1,5 @@
 pub mod Partial
+pub mod Kinds
+pub mod Frames
+pub mod Taken
 pub mod Answers

@@ -2,5 +2,9 @@
 #![tactic(auto)]
 
 mod calls_error;
+mod frames;
+mod kind;
+mod parts;
+mod places;
 
 pub use calls_error::CallsError;
