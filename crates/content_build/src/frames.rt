@@ -1,16 +1,18 @@
 //! A partial tree, and the calls on it.
 #![tactic(auto, using(crate::proofs::Pushes::pushes))]
 
-ghost use Rattle.std.specs.Prelude.{◌≡◌, Some};
+ghost use Rattle.std.specs.Prelude.{◌≡◌, Some, IfErr};
+ghost use Rattle.content_tree.specs.Kind.{IsOutOfMemory};
 ghost use Rattle.content_build.specs.Partial as partial;
 ghost use Rattle.content_build.specs.Partial.{fresh};
 ghost use Rattle.content_build.specs.Kinds.{kind_view};
 ghost use Rattle.content_build.specs.Frames.{compound_view, places_view, partial_tree};
+ghost use Rattle.content_build.specs.Builder.{has_failed, or_fresh, Finishes};
 ghost use Rattle.content_build.specs.Taken.{Leads, Turns};
 
 use crate::kind::Kind;
-use crate::places::{close, fill, place_for, Compound, Focus, Place};
-use content_tree::{ErrorKind, Result};
+use crate::places::{Compound, Focus, Place, close, fill, place_for};
+use content_tree::{ErrorKind, Result, Value};
 use std::alloc::Global;
 use std::mem;
 
@@ -45,7 +47,12 @@ fn begin<'v>(alloc: Global, waiting: &mut Vec<Place<'v>>, call: Kind<'_>) -> Res
 }
 
 /// A call where no place waits.
-fn follow<'v>(alloc: Global, waiting: &mut Vec<Place<'v>>, opened: Compound<'v>, call: Kind<'_>) -> Result<Focus<'v>>
+fn follow<'v>(
+    alloc: Global,
+    waiting: &mut Vec<Place<'v>>,
+    opened: Compound<'v>,
+    call: Kind<'_>,
+) -> Result<Focus<'v>>
     ensures { Leads (partial.follow (compound_view opened.entry) (places_view waiting.old.items) (kind_view call.entry)) result waiting.new.items }
 {
     match call {
@@ -96,6 +103,33 @@ impl<'v> Frames<'v> {
                 Ok(())
             }
             Err(error) => Err(error),
+        }
+    }
+
+    /// Whether a call was refused.
+    pub(crate) fn is_failed(&self) -> bool
+        ensures { result ≡ has_failed (partial_tree self.now) }
+    {
+        match self.focus {
+            Focus::Failed => true,
+            Focus::Due => false,
+            Focus::Between(_) => false,
+            Focus::Done(_) => false,
+        }
+    }
+
+    /// The whole tree.
+    pub(crate) fn finish(self) -> Result<Value<'v>>
+        ensures value { Finishes (has_failed (partial_tree self.entry)) (or_fresh (partial_tree self.entry)) result }
+        ensures memory { IfErr result (λ e. ¬ IsOutOfMemory e) }
+    {
+        let Frames { places, focus, .. } = self;
+        drop(places);
+        match focus {
+            Focus::Done(value) => Ok(value),
+            Focus::Failed => Err(ErrorKind::Failed.into()),
+            Focus::Due => Err(ErrorKind::Unfinished.into()),
+            Focus::Between(_) => Err(ErrorKind::Unfinished.into()),
         }
     }
 }

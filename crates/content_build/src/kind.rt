@@ -7,7 +7,7 @@ ghost use Rattle.content_ser.specs.Call.{event_of};
 ghost use Rattle.content_ser.specs.Kind.{kind};
 ghost use Rattle.content_build.specs.Kinds.{kind_view, leaf_tree};
 
-use crate::parts::{enumeration, structure, Record, Row, Wrap};
+use crate::parts::{Record, Row, Wrap, enumeration, structure};
 use content_ser::Call;
 use content_tree::{CowBytes, CowStr, NamedData, NamedValue, Number, Value};
 use std::alloc::{AllocError, Global};
@@ -84,16 +84,24 @@ impl<'b> Kind<'b> {
             Call::NoneCall => Kind::Leaf(Leaf::Absent),
             Call::SomeCall => Kind::Wrap(Wrap::Present),
             Call::UnitStruct(name) => Kind::Leaf(Leaf::UnitStruct(*name)),
-            Call::UnitVariant(name, index, variant) => Kind::Leaf(Leaf::UnitVariant(*name, *index, *variant)),
+            Call::UnitVariant(name, index, variant) => Kind::Leaf(Leaf::UnitVariant(
+                *name, *index, *variant,
+            )),
             Call::NewtypeStruct(name) => Kind::Wrap(Wrap::Struct(*name)),
-            Call::NewtypeVariant(name, index, variant) => Kind::Wrap(Wrap::Variant(*name, *index, *variant)),
+            Call::NewtypeVariant(name, index, variant) => Kind::Wrap(Wrap::Variant(
+                *name, *index, *variant,
+            )),
             Call::Seq(_) => Kind::Row(Row::Seq),
             Call::Tuple(_) => Kind::Row(Row::Tuple),
             Call::TupleStruct(name, _) => Kind::Row(Row::Struct(*name)),
-            Call::TupleVariant(name, index, variant, _) => Kind::Row(Row::Variant(*name, *index, *variant)),
+            Call::TupleVariant(name, index, variant, _) => Kind::Row(Row::Variant(
+                *name, *index, *variant,
+            )),
             Call::Map(_) => Kind::Map,
             Call::Struct(name, _) => Kind::Record(Record::Struct(*name)),
-            Call::StructVariant(name, index, variant, _) => Kind::Record(Record::Variant(*name, *index, *variant)),
+            Call::StructVariant(name, index, variant, _) => Kind::Record(Record::Variant(
+                *name, *index, *variant,
+            )),
             Call::Element => Kind::Item(Item::Element),
             Call::TupleField => Kind::Item(Item::TupleField),
             Call::Field(key) => Kind::Item(Item::Field(*key)),
@@ -115,11 +123,19 @@ impl<'a> Leaf<'a> {
             Leaf::Bool(v) => Ok(NamedValue::Bool(v)),
             Leaf::Number(v) => Ok(NamedValue::Number(v)),
             Leaf::Char(v) => Ok(NamedValue::Char(v)),
-            Leaf::Text(text) => Ok(NamedValue::String(CowStr::Owned(String::from_str(alloc, text)?))),
+            Leaf::Text(text) => Ok(NamedValue::String(CowStr::Owned(String::from_str(
+                alloc, text,
+            )?))),
             Leaf::Bytes(bytes) => Ok(NamedValue::Bytes(CowBytes::Owned(bytes.to_vec(alloc)?))),
             Leaf::Absent => Ok(NamedValue::Option(None)),
             Leaf::UnitStruct(name) => structure(alloc, name, NamedData::Unit),
-            Leaf::UnitVariant(name, index, variant) => enumeration(alloc, name, index, variant, NamedData::Unit),
+            Leaf::UnitVariant(name, index, variant) => enumeration(
+                alloc,
+                name,
+                index,
+                variant,
+                NamedData::Unit,
+            ),
         }
     }
 }

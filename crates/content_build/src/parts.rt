@@ -43,7 +43,13 @@ impl Wrap {
             Wrap::Present => Ok(NamedValue::Option(Some(Box::new(alloc, child)?))),
             Wrap::Struct(name) => structure(alloc, name, NamedData::NewType { value: child }),
             Wrap::Variant(name, index, variant) => {
-                enumeration(alloc, name, index, variant, NamedData::NewType { value: child })
+                enumeration(
+                    alloc,
+                    name,
+                    index,
+                    variant,
+                    NamedData::NewType { value: child },
+                )
             }
         }
     }
@@ -51,7 +57,11 @@ impl Wrap {
 
 impl Row {
     /// The tree of a row with these items.
-    pub(crate) fn with<'v>(self, alloc: Global, items: Vec<Value<'v>>) -> Result<Value<'v>, AllocError>
+    pub(crate) fn with<'v>(
+        self,
+        alloc: Global,
+        items: Vec<Value<'v>>,
+    ) -> Result<Value<'v>, AllocError>
         ensures { IfOk result (λ v. tree_of v ≡ row_tree (row_view self) (trees_view items.entry.items)) }
     {
         match self {
@@ -59,7 +69,13 @@ impl Row {
             Row::Tuple => Ok(NamedValue::Tuple(items)),
             Row::Struct(name) => structure(alloc, name, NamedData::Tuple { values: items }),
             Row::Variant(name, index, variant) => {
-                enumeration(alloc, name, index, variant, NamedData::Tuple { values: items })
+                enumeration(
+                    alloc,
+                    name,
+                    index,
+                    variant,
+                    NamedData::Tuple { values: items },
+                )
             }
         }
     }
@@ -84,7 +100,11 @@ impl Record {
 }
 
 /// A struct with a static name.
-pub(crate) fn structure<'v>(alloc: Global, name: &'static str, held: Data<'v>) -> Result<Value<'v>, AllocError>
+pub(crate) fn structure<'v>(
+    alloc: Global,
+    name: &'static str,
+    held: Data<'v>,
+) -> Result<Value<'v>, AllocError>
     ensures { IfOk result (λ v. tree_of v ≡ tree.structure (static_name name.now) (payload_of held.entry)) }
 {
     let inner = NamedStruct {

@@ -58,7 +58,11 @@ fn set_last<'v>(pairs: &mut Vec<(Value<'v>, Value<'v>)>, value: Value<'v>)
 }
 
 /// Puts the value in the innermost place.
-pub(crate) fn fill<'v>(alloc: Global, waiting: &mut Vec<Place<'v>>, value: Value<'v>) -> Result<Focus<'v>, AllocError>
+pub(crate) fn fill<'v>(
+    alloc: Global,
+    waiting: &mut Vec<Place<'v>>,
+    value: Value<'v>,
+) -> Result<Focus<'v>, AllocError>
     ensures { IfOk result (λ focus. focus_view focus waiting.new.items ≡ Some (partial.fill (places_view waiting.old.items) (tree_of value.entry))) }
 {
     let mut value = value;
