@@ -1,2 +1,4 @@
 //! Tests over every crate, with expected values from the written rules.
+mod calls;
+mod recording;
 mod texts;
