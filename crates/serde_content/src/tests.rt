@@ -4,4 +4,6 @@ mod order;
 mod conversions;
 mod copies;
 mod every_case;
+mod calls;
+mod recording;
 mod texts;
