@@ -4,11 +4,11 @@
 mod builder;
 mod calls;
 mod calls_error;
-mod recorder;
 mod frames;
 mod kind;
 mod parts;
 mod places;
+mod recorder;
 
 pub use builder::Builder;
 pub use calls::from_calls;

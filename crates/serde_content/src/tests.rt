@@ -1,9 +1,9 @@
 //! Tests over every crate, with expected values from the written rules.
-mod images;
-mod order;
+mod calls;
 mod conversions;
 mod copies;
 mod every_case;
-mod calls;
+mod images;
+mod order;
 mod recording;
 mod texts;
