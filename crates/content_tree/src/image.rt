@@ -7,7 +7,6 @@ ghost use Rattle.content_tree.specs.Found.{image_view, content_view, images_view
 ghost use Rattle.content_tree.specs.Kind.{IsOutOfMemory};
 
 use crate::cow::{CowBytes, CowStr};
-use crate::error::Result;
 use crate::found::{Found, FoundData};
 use crate::value::{NamedData, NamedEnum, NamedStruct, NamedValue};
 use std::alloc::{AllocError, Global};
@@ -19,7 +18,7 @@ impl<'a, 'n> NamedValue<'a, 'n> {
     /// # Errors
     ///
     /// Out of memory, where a growth was refused.
-    pub fn into_found(self, alloc: Global) -> Result<Found>
+    pub fn into_found(self, alloc: Global) -> crate::Result<Found>
         ensures value { IfOk result (λ f. image_view f ≡ image (tree_of self.entry)) }
         ensures memory { IfErr result (λ e. IsOutOfMemory e) }
     {
@@ -32,7 +31,7 @@ impl<'a, 'n> NamedValue<'a, 'n> {
 pub(crate) fn found_value<'a, 'n>(
     alloc: Global,
     value: NamedValue<'a, 'n>,
-) -> std::result::Result<Found, AllocError>
+) -> Result<Found, AllocError>
     ensures { IfOk result (λ f. image_view f ≡ image (tree_of value.entry)) }
 {
     match value {
@@ -56,7 +55,7 @@ pub(crate) fn found_value<'a, 'n>(
 pub(crate) fn found_struct<'a, 'n>(
     alloc: Global,
     inner: NamedStruct<'a, 'n>,
-) -> std::result::Result<Found, AllocError>
+) -> Result<Found, AllocError>
     ensures { IfOk result (λ f. image_view f ≡ image (struct_tree inner.entry)) }
 {
     let NamedStruct { name, data } = inner;
@@ -70,7 +69,7 @@ pub(crate) fn found_struct<'a, 'n>(
 pub(crate) fn found_enum<'a, 'n>(
     alloc: Global,
     inner: NamedEnum<'a, 'n>,
-) -> std::result::Result<Found, AllocError>
+) -> Result<Found, AllocError>
     ensures { IfOk result (λ f. image_view f ≡ image (enum_tree inner.entry)) }
 {
     let NamedEnum {
@@ -93,7 +92,7 @@ pub(crate) fn found_enum<'a, 'n>(
 fn found_data<'a, 'n>(
     alloc: Global,
     inner: NamedData<'a, 'n>,
-) -> std::result::Result<FoundData, AllocError>
+) -> Result<FoundData, AllocError>
     ensures { IfOk result (λ f. content_view f ≡ image_payload (payload_of inner.entry)) }
 {
     match inner {
@@ -108,7 +107,7 @@ fn found_data<'a, 'n>(
 fn found_option<'a, 'n>(
     alloc: Global,
     held: Option<Box<NamedValue<'a, 'n>>>,
-) -> std::result::Result<Option<Box<Found>>, AllocError>
+) -> Result<Option<Box<Found>>, AllocError>
     ensures { IfOk result (λ f. held_image f ≡ image (held_view held.entry)) }
 {
     match held {
@@ -124,7 +123,7 @@ fn found_option<'a, 'n>(
 fn found_items<'a, 'n>(
     alloc: Global,
     items: Vec<NamedValue<'a, 'n>>,
-) -> std::result::Result<Vec<Found>, AllocError>
+) -> Result<Vec<Found>, AllocError>
     ensures { IfOk result (λ f. images_view f.items ≡ image_each (trees_view items.entry.items)) }
 {
     let mut found = Vec::new(alloc);
@@ -138,7 +137,7 @@ fn found_items<'a, 'n>(
 fn found_pairs<'a, 'n>(
     alloc: Global,
     pairs: Vec<(NamedValue<'a, 'n>, NamedValue<'a, 'n>)>,
-) -> std::result::Result<Vec<(Found, Found)>, AllocError>
+) -> Result<Vec<(Found, Found)>, AllocError>
     ensures { IfOk result (λ f. entries_view f.items ≡ image_pairs (pairs_view pairs.entry.items)) }
 {
     let mut found = Vec::new(alloc);
@@ -154,7 +153,7 @@ fn found_pairs<'a, 'n>(
 fn found_fields<'a, 'n>(
     alloc: Global,
     fields: Vec<(CowStr<'n>, NamedValue<'a, 'n>)>,
-) -> std::result::Result<Vec<(String, Found)>, AllocError>
+) -> Result<Vec<(String, Found)>, AllocError>
     ensures { IfOk result (λ f. members_view f.items ≡ image_fields (fields_view fields.entry.items)) }
 {
     let mut found = Vec::new(alloc);
@@ -166,7 +165,7 @@ fn found_fields<'a, 'n>(
     Ok(found)
 }
 
-fn owned_text<'a>(alloc: Global, text: CowStr<'a>) -> std::result::Result<String, AllocError>
+fn owned_text<'a>(alloc: Global, text: CowStr<'a>) -> Result<String, AllocError>
     ensures { IfOk result (λ s. string_bytes s ≡ text_content text.entry) }
 {
     match text {
@@ -175,7 +174,7 @@ fn owned_text<'a>(alloc: Global, text: CowStr<'a>) -> std::result::Result<String
     }
 }
 
-fn owned_bytes<'a>(alloc: Global, bytes: CowBytes<'a>) -> std::result::Result<Vec<u8>, AllocError>
+fn owned_bytes<'a>(alloc: Global, bytes: CowBytes<'a>) -> Result<Vec<u8>, AllocError>
     ensures { IfOk result (λ v. v.items ≡ bytes_content bytes.entry) }
 {
     match bytes {
