@@ -7,3 +7,5 @@ pub mod Printed
 pub mod Kind
 pub mod Texts
 pub mod Unexpected
+pub mod Cases
+pub mod Fault

@@ -1,6 +1,11 @@
 //! Trees of Serde's data model: the types, their conversions, errors and printed texts.
 #![tactic(auto)]
 
+mod convert;
+mod copy_error;
+mod copy_found;
+mod copy_value;
+mod compare;
 mod cow;
 mod display;
 mod error;
@@ -10,6 +15,7 @@ mod image;
 mod number;
 mod quote;
 mod unexpected;
+mod owned;
 mod value;
 
 pub use cow::{CowBytes, CowStr};

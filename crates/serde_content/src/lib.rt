@@ -6,5 +6,7 @@ pub use content_tree::{
     Result, Struct, Unexpected, Value,
 };
 
+pub mod laws;
+pub mod ser;
 #[cfg(test)]
 mod tests;

@@ -1,0 +1,35 @@
+-- What a list of calls is answered.
+use Rattle.std.specs.Prelude.{◌≡◌, ◌⊎◌, ℕ, ◌+◌, ◌<◌, List, length, take, Result, Ok, Err}
+use Rattle.content_tree.specs.Kind.{kind_of}
+use Rattle.content_tree.specs.Tree.{Tree}
+use Rattle.content_tree.specs.Value.{tree_of}
+use Rattle.content_tree.specs.declared.error.ErrorKind.{ErrorKind}
+use Rattle.content_tree.specs.declared.error.ErrorKind.TheVariants.{Unexpected, Custom, OutOfMemory, Misplaced, Failed, Unfinished}
+use Rattle.content_tree.specs.declared.value.NamedValue.{NamedValue}
+use Rattle.content_ser.specs.Event.{Event}
+use Rattle.content_ser.specs.Spells.{SpellsWhole, IsWhole, IsViable}
+use Rattle.content_build.specs.declared.calls_error.CallsError.{CallsError}
+
+-- the calls are refused at this place for this cause
+abbrev pub IsRefusal : List Event → ℕ → ErrorKind → Type 0
+IsRefusal calls at Misplaced = (at < length calls) × IsViable (take at calls) × ¬ IsViable (take (at + 1) calls)
+IsRefusal calls at Unfinished = (at ≡ length calls) × IsViable calls × ¬ IsWhole calls
+IsRefusal calls at OutOfMemory = ((at < length calls) × IsViable (take (at + 1) calls)) ⊎ ((at ≡ length calls) × IsWhole calls)
+IsRefusal calls at Failed = ⊥
+IsRefusal calls at (Unexpected found expected) = ⊥
+IsRefusal calls at (Custom message) = ⊥
+
+-- a tree that the calls spell, or a refusal
+abbrev pub IsAnswer : List Event → Result NamedValue CallsError → Type 0
+IsAnswer calls (Ok v) = SpellsWhole calls (tree_of v)
+IsAnswer calls (Err e) = IsRefusal calls e.at (kind_of e.error)
+
+-- taken with this tree, unless memory ran out
+abbrev pub IfTaken : Result NamedValue CallsError → Tree → Type 0
+IfTaken (Ok v) t = tree_of v ≡ t
+IfTaken (Err e) t = kind_of e.error ≡ OutOfMemory
+
+-- refused at this place for this cause, unless memory ran out
+abbrev pub IfRefused : Result NamedValue CallsError → ErrorKind → ℕ → Type 0
+IfRefused (Ok v) cause at = ⊥
+IfRefused (Err e) cause at = ((kind_of e.error ≡ cause) × (e.at ≡ at)) ⊎ (kind_of e.error ≡ OutOfMemory)

@@ -1,0 +1,3 @@
+pub mod Partial
+pub mod Answers
+pub mod Recorder

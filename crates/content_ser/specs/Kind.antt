@@ -1,0 +1,102 @@
+-- The table of calls: what each call is in a list.
+use Rattle.std.specs.Prelude.{ℕ, List, map}
+use Rattle.content_tree.specs.Text.{owned_text, static_name}
+use Rattle.content_tree.specs.Tree as tree
+use Rattle.content_tree.specs.Tree.{Tree, Trees, Fields}
+use Rattle.content_ser.specs.Event as event
+use Rattle.content_ser.specs.Event.{Event}
+
+-- what stands around one child
+pub data Wrap : Type 0 where
+  in_some : Wrap
+  in_struct : List ℕ → Wrap
+  in_variant : List ℕ → ℕ → List ℕ → Wrap
+
+-- the tree around a child
+abbrev pub wrapped : Wrap → Tree → Tree
+wrapped in_some t = tree.present t
+wrapped (in_struct n) t = tree.structure (static_name n) (tree.one t)
+wrapped (in_variant n i v) t = tree.enumeration (static_name n) i (static_name v) (tree.one t)
+
+-- what holds items by place
+pub data Row : Type 0 where
+  row_seq : Row
+  row_tuple : Row
+  row_struct : List ℕ → Row
+  row_variant : List ℕ → ℕ → List ℕ → Row
+
+-- by which call an item is announced
+pub data Mark : Type 0 where
+  element : Mark
+  tuple_field : Mark
+
+-- by which call the items of a row are announced
+abbrev pub mark : Row → Mark
+mark row_seq = element
+mark row_tuple = element
+mark (row_struct n) = tuple_field
+mark (row_variant n i v) = tuple_field
+
+-- the tree of a row with these items
+abbrev pub row_tree : Row → Trees → Tree
+row_tree row_seq ts = tree.seq ts
+row_tree row_tuple ts = tree.tuple ts
+row_tree (row_struct n) ts = tree.structure (static_name n) (tree.many ts)
+row_tree (row_variant n i v) ts = tree.enumeration (static_name n) i (static_name v) (tree.many ts)
+
+-- what holds items by key
+pub data Record : Type 0 where
+  record_struct : List ℕ → Record
+  record_variant : List ℕ → ℕ → List ℕ → Record
+
+-- the tree of a record with these fields
+abbrev pub record_tree : Record → Fields → Tree
+record_tree (record_struct n) fs = tree.structure (static_name n) (tree.named fs)
+record_tree (record_variant n i v) fs = tree.enumeration (static_name n) i (static_name v) (tree.named fs)
+
+-- what a call is in a list: hints and lengths are not in it
+pub data Kind : Type 0 where
+  leaf : Tree → Kind
+  wrap : Wrap → Kind
+  open_row : Row → Kind
+  open_map : Kind
+  open_record : Record → Kind
+  item : Mark → Kind
+  field : List ℕ → Kind
+  key : Kind
+  value : Kind
+  entry : Kind
+  finish : Kind
+
+-- the kind of each call; names are static, texts and bytes owned
+abbrev pub kind : Event → Kind
+kind (event.boolean b) = leaf (tree.boolean b)
+kind (event.number n) = leaf (tree.number n)
+kind (event.character c) = leaf (tree.character c)
+kind (event.text t) = leaf (tree.text (owned_text t))
+kind (event.octets t) = leaf (tree.octets (owned_text t))
+kind event.unit = leaf tree.unit
+kind event.none = leaf tree.absent
+kind event.some = wrap in_some
+kind (event.unit_struct n) = leaf (tree.structure (static_name n) tree.no_payload)
+kind (event.unit_variant n i v) = leaf (tree.enumeration (static_name n) i (static_name v) tree.no_payload)
+kind (event.newtype_struct n) = wrap (in_struct n)
+kind (event.newtype_variant n i v) = wrap (in_variant n i v)
+kind (event.seq hint) = open_row row_seq
+kind (event.tuple len) = open_row row_tuple
+kind (event.tuple_struct n len) = open_row (row_struct n)
+kind (event.tuple_variant n i v len) = open_row (row_variant n i v)
+kind (event.map hint) = open_map
+kind (event.structure n len) = open_record (record_struct n)
+kind (event.struct_variant n i v len) = open_record (record_variant n i v)
+kind event.element = item element
+kind event.tuple_field = item tuple_field
+kind (event.field k) = field k
+kind event.key = key
+kind event.value = value
+kind event.entry = entry
+kind event.end = finish
+
+-- the kinds of calls
+abbrev pub kinds : List Event → List Kind
+kinds calls = map kind calls

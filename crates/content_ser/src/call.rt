@@ -1,0 +1,112 @@
+//! Serialiser calls as data.
+
+use content_tree::{CowBytes, CowStr, Number, Result};
+use std::alloc::Global;
+
+ghost use Rattle.std.specs.Prelude.{◌≡◌, IfOk, IfErr};
+ghost use Rattle.content_tree.specs.Kind.{IsOutOfMemory};
+ghost use Rattle.content_ser.specs.Call.{event_of, text_part};
+
+/// One call on a serialiser, of the 26 kinds that Serde's data model has without floats.
+///
+/// Hints and lengths are what the caller says: no answer rests on them. Two calls are equal where
+/// they are of one kind and hold the same contents, hints and lengths: whether a text or bytes are
+/// borrowed does not count.
+#[derive(Debug, Drop, PartialEq, Eq)]
+pub enum Call<'a> {
+    /// A boolean.
+    Bool(bool),
+    /// A whole number.
+    Number(Number),
+    /// A character.
+    Char(char),
+    /// A text.
+    Str(CowStr<'a>),
+    /// An array of bytes.
+    Bytes(CowBytes<'a>),
+    /// The unit, `()`.
+    Unit,
+    /// An absent optional value.
+    NoneCall,
+    /// A present optional value: its tree follows.
+    SomeCall,
+    /// A struct that holds nothing: its name.
+    UnitStruct(&'static str),
+    /// A variant that holds nothing: the enum's name, the variant's index and its name.
+    UnitVariant(&'static str, u32, &'static str),
+    /// A struct around one value: its tree follows.
+    NewtypeStruct(&'static str),
+    /// A variant around one value: its tree follows.
+    NewtypeVariant(&'static str, u32, &'static str),
+    /// Opens a sequence, with a hint of its length.
+    Seq(Option<usize>),
+    /// Opens a tuple, with its length.
+    Tuple(usize),
+    /// Opens a struct of values by place, with its length.
+    TupleStruct(&'static str, usize),
+    /// Opens a variant of values by place, with its length.
+    TupleVariant(&'static str, u32, &'static str, usize),
+    /// Opens a map, with a hint of its length.
+    Map(Option<usize>),
+    /// Opens a struct of values by key, with its length.
+    Struct(&'static str, usize),
+    /// Opens a variant of values by key, with its length.
+    StructVariant(&'static str, u32, &'static str, usize),
+    /// Announces an item of a sequence or a tuple: its tree follows.
+    Element,
+    /// Announces an item of a tuple struct or a tuple variant: its tree follows.
+    TupleField,
+    /// Announces a field of a struct or a struct variant: its tree follows.
+    Field(&'static str),
+    /// Announces a key of a map: its tree follows.
+    Key,
+    /// Announces a value of a map: its tree follows.
+    Value,
+    /// Announces a pair of a map: the key's tree and the value's tree follow.
+    Entry,
+    /// Closes what was opened last.
+    End,
+}
+
+impl<'a> Call<'a> {
+    /// The same call, its text or bytes borrowed or owned as here.
+    ///
+    /// Memory is taken where it holds an owned text or owned bytes, and nowhere else.
+    pub fn try_clone(&self, alloc: Global) -> Result<Call<'a>>
+        ensures value { IfOk result (λ copy. event_of copy ≡ event_of self.now) }
+        ensures kept { IfOk result (λ copy. text_part copy ≡ text_part self.now) }
+        ensures memory { IfErr result (λ e. IsOutOfMemory e) }
+    {
+        let copy = match self {
+            Call::Bool(b) => Call::Bool(*b),
+            Call::Number(n) => Call::Number(*n),
+            Call::Char(c) => Call::Char(*c),
+            Call::Str(CowStr::Borrowed(text)) => Call::Str(CowStr::Borrowed(text)),
+            Call::Str(CowStr::Owned(text)) => Call::Str(CowStr::Owned(String::from_str(alloc, text.as_str())?)),
+            Call::Bytes(CowBytes::Borrowed(bytes)) => Call::Bytes(CowBytes::Borrowed(bytes)),
+            Call::Bytes(CowBytes::Owned(bytes)) => Call::Bytes(CowBytes::Owned(bytes.as_slice().to_vec(alloc)?)),
+            Call::Unit => Call::Unit,
+            Call::NoneCall => Call::NoneCall,
+            Call::SomeCall => Call::SomeCall,
+            Call::UnitStruct(name) => Call::UnitStruct(name),
+            Call::UnitVariant(name, index, variant) => Call::UnitVariant(name, *index, variant),
+            Call::NewtypeStruct(name) => Call::NewtypeStruct(name),
+            Call::NewtypeVariant(name, index, variant) => Call::NewtypeVariant(name, *index, variant),
+            Call::Seq(hint) => Call::Seq(*hint),
+            Call::Tuple(len) => Call::Tuple(*len),
+            Call::TupleStruct(name, len) => Call::TupleStruct(name, *len),
+            Call::TupleVariant(name, index, variant, len) => Call::TupleVariant(name, *index, variant, *len),
+            Call::Map(hint) => Call::Map(*hint),
+            Call::Struct(name, len) => Call::Struct(name, *len),
+            Call::StructVariant(name, index, variant, len) => Call::StructVariant(name, *index, variant, *len),
+            Call::Element => Call::Element,
+            Call::TupleField => Call::TupleField,
+            Call::Field(key) => Call::Field(key),
+            Call::Key => Call::Key,
+            Call::Value => Call::Value,
+            Call::Entry => Call::Entry,
+            Call::End => Call::End,
+        };
+        Ok(copy)
+    }
+}

@@ -1,0 +1,8 @@
+//! Serialiser calls, the grammar of their lists, and the traits of serialisers and of what they take.
+#![tactic(auto)]
+
+mod call;
+mod serializer;
+
+pub use call::Call;
+pub use serializer::Serializer;

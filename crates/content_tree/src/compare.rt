@@ -1,0 +1,3 @@
+//! Equality and order, which see neither the case of a text nor a static mark.
+
+mod cow;
