@@ -1,5 +1,5 @@
 use Rattle.std.proofs.Common.{rules}
-use Rattle.content_tree.proofs.FoundFields.{content_view-Struct}
+use Rattle.content_tree.proofs.FoundViews.{content_view-Struct}
 use Rattle.content_tree.proofs.+copy_found.Goals as goal
 
 pub found::FoundData::try_clone-returns-in_ok-clone_fields-in-Struct-clause-value :
