@@ -1,9 +1,8 @@
 //! A serialiser that keeps the calls themselves.
 
-ghost use Rattle.std.specs.Prelude.{◌≡◌, true, false, List, []};
-ghost use Rattle.content_tree.specs.Kind.{IsOutOfMemory};
+ghost use Rattle.std.specs.Prelude.{◌≡◌, true, false, All, List, []};
 ghost use Rattle.content_ser.specs.Event.{Event};
-ghost use Rattle.content_ser.specs.Call.{event_of, events_of};
+ghost use Rattle.content_ser.specs.Call.{event_of, events_of, IsOwned};
 ghost use Rattle.content_ser.specs.Lawful.{Seen, Takes};
 ghost use Rattle.content_build.specs.Recorder.{recorded, keeps};
 
@@ -29,6 +28,8 @@ impl Model for Recorder {
     ghost Value = { Seen (List Event) };
 
     ghost view = { λ r. record { state = events_of r.calls.items; failed = r.failed; readable = r.human_readable } };
+
+    ghost invariant = { λ r. All IsOwned r.calls.items };
 }
 
 impl Recorder {
@@ -45,22 +46,25 @@ impl Recorder {
         }
     }
 
-    /// The calls taken so far, in order.
+    /// The calls taken so far, in order; their texts and bytes are owned.
     pub fn calls(&self) -> &[Call<'static>]
-        ensures { events_of result.now ≡ self.now.state }
+        ensures value { events_of result.now ≡ self.now.state }
+        ensures owned { All IsOwned result.now }
     {
         self.calls.as_slice()
     }
 
-    /// The calls taken, in order, moved out.
+    /// The calls taken, in order, moved out; their texts and bytes are owned.
     pub fn into_calls(self) -> Vec<Call<'static>>
-        ensures { events_of result.items ≡ self.state }
+        ensures value { events_of result.items ≡ self.state }
+        ensures owned { All IsOwned result.items }
     {
         self.calls
     }
 
     // Puts the call at the list's end.
     fn take(&mut self, call: Call<'static>) -> Result<()>
+        requires { IsOwned call }
         ensures { Takes recorded keeps self.old (event_of call.entry) result self.new }
     {
         if self.failed {

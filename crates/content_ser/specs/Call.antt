@@ -1,5 +1,5 @@
 -- What contracts see of a `Call`.
-use Rattle.std.specs.Prelude.{List, map, Option, Some, None}
+use Rattle.std.specs.Prelude.{◌≡◌, false, List, map, Option, Some, None, IfSome}
 use Rattle.content_tree.specs.Text.{Text, text_of, bytes_of, text_content, bytes_content}
 use Rattle.content_ser.specs.Event as event
 use Rattle.content_ser.specs.Event.{Event}
@@ -44,3 +44,7 @@ abbrev pub text_part : Call → Option Text
 text_part (call.Str s) = Some (text_of s)
 text_part (call.Bytes s) = Some (bytes_of s)
 text_part _ = None
+
+-- the text or bytes that it holds are owned
+abbrev pub IsOwned : Call → Type 0
+IsOwned call = IfSome (text_part call) (λ part. part.borrowed ≡ false)

@@ -3,7 +3,7 @@
 use content_tree::{CowBytes, CowStr, Number, Result};
 use std::alloc::Global;
 
-ghost use Rattle.std.specs.Prelude.{◌≡◌, IfOk, IfErr};
+ghost use Rattle.std.specs.Prelude.{◌≡◌, true, IfOk, IfErr, IfSome, IsOk};
 ghost use Rattle.content_tree.specs.Kind.{IsOutOfMemory};
 ghost use Rattle.content_ser.specs.Call.{event_of, text_part};
 
@@ -75,6 +75,7 @@ impl<'a> Call<'a> {
     pub fn try_clone(&self, alloc: Global) -> Result<Call<'a>>
         ensures value { IfOk result (λ copy. event_of copy ≡ event_of self.now) }
         ensures kept { IfOk result (λ copy. text_part copy ≡ text_part self.now) }
+        ensures succeeds { IfSome (text_part self.now) (λ part. part.borrowed ≡ true) → IsOk result }
         ensures memory { IfErr result (λ e. IsOutOfMemory e) }
     {
         let copy = match self {

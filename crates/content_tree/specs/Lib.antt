@@ -9,3 +9,12 @@ pub mod Texts
 pub mod Unexpected
 pub mod Cases
 pub mod Fault
+pub mod Order
+pub mod Ranked
+pub mod RankedTree
+pub mod Decide
+pub mod SameTree
+pub mod ImageOrder
+pub mod RankedImage
+pub mod SameImage
+pub mod ErrorOrder

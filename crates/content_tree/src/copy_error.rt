@@ -67,10 +67,10 @@ impl ErrorKind {
                 found: found.try_clone(alloc)?,
                 expected: expected.try_clone(alloc)?,
             }),
-            ErrorKind::Custom(text) => Ok(ErrorKind::Custom(String::from_str(
-                alloc,
-                text.as_str(),
-            )?)),
+            ErrorKind::Custom(text) => {
+                let text = String::from_str(alloc, text.as_str())?;
+                Ok(ErrorKind::Custom(text))
+            }
             ErrorKind::OutOfMemory => Ok(ErrorKind::OutOfMemory),
             ErrorKind::Misplaced => Ok(ErrorKind::Misplaced),
             ErrorKind::Failed => Ok(ErrorKind::Failed),

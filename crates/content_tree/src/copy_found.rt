@@ -19,7 +19,10 @@ impl Found {
             Found::Bool(boolean) => Ok(Found::Bool(*boolean)),
             Found::Number(number) => Ok(Found::Number(*number)),
             Found::Char(character) => Ok(Found::Char(*character)),
-            Found::String(text) => Ok(Found::String(String::from_str(alloc, text.as_str())?)),
+            Found::String(text) => {
+                let text = String::from_str(alloc, text.as_str())?;
+                Ok(Found::String(text))
+            }
             Found::Bytes(bytes) => Ok(Found::Bytes(bytes.as_slice().to_vec(alloc)?)),
             Found::Seq(items) => Ok(Found::Seq(clone_items(alloc, items)?)),
             Found::Map(pairs) => Ok(Found::Map(clone_pairs(alloc, pairs)?)),
@@ -44,10 +47,10 @@ impl Found {
                 })
             }
             Found::Tuple(items) => Ok(Found::Tuple(clone_items(alloc, items)?)),
-            Found::Identifier(text) => Ok(Found::Identifier(String::from_str(
-                alloc,
-                text.as_str(),
-            )?)),
+            Found::Identifier(text) => {
+                let text = String::from_str(alloc, text.as_str())?;
+                Ok(Found::Identifier(text))
+            }
         }
     }
 }

@@ -25,14 +25,14 @@ impl<'a, 'n> NamedValue<'a, 'n> {
             NamedValue::Seq(items) => Ok(NamedValue::Seq(clone_items(alloc, items)?)),
             NamedValue::Map(pairs) => Ok(NamedValue::Map(clone_pairs(alloc, pairs)?)),
             NamedValue::Option(held) => Ok(NamedValue::Option(clone_held(alloc, held)?)),
-            NamedValue::Struct(inner) => Ok(NamedValue::Struct(Box::new(
-                alloc,
-                inner.try_clone(alloc)?,
-            )?)),
-            NamedValue::Enum(inner) => Ok(NamedValue::Enum(Box::new(
-                alloc,
-                inner.try_clone(alloc)?,
-            )?)),
+            NamedValue::Struct(inner) => {
+                let inner = inner.try_clone(alloc)?;
+                Ok(NamedValue::Struct(Box::new(alloc, inner)?))
+            }
+            NamedValue::Enum(inner) => {
+                let inner = inner.try_clone(alloc)?;
+                Ok(NamedValue::Enum(Box::new(alloc, inner)?))
+            }
             NamedValue::Tuple(items) => Ok(NamedValue::Tuple(clone_items(alloc, items)?)),
         }
     }

@@ -13,7 +13,7 @@ use std::fmt;
 pub type Result<T> = std::result::Result<T, Error>;
 
 /// Why a call was refused.
-#[derive(Debug, Drop)]
+#[derive(Debug, Drop, PartialEq, Eq, PartialOrd, Ord)]
 pub enum ErrorKind {
     /// Something else was found than what was expected.
     Unexpected {
@@ -35,7 +35,7 @@ pub enum ErrorKind {
 }
 
 /// An error: one [`ErrorKind`].
-#[derive(Debug, Drop)]
+#[derive(Debug, Drop, PartialEq, Eq, PartialOrd, Ord)]
 pub struct Error {
     kind: ErrorKind,
 }

@@ -11,7 +11,8 @@ use crate::value::{NamedData, NamedEnum, NamedStruct, NamedValue};
 use std::alloc::Global;
 
 impl<'a, 'n> NamedValue<'a, 'n> {
-    /// The same tree with every text and byte value owned; names, variants and keys stay as they were. What is owned already is moved.
+    /// The same tree with every text and byte value owned; names, variants and keys stay as they were.
+    /// What is owned already is moved.
     #[cycle(own_value)]
     pub fn into_owned(self, alloc: Global) -> Result<NamedValue<'static, 'n>>
         ensures value { IfOk result (λ own. tree_of own ≡ owned (tree_of self.entry)) }
@@ -22,12 +23,14 @@ impl<'a, 'n> NamedValue<'a, 'n> {
             NamedValue::Bool(boolean) => Ok(NamedValue::Bool(boolean)),
             NamedValue::Number(number) => Ok(NamedValue::Number(number)),
             NamedValue::Char(character) => Ok(NamedValue::Char(character)),
-            NamedValue::String(text) => Ok(NamedValue::String(CowStr::Owned(text.into_owned(
-                alloc,
-            )?))),
-            NamedValue::Bytes(bytes) => Ok(NamedValue::Bytes(CowBytes::Owned(bytes.into_owned(
-                alloc,
-            )?))),
+            NamedValue::String(text) => {
+                let text = text.into_owned(alloc)?;
+                Ok(NamedValue::String(CowStr::Owned(text)))
+            }
+            NamedValue::Bytes(bytes) => {
+                let bytes = bytes.into_owned(alloc)?;
+                Ok(NamedValue::Bytes(CowBytes::Owned(bytes)))
+            }
             NamedValue::Seq(items) => Ok(NamedValue::Seq(own_items(alloc, items)?)),
             NamedValue::Map(pairs) => Ok(NamedValue::Map(own_pairs(alloc, pairs)?)),
             NamedValue::Option(held) => Ok(NamedValue::Option(own_held(alloc, held)?)),
@@ -45,7 +48,8 @@ impl<'a, 'n> NamedValue<'a, 'n> {
 }
 
 impl<'a, 'n> NamedStruct<'a, 'n> {
-    /// The same tree with every text and byte value owned; names, variants and keys stay as they were. What is owned already is moved.
+    /// The same tree with every text and byte value owned; names, variants and keys stay as they were.
+    /// What is owned already is moved.
     #[cycle(own_value)]
     pub fn into_owned(self, alloc: Global) -> Result<NamedStruct<'static, 'n>>
         ensures value { IfOk result (λ own. struct_tree own ≡ owned (struct_tree self.entry)) }
@@ -58,7 +62,8 @@ impl<'a, 'n> NamedStruct<'a, 'n> {
 }
 
 impl<'a, 'n> NamedEnum<'a, 'n> {
-    /// The same tree with every text and byte value owned; names, variants and keys stay as they were. What is owned already is moved.
+    /// The same tree with every text and byte value owned; names, variants and keys stay as they were.
+    /// What is owned already is moved.
     #[cycle(own_value)]
     pub fn into_owned(self, alloc: Global) -> Result<NamedEnum<'static, 'n>>
         ensures value { IfOk result (λ own. enum_tree own ≡ owned (enum_tree self.entry)) }
@@ -81,7 +86,8 @@ impl<'a, 'n> NamedEnum<'a, 'n> {
 }
 
 impl<'a, 'n> NamedData<'a, 'n> {
-    /// The same tree with every text and byte value owned; names, variants and keys stay as they were. What is owned already is moved.
+    /// The same tree with every text and byte value owned; names, variants and keys stay as they were.
+    /// What is owned already is moved.
     #[cycle(own_value)]
     pub fn into_owned(self, alloc: Global) -> Result<NamedData<'static, 'n>>
         ensures value { IfOk result (λ own. payload_of own ≡ owned_payload (payload_of self.entry)) }

@@ -14,7 +14,7 @@ impl<'a> PartialEq for CowStr<'a> {
 
     ghost laws = { on_per text_content (partial_equiv_from_equiv nat_list_eq_equiv) };
 
-    fn eq(&self, other: &Self) -> bool {
+    fn eq(&self, other: &CowStr<'a>) -> bool {
         self.as_str() == other.as_str()
     }
 }
@@ -28,7 +28,7 @@ impl<'a> PartialOrd for CowStr<'a> {
 
     ghost laws = { on_po text_content texts_po };
 
-    fn partial_cmp(&self, other: &Self) -> Option<Ordering> {
+    fn partial_cmp(&self, other: &CowStr<'a>) -> Option<Ordering> {
         Some(self.cmp(other))
     }
 }
@@ -42,7 +42,7 @@ impl<'a> Ord for CowStr<'a> {
 
     ghost matches_eq = { λ a b. texts_ties (text_content a) (text_content b) };
 
-    fn cmp(&self, other: &Self) -> Ordering {
+    fn cmp(&self, other: &CowStr<'a>) -> Ordering {
         self.as_str().cmp(other.as_str())
     }
 }
@@ -52,7 +52,7 @@ impl<'a> PartialEq for CowBytes<'a> {
 
     ghost laws = { on_per bytes_content (partial_equiv_from_equiv nat_list_eq_equiv) };
 
-    fn eq(&self, other: &Self) -> bool {
+    fn eq(&self, other: &CowBytes<'a>) -> bool {
         self.as_bytes() == other.as_bytes()
     }
 }
@@ -66,7 +66,7 @@ impl<'a> PartialOrd for CowBytes<'a> {
 
     ghost laws = { on_po bytes_content texts_po };
 
-    fn partial_cmp(&self, other: &Self) -> Option<Ordering> {
+    fn partial_cmp(&self, other: &CowBytes<'a>) -> Option<Ordering> {
         Some(self.cmp(other))
     }
 }
@@ -80,7 +80,7 @@ impl<'a> Ord for CowBytes<'a> {
 
     ghost matches_eq = { λ a b. texts_ties (bytes_content a) (bytes_content b) };
 
-    fn cmp(&self, other: &Self) -> Ordering {
+    fn cmp(&self, other: &CowBytes<'a>) -> Ordering {
         self.as_bytes().cmp(other.as_bytes())
     }
 }
