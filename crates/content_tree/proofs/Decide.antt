@@ -25,21 +25,26 @@ both Less b p q = (λ e. absurd (cc e), λ e. p.1 e.0)
 both Equal b p q = (λ e. (p.0 refl, q.0 e), λ e. q.1 e.1)
 both Greater b p q = (λ e. absurd (cc e), λ e. p.1 e.0)
 
+-- numbers without sign
 pub nats_tie : (a b : ℕ) → Ties (nat_cmp a b) (a ≡ b)
 nats_tie a b = subst (λ t. Decides t (a ≡ b)) (unsigned_ties a b) (Decides-eqb a b)
 
+-- bytes
 pub bytes_tie : (a b : List ℕ) → Ties (slice_cmp nat_cmp a b) (a ≡ b)
 bytes_tie a b = subst (λ t. Decides t (a ≡ b)) (texts_ties a b) (bytes_eq-Decides a b)
 
+-- booleans
 pub bools_tie : (a b : Bool) → Ties (bool_cmp a b) (a ≡ b)
 bools_tie true true = (λ e. refl, λ e. refl)
 bools_tie true false = (λ e. absurd (cc e), λ e. absurd (cc e))
 bools_tie false true = (λ e. absurd (cc e), λ e. absurd (cc e))
 bools_tie false false = (λ e. refl, λ e. refl)
 
+-- texts, with the marks taken off
 pub texts_tie : (a b : Text) → Ties (text_cmp a b) (to_owned a ≡ to_owned b)
 texts_tie a b = along _ (bytes_tie a.content b.content) (ap owned_text) (λ e. ap (λ t. t.content) e)
 
+-- numbers of every kind
 pub numbers_tie : (a b : Number) → Ties (number_cmp a b) (a ≡ b)
 numbers_tie (num.I8 a) (num.I8 b) = along _ (Decides-int_eq a b) (ap num.I8) (λ e. cc)
 numbers_tie (num.U8 a) (num.U8 b) = along _ (nats_tie a b) (ap num.U8) (λ e. cc)

@@ -1,9 +1,10 @@
 -- The order finds neither of two images less exactly if they are equal.
 use Rattle.std.proofs.Common.{◌≡◌, refl, ap}
-use Rattle.content_tree.specs.Decide.{Ties, along, both, nats_tie, bytes_tie, bools_tie, numbers_tie}
+use Rattle.content_tree.proofs.Decide.{Ties, along, both, nats_tie, bytes_tie, bools_tie, numbers_tie}
 use Rattle.content_tree.specs.Image.{Image, unit, boolean, number, character, text, octets, seq, map, absent, present, structure, enumeration, tuple, identifier, Content, no_content, one, many, named, Images, no_images, image_then, Entries, no_entries, entry_then, Members, no_members, member_then}
 use Rattle.content_tree.specs.ImageOrder.{bytes_cmp, image_cmp, content_cmp, images_cmp, entries_cmp, members_cmp}
 
+-- images, contents, and the lists in them
 mutual
   pub images_tie : (a b : Image) → Ties (image_cmp a b) (a ≡ b)
   images_tie unit unit = (λ e. refl, λ e. refl)
@@ -16,7 +17,8 @@ mutual
   images_tie (map a) (map b) = along _ (entries_tie a b) (ap map) (λ e. cc)
   images_tie absent absent = (λ e. refl, λ e. refl)
   images_tie (present a) (present b) = along _ (images_tie a b) (ap present) (λ e. cc)
-  images_tie (structure n c) (structure m d) = along _ (both (bytes_cmp n m) (content_cmp c d) (bytes_tie n m) (contents_tie c d)) (λ e. cc) (λ e. (cc, cc))
+  images_tie (structure n c) (structure m d) =
+      along _ (both (bytes_cmp n m) (content_cmp c d) (bytes_tie n m) (contents_tie c d)) (λ e. cc) (λ e. (cc, cc))
   images_tie (enumeration n v c) (enumeration m w d) =
       let held = both (bytes_cmp v w) (content_cmp c d) (bytes_tie v w) (contents_tie c d) in
       along _ (both (bytes_cmp n m) _ (bytes_tie n m) held) (λ e. cc) (λ e. (cc, (cc, cc)))
@@ -33,7 +35,8 @@ mutual
 
   lists_tie : (is js : Images) → Ties (images_cmp is js) (is ≡ js)
   lists_tie no_images no_images = (λ e. refl, λ e. refl)
-  lists_tie (image_then i is) (image_then j js) = along _ (both (image_cmp i j) (images_cmp is js) (images_tie i j) (lists_tie is js)) (λ e. cc) (λ e. (cc, cc))
+  lists_tie (image_then i is) (image_then j js) =
+      along _ (both (image_cmp i j) (images_cmp is js) (images_tie i j) (lists_tie is js)) (λ e. cc) (λ e. (cc, cc))
   lists_tie is js = (λ e. absurd (cc e), λ e. absurd (cc e))
 
   entries_tie : (es fs : Entries) → Ties (entries_cmp es fs) (es ≡ fs)

@@ -1,10 +1,11 @@
 -- The order finds neither of two trees less exactly if they are equal with the marks taken off.
 use Rattle.std.proofs.Common.{◌≡◌, refl, ap, nat_cmp}
-use Rattle.content_tree.specs.Decide.{Ties, along, both, nats_tie, bools_tie, texts_tie, numbers_tie}
+use Rattle.content_tree.proofs.Decide.{Ties, along, both, nats_tie, bools_tie, texts_tie, numbers_tie}
 use Rattle.content_tree.specs.Text.{to_owned}
 use Rattle.content_tree.specs.Tree.{unmarked, unmarked_payload, at_texts_each, at_texts_pairs, at_texts_fields, Tree, unit, boolean, number, character, text, octets, seq, map, absent, present, structure, enumeration, tuple, Payload, no_payload, one, many, named, Trees, no_trees, tree_then, Pairs, no_pairs, pair_then, Fields, no_fields, field_then}
 use Rattle.content_tree.specs.Order.{text_cmp, tree_cmp, payload_cmp, trees_cmp, pairs_cmp, fields_cmp}
 
+-- trees, payloads, and the lists in them
 mutual
   pub trees_tie : (t u : Tree) → Ties (tree_cmp t u) (unmarked t ≡ unmarked u)
   trees_tie unit unit = (λ e. refl, λ e. refl)
@@ -17,7 +18,8 @@ mutual
   trees_tie (map a) (map b) = along _ (pairs_tie a b) (ap map) (λ e. cc)
   trees_tie absent absent = (λ e. refl, λ e. refl)
   trees_tie (present a) (present b) = along _ (trees_tie a b) (ap present) (λ e. cc)
-  trees_tie (structure n p) (structure m q) = along _ (both (text_cmp n m) (payload_cmp p q) (texts_tie n m) (payloads_tie p q)) (λ e. cc) (λ e. (cc, cc))
+  trees_tie (structure n p) (structure m q) =
+      along _ (both (text_cmp n m) (payload_cmp p q) (texts_tie n m) (payloads_tie p q)) (λ e. cc) (λ e. (cc, cc))
   trees_tie (enumeration n i v p) (enumeration m j w q) =
       let held = both (text_cmp v w) (payload_cmp p q) (texts_tie v w) (payloads_tie p q) in
       let placed = both (nat_cmp i j) _ (nats_tie i j) held in
@@ -34,7 +36,8 @@ mutual
 
   lists_tie : (ts us : Trees) → Ties (trees_cmp ts us) (at_texts_each to_owned to_owned ts ≡ at_texts_each to_owned to_owned us)
   lists_tie no_trees no_trees = (λ e. refl, λ e. refl)
-  lists_tie (tree_then t ts) (tree_then u us) = along _ (both (tree_cmp t u) (trees_cmp ts us) (trees_tie t u) (lists_tie ts us)) (λ e. cc) (λ e. (cc, cc))
+  lists_tie (tree_then t ts) (tree_then u us) =
+      along _ (both (tree_cmp t u) (trees_cmp ts us) (trees_tie t u) (lists_tie ts us)) (λ e. cc) (λ e. (cc, cc))
   lists_tie ts us = (λ e. absurd (cc e), λ e. absurd (cc e))
 
   pairs_tie : (ps qs : Pairs) → Ties (pairs_cmp ps qs) (at_texts_pairs to_owned to_owned ps ≡ at_texts_pairs to_owned to_owned qs)
