@@ -1,8 +1,8 @@
 -- The kind of an error.
-use Rattle.std.specs.Prelude.{◌≡◌}
+use Rattle.std.specs.Prelude.{ℕ, List, ◌≡◌, ⊤, string_bytes}
 use Rattle.content_tree.specs.declared.error.Error.{Error}
 use Rattle.content_tree.specs.declared.error.ErrorKind.{ErrorKind}
-use Rattle.content_tree.specs.declared.error.ErrorKind.TheVariants.{OutOfMemory}
+use Rattle.content_tree.specs.declared.error.ErrorKind.TheVariants.{Unexpected, Custom, OutOfMemory, Misplaced, Failed, Unfinished}
 
 -- the kind of an error
 abbrev pub kind_of : Error → ErrorKind
@@ -11,3 +11,12 @@ kind_of e = e.kind
 -- a growth was refused
 abbrev pub IsOutOfMemory : Error → Type 0
 IsOutOfMemory e = kind_of e ≡ OutOfMemory
+
+-- an error of this text, or a growth was refused
+abbrev pub IsCustomOrMemory : List ℕ → ErrorKind → Type 0
+IsCustomOrMemory text (Unexpected found expected) = ⊥
+IsCustomOrMemory text (Custom own) = string_bytes own ≡ text
+IsCustomOrMemory text OutOfMemory = ⊤
+IsCustomOrMemory text Misplaced = ⊥
+IsCustomOrMemory text Failed = ⊥
+IsCustomOrMemory text Unfinished = ⊥

@@ -6,3 +6,4 @@ pub mod Found
 pub mod Printed
 pub mod Kind
 pub mod Texts
+pub mod Unexpected

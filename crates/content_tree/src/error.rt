@@ -1,8 +1,13 @@
 //! Errors.
+ghost use Rattle.std.specs.Prelude.{◌≡◌, Some};
+ghost use Rattle.content_tree.specs.Kind.{kind_of, IsOutOfMemory, IsCustomOrMemory};
+ghost use Rattle.content_tree.specs.declared.error.ErrorKind.TheVariants.{Unexpected};
+ghost use Rattle.content_tree.specs.Texts.{kind_text, error_text};
 
 use crate::expected::Expected;
 use crate::found::Found;
-use std::alloc::{AllocError, AllocFailed};
+use std::alloc::{AllocError, AllocFailed, Global};
+use std::fmt;
 
 /// The answer of a call that may be refused.
 pub type Result<T> = std::result::Result<T, Error>;
@@ -36,9 +41,6 @@ pub struct Error {
 }
 
 impl From<ErrorKind> for Error {
-    ghost use Rattle.std.specs.Prelude.{◌≡◌};
-    ghost use Rattle.content_tree.specs.Kind.{kind_of};
-
     ghost from_gives = { λ kind e. kind_of e ≡ kind };
 
     fn from(kind: ErrorKind) -> Error {
@@ -47,8 +49,6 @@ impl From<ErrorKind> for Error {
 }
 
 impl From<AllocError> for Error {
-    ghost use Rattle.content_tree.specs.Kind.{IsOutOfMemory};
-
     ghost from_gives = { λ _ e. IsOutOfMemory e };
 
     fn from(_refused: AllocError) -> Error {
@@ -59,8 +59,6 @@ impl From<AllocError> for Error {
 }
 
 impl<T: Drop> From<AllocFailed<T>> for Error {
-    ghost use Rattle.content_tree.specs.Kind.{IsOutOfMemory};
-
     ghost from_gives = { λ _ e. IsOutOfMemory e };
 
     fn from(_refused: AllocFailed<T>) -> Error {
@@ -71,8 +69,27 @@ impl<T: Drop> From<AllocFailed<T>> for Error {
 }
 
 impl Error {
-    ghost use Rattle.std.specs.Prelude.{◌≡◌};
-    ghost use Rattle.content_tree.specs.Kind.{kind_of};
+    /// The error of finding something else than what was expected, of kind [`ErrorKind::Unexpected`]. It takes no memory.
+    pub fn unexpected(found: Found, expected: Expected) -> Error
+        ensures { kind_of result ≡ Unexpected found expected }
+    {
+        Error {
+            kind: ErrorKind::Unexpected { found, expected },
+        }
+    }
+
+    /// The error of a text, of kind [`ErrorKind::Custom`] with a copy of the text, or of kind
+    /// [`ErrorKind::OutOfMemory`] where the copy was refused.
+    pub fn custom(alloc: Global, text: &str) -> Error
+        ensures { IsCustomOrMemory text.now (kind_of result) }
+    {
+        match String::from_str(alloc, text) {
+            Ok(text) => Error {
+                kind: ErrorKind::Custom(text),
+            },
+            Err(refused) => Error::from(refused),
+        }
+    }
 
     /// The kind of the error.
     pub fn kind(&self) -> &ErrorKind
@@ -88,3 +105,33 @@ impl Error {
         self.kind
     }
 }
+
+impl fmt::Display for ErrorKind {
+    ghost output = { λ e. Some (kind_text e) };
+
+    fn fmt<W: fmt::Write>(&self, f: &mut fmt::Formatter<W>) -> fmt::Result {
+        match self {
+            ErrorKind::Unexpected { found, expected } => {
+                write!(
+                    f,
+                    "failed to deserialize; expected {expected}, found {found}"
+                )
+            }
+            ErrorKind::Custom(text) => f.write_str(text.as_str()),
+            ErrorKind::OutOfMemory => f.write_str("out of memory"),
+            ErrorKind::Misplaced => f.write_str("call out of place"),
+            ErrorKind::Failed => f.write_str("serializer has failed"),
+            ErrorKind::Unfinished => f.write_str("call list is unfinished"),
+        }
+    }
+}
+
+impl fmt::Display for Error {
+    ghost output = { λ e. Some (error_text e) };
+
+    fn fmt<W: fmt::Write>(&self, f: &mut fmt::Formatter<W>) -> fmt::Result {
+        self.kind.fmt(f)
+    }
+}
+
+impl std::error::Error for Error {}

@@ -2,10 +2,14 @@
 #![tactic(auto)]
 
 mod cow;
+mod display;
 mod error;
 mod expected;
 mod found;
+mod image;
 mod number;
+mod quote;
+mod unexpected;
 mod value;
 
 pub use cow::{CowBytes, CowStr};
@@ -13,4 +17,5 @@ pub use error::{Error, ErrorKind, Result};
 pub use expected::{DataType, Expected};
 pub use found::{Found, FoundData};
 pub use number::Number;
+pub use unexpected::Unexpected;
 pub use value::{Data, Enum, NamedData, NamedEnum, NamedStruct, NamedValue, Struct, Value};

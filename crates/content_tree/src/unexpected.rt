@@ -1,0 +1,80 @@
+//! Errors of finding something else than what was expected.
+ghost use Rattle.std.specs.Prelude.{Bool, true, false, ◌≡◌, MatchResult};
+ghost use Rattle.content_tree.specs.declared.error.ErrorKind.TheVariants as kind;
+ghost use Rattle.content_tree.specs.Value.{tree_of, struct_tree, enum_tree};
+ghost use Rattle.content_tree.specs.Image.{Image, image, number};
+ghost use Rattle.content_tree.specs.Kind.{kind_of, IsOutOfMemory};
+ghost use Rattle.content_tree.specs.Unexpected.{IsUnexpected};
+
+use crate::error::Error;
+use crate::expected::Expected;
+use crate::found::Found;
+use crate::image::{found_enum, found_struct, found_value};
+use crate::number::Number;
+use crate::value::{NamedEnum, NamedStruct, NamedValue};
+use std::alloc::{AllocError, Global};
+
+/// What can be found where something else was expected.
+pub trait Unexpected {
+    /// The image of what was found.
+    ghost seen: { Self → Image };
+
+    /// Whether the error takes memory.
+    ghost takes_memory: { Bool };
+
+    /// The error of finding this where `expected` was expected: of kind [`ErrorKind::Unexpected`](crate::ErrorKind) with
+    /// the image of this, or of kind `OutOfMemory` where a growth was refused.
+    fn unexpected(self, alloc: Global, expected: Expected) -> Error
+        ensures { IsUnexpected (seen self) takes_memory expected (kind_of result) };
+}
+
+/// It takes no memory.
+impl Unexpected for Number {
+    ghost seen = { number };
+
+    ghost takes_memory = { false };
+
+    fn unexpected(self, _alloc: Global, expected: Expected) -> Error {
+        Error::unexpected(Found::Number(self), expected)
+    }
+}
+
+impl<'a, 'n> Unexpected for NamedValue<'a, 'n> {
+    ghost seen = { λ v. image (tree_of v) };
+
+    ghost takes_memory = { true };
+
+    fn unexpected(self, alloc: Global, expected: Expected) -> Error {
+        refusal(found_value(alloc, self), expected)
+    }
+}
+
+impl<'a, 'n> Unexpected for Box<NamedStruct<'a, 'n>> {
+    ghost seen = { λ b. image (struct_tree b.value) };
+
+    ghost takes_memory = { true };
+
+    fn unexpected(self, alloc: Global, expected: Expected) -> Error {
+        refusal(found_struct(alloc, Box::into_inner(self)), expected)
+    }
+}
+
+impl<'a, 'n> Unexpected for Box<NamedEnum<'a, 'n>> {
+    ghost seen = { λ b. image (enum_tree b.value) };
+
+    ghost takes_memory = { true };
+
+    fn unexpected(self, alloc: Global, expected: Expected) -> Error {
+        refusal(found_enum(alloc, Box::into_inner(self)), expected)
+    }
+}
+
+/// The error of an image, or of a growth that was refused while the image was made.
+fn refusal(found: Result<Found, AllocError>, expected: Expected) -> Error
+    ensures { MatchResult found (λ f. kind_of result ≡ kind.Unexpected f expected) (λ _. IsOutOfMemory result) }
+{
+    match found {
+        Ok(found) => Error::unexpected(found, expected),
+        Err(refused) => Error::from(refused),
+    }
+}
