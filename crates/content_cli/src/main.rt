@@ -1,20 +1,27 @@
 //! Reads lines that spell serialiser calls, and prints what they build.
 #![tactic(auto)]
 
+mod answer;
+mod calls;
+mod forms;
 mod gather;
 mod hex;
+mod line;
 mod numbers;
 mod plain;
 mod ports;
+mod run;
 mod send;
+#[cfg(test)]
+mod tests;
+mod words;
 
-use gather::gather;
 use plain::Plain;
-use send::send;
+use run::run;
 use std::process::ExitCode;
 
 fn main(rt: HostRuntime) -> ExitCode {
     let mut input = Plain::new(rt.stdin());
     let mut output = Plain::new(rt.stdout());
-    ExitCode::from(0)
+    ExitCode::from(run(rt.alloc(), &mut input, &mut output))
 }
