@@ -1,0 +1,20 @@
+use Rattle.std.proofs.Common.{subst}
+use Rattle.content_ser.specs.Call.{event_of}
+use Rattle.content_build.specs.Frames.{partial_tree}
+use Rattle.content_build.specs.Taken.{Turns}
+use Rattle.content_build.proofs.Taking.{taken, refuses_exactly}
+use Rattle.content_build.proofs.builder.Builder.take.Goals as goal
+
+pub returns-clause-taken : goal.returns-clause-taken
+returns-clause-taken c =
+    let old = partial_tree c.args.self.now.frames in
+    let new = partial_tree c.take.new.self in
+    taken old c.args.self.now.human_readable (event_of c.args.call.now) c.take.result new
+    (subst (λ k. Turns old k c.take.result new) c.of.ensures c.take.ensures)
+
+pub returns-clause-exact : goal.returns-clause-exact
+returns-clause-exact c =
+    let old = partial_tree c.args.self.now.frames in
+    let new = partial_tree c.take.new.self in
+    refuses_exactly old c.args.self.now.human_readable (event_of c.args.call.now) c.take.result new
+    (subst (λ k. Turns old k c.take.result new) c.of.ensures c.take.ensures)

@@ -1,0 +1,38 @@
+use Rattle.std.proofs.Common.{Ok, Err, subst}
+use Rattle.content_ser.specs.Call.{event_of, events_of}
+use Rattle.content_ser.specs.Lawful.{Takes}
+use Rattle.content_build.specs.Partial.{step}
+use Rattle.content_build.specs.Builder.{seen_of, refuses, Finishes}
+use Rattle.content_build.proofs.Headline.{length-events, refused, onward, finished, unfinished, whole_run}
+use Rattle.content_build.proofs.calls.build.Goals as goal
+
+pub returns-in-Err : goal.returns-in-Err
+returns-in-Err c =
+    let (standing, run) = c.loop-at.invariant in
+    let old = seen_of c.loop-at.builder in
+    let new = seen_of c.take.new.self in
+    refused c.args.calls.now c.loop-at.at c.index-calls-at.result old new c.in-Err.error c.loop-at-test.true standing run
+    (subst (λ call. Takes step refuses old (event_of call) (Err c.in-Err.error) new) c.index-calls-at.is c.in-Err.ensures.taken)
+
+pub loop-at-preserved : goal.loop-at-preserved
+loop-at-preserved c =
+    let (standing, run) = c.loop-at.invariant in
+    let old = seen_of c.loop-at.builder in
+    let new = seen_of c.take.new.self in
+    onward c.args.calls.now c.loop-at.at c.index-calls-at.result old new c.loop-at-test.true standing run
+    (subst (λ call. Takes step refuses old (event_of call) (Ok tt) new) c.index-calls-at.is c.in-Ok.ensures.taken)
+
+pub returns-in-Ok-finish : goal.returns-in-Ok-finish
+returns-in-Ok-finish c =
+    let (standing, run) = c.loop-at.invariant in
+    let state = (seen_of c.loop-at.builder).state in
+    finished (events_of c.args.calls.now) state c.in-Ok-finish.value (whole_run c.args.calls.now c.loop-at.at state c.loop-at-test.false run)
+    (subst (λ f. Finishes f state (Ok c.in-Ok-finish.value)) standing c.in-Ok-finish.ensures.value)
+
+pub returns-in-Err-finish : goal.returns-in-Err-finish
+returns-in-Err-finish c =
+    let (standing, run) = c.loop-at.invariant in
+    let state = (seen_of c.loop-at.builder).state in
+    rw (← length-events c.args.calls.now)
+    (unfinished (events_of c.args.calls.now) state c.in-Err-finish.error (whole_run c.args.calls.now c.loop-at.at state c.loop-at-test.false run)
+    (subst (λ f. Finishes f state (Err c.in-Err-finish.error)) standing c.in-Err-finish.ensures.value))

@@ -1,0 +1,50 @@
+-- What contracts see of a `Builder`.
+use Rattle.std.specs.Prelude.{◌≡◌, ◌↔◌, Bool, true, false, List, [], ◌∷◌, ◌++◌, Option, Some, None, Result, Ok, Err, IsErrAnd, IfErr}
+use Rattle.content_tree.specs.Kind.{kind_of, IsOutOfMemory}
+use Rattle.content_tree.specs.Value.{tree_of}
+use Rattle.content_tree.specs.declared.error.Error.{Error}
+use Rattle.content_tree.specs.declared.error.ErrorKind.TheVariants.{Misplaced, Failed, Unfinished}
+use Rattle.content_tree.specs.declared.value.NamedValue.{NamedValue}
+use Rattle.content_ser.specs.Event.{Event}
+use Rattle.content_ser.specs.Lawful.{Seen, Refuses, Answer, after_failure, out_of_place, no_memory}
+use Rattle.content_ser.specs.Spells.{IsViable}
+use Rattle.content_build.specs.Partial.{Partial, due, between, done, fresh, run}
+use Rattle.content_build.specs.Frames.{partial_tree}
+use Rattle.content_build.specs.declared.builder.Builder.{Builder}
+
+-- whether there is no partial tree
+abbrev pub has_failed : Option Partial → Bool
+has_failed None = true
+has_failed (Some s) = false
+
+-- the partial tree, or the fresh one where there is none
+abbrev pub or_fresh : Option Partial → Partial
+or_fresh None = fresh
+or_fresh (Some s) = s
+
+-- the builder as a serialiser
+abbrev pub seen_of : Builder → Seen Partial
+seen_of b = record { state = or_fresh (partial_tree b.frames); failed = has_failed (partial_tree b.frames); readable = b.human_readable }
+
+-- with which error a builder refuses a call; nothing is said of what it keeps
+abbrev pub refuses : Refuses Partial
+refuses after_failure old e new = kind_of e ≡ Failed
+refuses out_of_place old e new = kind_of e ≡ Misplaced
+refuses no_memory old e new = IsOutOfMemory e
+
+-- refused as out of place, exactly if no whole list begins with these calls and this one; else only for memory
+abbrev pub RefusedExactly : List Event → Event → Answer → Type 0
+RefusedExactly calls c r =
+    (IsErrAnd r (λ e. kind_of e ≡ Misplaced) ↔ (¬ IsViable (calls ++ c ∷ []))) × (IsViable (calls ++ c ∷ []) → IfErr r (λ e. IsOutOfMemory e))
+
+-- the call is refused exactly, after any calls that lead from the fresh state to this one
+abbrev pub RefusesExactly : Seen Partial → Event → Answer → Type 0
+RefusesExactly old c r = old.failed ≡ false → (calls : List Event) → run fresh calls ≡ Some old.state → RefusedExactly calls c r
+
+-- what finishing answers where the builder has failed or not, at this state
+abbrev pub Finishes : Bool → Partial → Result NamedValue Error → Type 0
+Finishes true s r = IsErrAnd r (λ e. kind_of e ≡ Failed)
+Finishes false (due ps) r = IsErrAnd r (λ e. kind_of e ≡ Unfinished)
+Finishes false (between c ps) r = IsErrAnd r (λ e. kind_of e ≡ Unfinished)
+Finishes false (done t) (Ok v) = tree_of v ≡ t
+Finishes false (done t) (Err e) = IsOutOfMemory e

@@ -1,0 +1,54 @@
+//! The tree that a list of calls spells.
+
+ghost use Rattle.std.specs.Prelude.{ℕ, length};
+ghost use Rattle.content_tree.specs.Tree.{Tree};
+ghost use Rattle.content_tree.specs.declared.error.ErrorKind.TheVariants.{Misplaced, Unfinished};
+ghost use Rattle.content_ser.specs.Call.{events_of};
+ghost use Rattle.content_ser.specs.Spells.{SpellsWhole, IsWhole, IsViable};
+ghost use Rattle.content_build.specs.Answers.{IsAnswer, IsRefusal, IfTaken, IfRefused};
+
+use crate::builder::Builder;
+use crate::calls_error::CallsError;
+use content_ser::{Call, Serializer};
+use content_tree::Value;
+use std::alloc::Global;
+
+/// The tree that the calls spell, or the place of the first call that is refused.
+fn build<'v>(alloc: Global, calls: &[Call<'_>]) -> Result<Value<'v>, CallsError>
+    ensures { IsAnswer (events_of calls.now) result }
+{
+    let mut builder = Builder::new(alloc, false);
+    for (at, call) in calls.iter().enumerate() {
+        match builder.take(call) {
+            Ok(()) => {}
+            Err(error) => return Err(CallsError { at, error }),
+        }
+    }
+    match builder.finish() {
+        Ok(value) => Ok(value),
+        Err(error) => Err(CallsError {
+            at: calls.len(),
+            error,
+        }),
+    }
+}
+
+/// The tree that a list of calls spells.
+///
+/// Where it spells none, the error names the place of the first call after which nothing that
+/// follows can make it spell one, `Misplaced`; or the list's length where it only ended too early,
+/// `Unfinished`. Where memory is refused it names the call that needed it, or the list's length.
+/// Hints and lengths reserve nothing. Texts and bytes are copied once, names are not.
+#[tactic(auto, using(crate::proofs::Headline::only))]
+pub fn from_calls<'v>(alloc: Global, calls: &[Call<'_>]) -> Result<Value<'v>, CallsError>
+    // a tree that the calls spell, or a refusal at the right place for the right cause
+    ensures answer { IsAnswer (events_of calls.now) result }
+    // what spells a tree is taken
+    ensures whole { (t : Tree) → SpellsWhole (events_of calls.now) t → IfTaken result t }
+    // the first call after which no whole list can follow is out of place
+    ensures misplaced { (at : ℕ) → IsRefusal (events_of calls.now) at Misplaced → IfRefused result Misplaced at }
+    // what could go on to spell a tree, and spells none, is unfinished
+    ensures unfinished { IsViable (events_of calls.now) → ¬ IsWhole (events_of calls.now) → IfRefused result Unfinished (length calls.now) }
+{
+    build(alloc, calls)
+}

@@ -1,0 +1,141 @@
+//! What each call is in a list: the table of calls.
+
+ghost use Rattle.std.specs.Prelude.{◌≡◌, IfOk};
+ghost use Rattle.content_tree.specs.Text.{text_content, bytes_content};
+ghost use Rattle.content_tree.specs.Value.{tree_of};
+ghost use Rattle.content_ser.specs.Call.{event_of};
+ghost use Rattle.content_ser.specs.Kind.{kind};
+ghost use Rattle.content_build.specs.Kinds.{kind_view, leaf_tree};
+
+use crate::parts::{Record, Row, Wrap, enumeration, structure};
+use content_ser::Call;
+use content_tree::{CowBytes, CowStr, NamedData, NamedValue, Number, Value};
+use std::alloc::{AllocError, Global};
+
+/// A call whose tree is whole.
+#[derive(Drop)]
+pub(crate) enum Leaf<'a> {
+    Unit,
+    Bool(bool),
+    Number(Number),
+    Char(char),
+    Text(&'a str),
+    Bytes(&'a [u8]),
+    Absent,
+    UnitStruct(&'static str),
+    UnitVariant(&'static str, u32, &'static str),
+}
+
+/// A call that announces an item.
+#[derive(Drop)]
+pub(crate) enum Item {
+    Element,
+    TupleField,
+    Field(&'static str),
+    Key,
+    Value,
+    Entry,
+}
+
+/// What a call is in a list; hints and lengths are not in it.
+#[derive(Drop)]
+pub(crate) enum Kind<'a> {
+    Leaf(Leaf<'a>),
+    Wrap(Wrap),
+    Row(Row),
+    Map,
+    Record(Record),
+    Item(Item),
+    End,
+}
+
+/// The text itself.
+fn text_slice<'b>(text: &'b CowStr<'_>) -> &'b str
+    ensures { result.now ≡ text_content text.now }
+{
+    match text {
+        CowStr::Borrowed(text) => text,
+        CowStr::Owned(text) => text.as_str(),
+    }
+}
+
+/// The bytes themselves.
+fn byte_slice<'b>(bytes: &'b CowBytes<'_>) -> &'b [u8]
+    ensures { result.now ≡ bytes_content bytes.now }
+{
+    match bytes {
+        CowBytes::Borrowed(bytes) => bytes,
+        CowBytes::Owned(bytes) => bytes.as_slice(),
+    }
+}
+
+impl<'b> Kind<'b> {
+    /// What the call is in a list.
+    pub(crate) fn of(call: &'b Call<'_>) -> Kind<'b>
+        ensures { kind_view result ≡ kind (event_of call.now) }
+    {
+        match call {
+            Call::Bool(v) => Kind::Leaf(Leaf::Bool(*v)),
+            Call::Number(v) => Kind::Leaf(Leaf::Number(*v)),
+            Call::Char(v) => Kind::Leaf(Leaf::Char(*v)),
+            Call::Str(text) => Kind::Leaf(Leaf::Text(text_slice(text))),
+            Call::Bytes(bytes) => Kind::Leaf(Leaf::Bytes(byte_slice(bytes))),
+            Call::Unit => Kind::Leaf(Leaf::Unit),
+            Call::NoneCall => Kind::Leaf(Leaf::Absent),
+            Call::SomeCall => Kind::Wrap(Wrap::Present),
+            Call::UnitStruct(name) => Kind::Leaf(Leaf::UnitStruct(*name)),
+            Call::UnitVariant(name, index, variant) => Kind::Leaf(Leaf::UnitVariant(
+                *name, *index, *variant,
+            )),
+            Call::NewtypeStruct(name) => Kind::Wrap(Wrap::Struct(*name)),
+            Call::NewtypeVariant(name, index, variant) => Kind::Wrap(Wrap::Variant(
+                *name, *index, *variant,
+            )),
+            Call::Seq(_) => Kind::Row(Row::Seq),
+            Call::Tuple(_) => Kind::Row(Row::Tuple),
+            Call::TupleStruct(name, _) => Kind::Row(Row::Struct(*name)),
+            Call::TupleVariant(name, index, variant, _) => Kind::Row(Row::Variant(
+                *name, *index, *variant,
+            )),
+            Call::Map(_) => Kind::Map,
+            Call::Struct(name, _) => Kind::Record(Record::Struct(*name)),
+            Call::StructVariant(name, index, variant, _) => Kind::Record(Record::Variant(
+                *name, *index, *variant,
+            )),
+            Call::Element => Kind::Item(Item::Element),
+            Call::TupleField => Kind::Item(Item::TupleField),
+            Call::Field(key) => Kind::Item(Item::Field(*key)),
+            Call::Key => Kind::Item(Item::Key),
+            Call::Value => Kind::Item(Item::Value),
+            Call::Entry => Kind::Item(Item::Entry),
+            Call::End => Kind::End,
+        }
+    }
+}
+
+impl<'a> Leaf<'a> {
+    /// The tree of the call: its text and bytes are copied, its names are not.
+    pub(crate) fn make<'v>(self, alloc: Global) -> Result<Value<'v>, AllocError>
+        ensures { IfOk result (λ v. tree_of v ≡ leaf_tree self.entry) }
+    {
+        match self {
+            Leaf::Unit => Ok(NamedValue::Unit),
+            Leaf::Bool(v) => Ok(NamedValue::Bool(v)),
+            Leaf::Number(v) => Ok(NamedValue::Number(v)),
+            Leaf::Char(v) => Ok(NamedValue::Char(v)),
+            Leaf::Text(text) => Ok(NamedValue::String(CowStr::Owned(String::from_str(
+                alloc, text,
+            )?))),
+            Leaf::Bytes(bytes) => Ok(NamedValue::Bytes(CowBytes::Owned(bytes.to_vec(alloc)?))),
+            Leaf::Absent => Ok(NamedValue::Option(None)),
+            Leaf::UnitStruct(name) => structure(alloc, name, NamedData::Unit),
+            Leaf::UnitVariant(name, index, variant) => enumeration(
+                alloc,
+                name,
+                index,
+                variant,
+                NamedData::Unit,
+            ),
+        }
+    }
+}
