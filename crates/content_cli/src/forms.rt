@@ -4,9 +4,8 @@ ghost use Rattle.std.specs.Prelude.{◌≡◌, MatchOption, None, Some, true, fa
 ghost use Rattle.content_cli.specs.Forms.{boolean_of, character_of, octets_of, is_name, pair_of, head_of, variant_of, named_length_of, variant_length_of};
 ghost use Rattle.content_cli.specs.Views.{Reads, variant_parts};
 
-use crate::hex;
 use crate::line::{Line, Variant};
-use crate::numbers;
+use crate::{hex, numbers};
 
 /// `true` or `false`.
 pub fn read_bool<'a>(text: &str) -> Option<Line<'a>>

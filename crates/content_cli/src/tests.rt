@@ -86,7 +86,11 @@ fn outcome(alloc: Global, input: &[u8], reads: usize, writes: usize) -> (Vec<u8>
         failed: false,
     };
     let status = run(alloc, &mut source, &mut sink);
-    let Kept { bytes, writes: _, failed: _ } = sink;
+    let Kept {
+        bytes,
+        writes: _,
+        failed: _,
+    } = sink;
     (bytes, status)
 }
 
@@ -116,15 +120,33 @@ fn leaves_are_printed(rt: HostRuntime) -> Result<(), Fail> {
 #[test]
 fn compounds_are_printed(rt: HostRuntime) -> Result<(), Fail> {
     let cases: [(&[u8], &[u8]); 9] = [
-        (b"seq 2\nelement\nbool true\nelement\nu8 255\nend\n", b"ok [true, 255u8]\n"),
-        (b"struct Foo 2\nfield bar\nbool true\nfield baz\nchar a\nend\n", b"ok Foo { bar: true, baz: 'a' }\n"),
+        (
+            b"seq 2\nelement\nbool true\nelement\nu8 255\nend\n",
+            b"ok [true, 255u8]\n",
+        ),
+        (
+            b"struct Foo 2\nfield bar\nbool true\nfield baz\nchar a\nend\n",
+            b"ok Foo { bar: true, baz: 'a' }\n",
+        ),
         (b"struct_variant Foo 1 Baz 0\nend\n", b"ok Foo::Baz {  }\n"),
         (b"tuple 1\nelement\nsome\nnone\nend\n", b"ok (Some(None))\n"),
-        (b"newtype_variant Foo 1 Baz\nmap\nend\n", b"ok Foo::Baz({  })\n"),
+        (
+            b"newtype_variant Foo 1 Baz\nmap\nend\n",
+            b"ok Foo::Baz({  })\n",
+        ),
         (b"map\nkey\nunit\nend\n", b"ok { (): () }\n"),
-        (b"seq\nelement\nunit_variant Foo 7 Bar\nelement\ntuple_variant Foo 7 Bar 0\nend\nend\n", b"ok [Foo::Bar, Foo::Bar()]\n"),
-        (b"map 2\nkey\nu8 1\nvalue\nbool false\nentry\nunit_struct Point\nunit\nend\n", b"ok { 1u8: false, Point: () }\n"),
-        (b"tuple_struct Bar 2\ntuple_field\nnewtype_struct Baz\nunit\ntuple_field\nstruct Point 2\nfield x\nnone\nfield y\nnone\nend\nend\n", b"ok Bar(Baz(()), Point { x: None, y: None })\n"),
+        (
+            b"seq\nelement\nunit_variant Foo 7 Bar\nelement\ntuple_variant Foo 7 Bar 0\nend\nend\n",
+            b"ok [Foo::Bar, Foo::Bar()]\n",
+        ),
+        (
+            b"map 2\nkey\nu8 1\nvalue\nbool false\nentry\nunit_struct Point\nunit\nend\n",
+            b"ok { 1u8: false, Point: () }\n",
+        ),
+        (
+            b"tuple_struct Bar 2\ntuple_field\nnewtype_struct Baz\nunit\ntuple_field\nstruct Point 2\nfield x\nnone\nfield y\nnone\nend\nend\n",
+            b"ok Bar(Baz(()), Point { x: None, y: None })\n",
+        ),
     ];
     for (input, wanted) in &cases {
         let (line, status) = outcome(rt.alloc(), input, AMPLE, AMPLE);
@@ -220,7 +242,10 @@ fn bad_lines_are_named(rt: HostRuntime) -> Result<(), Fail> {
 fn refusals_are_placed(rt: HostRuntime) -> Result<(), Fail> {
     let cases: [(&[u8], &[u8]); 5] = [
         (b"", b"refused at 0: call list is unfinished\n"),
-        (b"seq\nelement\nunit\n", b"refused at 3: call list is unfinished\n"),
+        (
+            b"seq\nelement\nunit\n",
+            b"refused at 3: call list is unfinished\n",
+        ),
         (b"seq\nunit\n", b"refused at 1: call out of place\n"),
         (b"\nseq\n\nunit\n", b"refused at 1: call out of place\n"),
         (b"unit\nunit\nunit\n", b"refused at 1: call out of place\n"),

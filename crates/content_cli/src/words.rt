@@ -6,7 +6,10 @@ ghost use Rattle.content_cli.specs.Forms.{named_length_of, variant_length_of};
 ghost use Rattle.content_cli.specs.Words.{of_named, of_number, of_phrase, of_word};
 ghost use Rattle.content_cli.specs.Views.{Reads};
 
-use crate::forms::{read_bool, read_bytes, read_char, read_name, read_named_length, read_variant, read_variant_length};
+use crate::forms::{
+    read_bool, read_bytes, read_char, read_name, read_named_length, read_variant,
+    read_variant_length,
+};
 use crate::line::Line;
 use crate::numbers;
 use content_tree::Number;

@@ -12,6 +12,6 @@ returns c =
     let same = c.into_iter-line-iterator.ensures.into_iter_gives in
     let split = c.split-line-items.ensures in
     let every = YieldsList-end
-        (YieldsList-from_slice_split _ (λ b. b == 10) c.args.input.now (ap split_rest same ∙ split.rest) (ap split_done same ∙ split.done) (ap split_callee same ∙ split.closure) (λ x r q k. search (rules, tests)))
-        c.loop-line.yielded _ c.loop-line.yielded_by _ _ c.in-None.is c.next.ensures.steps in
+    (YieldsList-from_slice_split _ (λ b. b == 10) c.args.input.now (ap split_rest same ∙ split.rest) (ap split_done same ∙ split.done) (ap split_callee same ∙ split.closure) (λ x r q k. search (rules, tests)))
+    c.loop-line.yielded _ c.loop-line.yielded_by _ _ c.in-None.is c.next.ensures.steps in
     c.loop-line.invariant ∙ ap (flat_map (λ line. option_to_list (event_in line))) every.0
