@@ -1,0 +1,2 @@
+mod DerivedEquality
+pub mod Equality
