@@ -1,7 +1,7 @@
 -- A derived `==` of an enum decides whether two values have the same image, given this for each variant.
-use Rattle.std.proofs.Common.{◌≡◌, ℕ, ◌+◌, Bool, true, false, List, [], ◌∷◌, refl, ap, sym, ◌∙◌}
+use Rattle.std.proofs.Common.{◌≡◌, ℕ, ◌+◌, Bool, false, List, [], ◌∷◌, ap, sym, ◌∙◌}
 use native.Mathlib.Omega.{arith}
-use mathlib.Core.Logic.{inl, inr, ◌⊎◌}
+use mathlib.Core.Logic.{inl, inr}
 use denote.Struct.Field.{Field}
 use denote.Struct.Values.{Values}
 use denote.Enum.Declared.{Record, Choice}

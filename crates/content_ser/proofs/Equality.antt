@@ -123,34 +123,85 @@ ranked call.End = refl
 
 -- the test of each kind of call, in their order
 tests : Tests enum.parts (λ c. event_of (enum.make c))
-tests =
-    (((λ x y. beq x.0 y.0), λ x y. along _ (booleans_Decides x.0 y.0) (ap event.boolean) (λ e. cc)),
-    (((λ x y. number_eq.ghosts.eq x.0 y.0), λ x y. along _ (number_decides x.0 y.0) (ap event.number) (λ e. cc)),
-    (((λ x y. x.0 == y.0), λ x y. along _ (Decides-eqb x.0 y.0) (ap event.character) (λ e. cc)),
-    (((λ x y. bytes_eq (text_content x.0) (text_content y.0)), λ x y. along _ (bytes_eq-Decides (text_content x.0) (text_content y.0)) (ap event.text) (λ e. cc)),
-    (((λ x y. bytes_eq (bytes_content x.0) (bytes_content y.0)), λ x y. along _ (bytes_eq-Decides (bytes_content x.0) (bytes_content y.0)) (ap event.octets) (λ e. cc)),
-    (((λ x y. true), λ x y. (λ e. refl, λ e. refl)),
-    (((λ x y. true), λ x y. (λ e. refl, λ e. refl)),
-    (((λ x y. true), λ x y. (λ e. refl, λ e. refl)),
-    (((λ x y. bytes_eq x.0.now y.0.now), λ x y. along _ (bytes_eq-Decides x.0.now y.0.now) (ap event.unit_struct) (λ e. cc)),
-    (((λ x y. bytes_eq x.0.now y.0.now && ((x.1.0 == y.1.0) && bytes_eq x.1.1.0.now y.1.1.0.now)), λ x y. along _ (variant x.0.now y.0.now x.1.0 y.1.0 _ (bytes_eq-Decides x.1.1.0.now y.1.1.0.now)) (λ e. cc) (λ e. (cc, (cc, cc)))),
-    (((λ x y. bytes_eq x.0.now y.0.now), λ x y. along _ (bytes_eq-Decides x.0.now y.0.now) (ap event.newtype_struct) (λ e. cc)),
-    (((λ x y. bytes_eq x.0.now y.0.now && ((x.1.0 == y.1.0) && bytes_eq x.1.1.0.now y.1.1.0.now)), λ x y. along _ (variant x.0.now y.0.now x.1.0 y.1.0 _ (bytes_eq-Decides x.1.1.0.now y.1.1.0.now)) (λ e. cc) (λ e. (cc, (cc, cc)))),
-    (((λ x y. same_hint x.0 y.0), λ x y. along _ (hint_decides x.0 y.0) (ap event.seq) (λ e. cc)),
-    (((λ x y. x.0 == y.0), λ x y. along _ (Decides-eqb x.0 y.0) (ap event.tuple) (λ e. cc)),
-    (((λ x y. bytes_eq x.0.now y.0.now && (x.1.0 == y.1.0)), λ x y. along _ (sized x.0.now y.0.now x.1.0 y.1.0) (λ e. cc) (λ e. (cc, cc))),
-    (((λ x y. bytes_eq x.0.now y.0.now && ((x.1.0 == y.1.0) && (bytes_eq x.1.1.0.now y.1.1.0.now && (x.1.1.1.0 == y.1.1.1.0)))), λ x y. along _ (variant x.0.now y.0.now x.1.0 y.1.0 _ (sized x.1.1.0.now y.1.1.0.now x.1.1.1.0 y.1.1.1.0)) (λ e. cc) (λ e. (cc, (cc, (cc, cc))))),
-    (((λ x y. same_hint x.0 y.0), λ x y. along _ (hint_decides x.0 y.0) (ap event.map) (λ e. cc)),
-    (((λ x y. bytes_eq x.0.now y.0.now && (x.1.0 == y.1.0)), λ x y. along _ (sized x.0.now y.0.now x.1.0 y.1.0) (λ e. cc) (λ e. (cc, cc))),
-    (((λ x y. bytes_eq x.0.now y.0.now && ((x.1.0 == y.1.0) && (bytes_eq x.1.1.0.now y.1.1.0.now && (x.1.1.1.0 == y.1.1.1.0)))), λ x y. along _ (variant x.0.now y.0.now x.1.0 y.1.0 _ (sized x.1.1.0.now y.1.1.0.now x.1.1.1.0 y.1.1.1.0)) (λ e. cc) (λ e. (cc, (cc, (cc, cc))))),
-    (((λ x y. true), λ x y. (λ e. refl, λ e. refl)),
-    (((λ x y. true), λ x y. (λ e. refl, λ e. refl)),
-    (((λ x y. bytes_eq x.0.now y.0.now), λ x y. along _ (bytes_eq-Decides x.0.now y.0.now) (ap event.field) (λ e. cc)),
-    (((λ x y. true), λ x y. (λ e. refl, λ e. refl)),
-    (((λ x y. true), λ x y. (λ e. refl, λ e. refl)),
-    (((λ x y. true), λ x y. (λ e. refl, λ e. refl)),
-    (((λ x y. true), λ x y. (λ e. refl, λ e. refl)),
-    tt))))))))))))))))))))))))))
+tests = (
+  ((λ x y. beq x.0 y.0), λ x y. along _ (booleans_Decides x.0 y.0) (ap event.boolean) (λ e. cc)),
+  (
+    ((λ x y. number_eq.ghosts.eq x.0 y.0), λ x y. along _ (number_decides x.0 y.0) (ap event.number) (λ e. cc)),
+    (
+      ((λ x y. x.0 == y.0), λ x y. along _ (Decides-eqb x.0 y.0) (ap event.character) (λ e. cc)),
+      (
+        ((λ x y. bytes_eq (text_content x.0) (text_content y.0)), λ x y. along _ (bytes_eq-Decides (text_content x.0) (text_content y.0)) (ap event.text) (λ e. cc)),
+        (
+          ((λ x y. bytes_eq (bytes_content x.0) (bytes_content y.0)), λ x y. along _ (bytes_eq-Decides (bytes_content x.0) (bytes_content y.0)) (ap event.octets) (λ e. cc)),
+          (
+            ((λ x y. true), λ x y. (λ e. refl, λ e. refl)),
+            (
+              ((λ x y. true), λ x y. (λ e. refl, λ e. refl)),
+              (
+                ((λ x y. true), λ x y. (λ e. refl, λ e. refl)),
+                (
+                  ((λ x y. bytes_eq x.0.now y.0.now), λ x y. along _ (bytes_eq-Decides x.0.now y.0.now) (ap event.unit_struct) (λ e. cc)),
+                  (
+                    ((λ x y. bytes_eq x.0.now y.0.now && ((x.1.0 == y.1.0) && bytes_eq x.1.1.0.now y.1.1.0.now)), λ x y. along _ (variant x.0.now y.0.now x.1.0 y.1.0 _ (bytes_eq-Decides x.1.1.0.now y.1.1.0.now)) (λ e. cc) (λ e. (cc, (cc, cc)))),
+                    (
+                      ((λ x y. bytes_eq x.0.now y.0.now), λ x y. along _ (bytes_eq-Decides x.0.now y.0.now) (ap event.newtype_struct) (λ e. cc)),
+                      (
+                        ((λ x y. bytes_eq x.0.now y.0.now && ((x.1.0 == y.1.0) && bytes_eq x.1.1.0.now y.1.1.0.now)), λ x y. along _ (variant x.0.now y.0.now x.1.0 y.1.0 _ (bytes_eq-Decides x.1.1.0.now y.1.1.0.now)) (λ e. cc) (λ e. (cc, (cc, cc)))),
+                        (
+                          ((λ x y. same_hint x.0 y.0), λ x y. along _ (hint_decides x.0 y.0) (ap event.seq) (λ e. cc)),
+                          (
+                            ((λ x y. x.0 == y.0), λ x y. along _ (Decides-eqb x.0 y.0) (ap event.tuple) (λ e. cc)),
+                            (
+                              ((λ x y. bytes_eq x.0.now y.0.now && (x.1.0 == y.1.0)), λ x y. along _ (sized x.0.now y.0.now x.1.0 y.1.0) (λ e. cc) (λ e. (cc, cc))),
+                              (
+                                ((λ x y. bytes_eq x.0.now y.0.now && ((x.1.0 == y.1.0) && (bytes_eq x.1.1.0.now y.1.1.0.now && (x.1.1.1.0 == y.1.1.1.0)))), λ x y. along _ (variant x.0.now y.0.now x.1.0 y.1.0 _ (sized x.1.1.0.now y.1.1.0.now x.1.1.1.0 y.1.1.1.0)) (λ e. cc) (λ e. (cc, (cc, (cc, cc))))),
+                                (
+                                  ((λ x y. same_hint x.0 y.0), λ x y. along _ (hint_decides x.0 y.0) (ap event.map) (λ e. cc)),
+                                  (
+                                    ((λ x y. bytes_eq x.0.now y.0.now && (x.1.0 == y.1.0)), λ x y. along _ (sized x.0.now y.0.now x.1.0 y.1.0) (λ e. cc) (λ e. (cc, cc))),
+                                    (
+                                      ((λ x y. bytes_eq x.0.now y.0.now && ((x.1.0 == y.1.0) && (bytes_eq x.1.1.0.now y.1.1.0.now && (x.1.1.1.0 == y.1.1.1.0)))), λ x y. along _ (variant x.0.now y.0.now x.1.0 y.1.0 _ (sized x.1.1.0.now y.1.1.0.now x.1.1.1.0 y.1.1.1.0)) (λ e. cc) (λ e. (cc, (cc, (cc, cc))))),
+                                      (
+                                        ((λ x y. true), λ x y. (λ e. refl, λ e. refl)),
+                                        (
+                                          ((λ x y. true), λ x y. (λ e. refl, λ e. refl)),
+                                          (
+                                            ((λ x y. bytes_eq x.0.now y.0.now), λ x y. along _ (bytes_eq-Decides x.0.now y.0.now) (ap event.field) (λ e. cc)),
+                                            (
+                                              ((λ x y. true), λ x y. (λ e. refl, λ e. refl)),
+                                              (
+                                                ((λ x y. true), λ x y. (λ e. refl, λ e. refl)),
+                                                (
+                                                  ((λ x y. true), λ x y. (λ e. refl, λ e. refl)),
+                                                  (
+                                                    ((λ x y. true), λ x y. (λ e. refl, λ e. refl)),
+                                                    tt,
+                                                  ),
+                                                ),
+                                              ),
+                                            ),
+                                          ),
+                                        ),
+                                      ),
+                                    ),
+                                  ),
+                                ),
+                              ),
+                            ),
+                          ),
+                        ),
+                      ),
+                    ),
+                  ),
+                ),
+              ),
+            ),
+          ),
+        ),
+      ),
+    ),
+  ),
+)
 
 -- `==` of calls decides whether they are the same by contents
 pub call_decides : (a b : Call) → Decides (call_eq.ghosts.eq a b) (event_of a ≡ event_of b)
