@@ -5,5 +5,6 @@ pub use content_tree::{
     CowBytes, CowStr, Data, DataType, Enum, Error, ErrorKind, Expected, Found, FoundData, Number, Result, Struct, Value,
 };
 
+pub mod ser;
 #[cfg(test)]
 mod tests;

@@ -1,2 +1,3 @@
 //! Tests over every crate, with expected values from the written rules.
+mod building;
 mod texts;
