@@ -111,7 +111,7 @@ pub whole_run : (calls : List Call) (at : ℕ) (s : Partial) → length calls �
 whole_run calls at s h r = rw (take_all at calls h) at r
 
 -- a beginning of what is viable is viable
-beginning : (a b : List Event) → IsViable (a ++ b) → IsViable a
+pub beginning : (a b : List Event) → IsViable (a ++ b) → IsViable a
 beginning a b (more, (t, w)) = (b ++ more, (t, subst (λ l. SpellsWhole l t) (append_assoc a b more) w))
 
 beginning_take : (n : ℕ) (calls : List Event) → IsViable calls → IsViable (take n calls)

@@ -4,3 +4,5 @@ pub mod Frames
 pub mod Taken
 pub mod Builder
 pub mod Answers
+pub mod Recorder
+pub mod Serializer

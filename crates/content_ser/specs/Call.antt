@@ -1,6 +1,6 @@
 -- What contracts see of a `Call`.
-use Rattle.std.specs.Prelude.{List, map}
-use Rattle.content_tree.specs.Text.{text_content, bytes_content}
+use Rattle.std.specs.Prelude.{◌≡◌, false, List, map, Option, Some, None, IfSome}
+use Rattle.content_tree.specs.Text.{Text, text_of, bytes_of, text_content, bytes_content}
 use Rattle.content_ser.specs.Event as event
 use Rattle.content_ser.specs.Event.{Event}
 use Rattle.content_ser.specs.declared.call.Call.{Call}
@@ -38,3 +38,13 @@ event_of call.End = event.end
 -- calls, each by its contents
 abbrev pub events_of : List Call → List Event
 events_of calls = map event_of calls
+
+-- the text or bytes that it holds, with their case
+abbrev pub text_part : Call → Option Text
+text_part (call.Str s) = Some (text_of s)
+text_part (call.Bytes s) = Some (bytes_of s)
+text_part _ = None
+
+-- the text or bytes that it holds are owned
+abbrev pub IsOwned : Call → Type 0
+IsOwned call = IfSome (text_part call) (λ part. part.borrowed ≡ false)

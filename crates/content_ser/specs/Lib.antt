@@ -4,3 +4,7 @@ pub mod Kind
 pub mod Spells
 pub mod Laws
 pub mod Lawful
+pub mod Scripts
+pub mod ScriptLaws
+pub mod Fits
+pub mod Lawfulness

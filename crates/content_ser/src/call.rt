@@ -1,11 +1,18 @@
 //! Serialiser calls as data.
 
-use content_tree::{CowBytes, CowStr, Number};
+use content_tree::{CowBytes, CowStr, Number, Result};
+use std::alloc::Global;
+
+ghost use Rattle.std.specs.Prelude.{◌≡◌, true, IfOk, IfErr, IfSome, IsOk};
+ghost use Rattle.content_tree.specs.Kind.{IsOutOfMemory};
+ghost use Rattle.content_ser.specs.Call.{event_of, text_part};
 
 /// One call on a serialiser, of the 26 kinds that Serde's data model has without floats.
 ///
-/// Hints and lengths are what the caller says: no answer rests on them.
-#[derive(Debug, Drop)]
+/// Hints and lengths are what the caller says: no answer rests on them. Two calls are equal where
+/// they are of one kind and hold the same contents, hints and lengths: whether a text or bytes are
+/// borrowed does not count.
+#[derive(Debug, Drop, PartialEq, Eq)]
 pub enum Call<'a> {
     /// A boolean.
     Bool(bool),
@@ -59,4 +66,48 @@ pub enum Call<'a> {
     Entry,
     /// Closes what was opened last.
     End,
+}
+
+impl<'a> Call<'a> {
+    /// The same call, its text or bytes borrowed or owned as here.
+    ///
+    /// Memory is taken where it holds an owned text or owned bytes, and nowhere else.
+    pub fn try_clone(&self, alloc: Global) -> Result<Call<'a>>
+        ensures value { IfOk result (λ copy. event_of copy ≡ event_of self.now) }
+        ensures kept { IfOk result (λ copy. text_part copy ≡ text_part self.now) }
+        ensures succeeds { IfSome (text_part self.now) (λ part. part.borrowed ≡ true) → IsOk result }
+        ensures memory { IfErr result (λ e. IsOutOfMemory e) }
+    {
+        let copy = match self {
+            Call::Bool(b) => Call::Bool(*b),
+            Call::Number(n) => Call::Number(*n),
+            Call::Char(c) => Call::Char(*c),
+            Call::Str(CowStr::Borrowed(text)) => Call::Str(CowStr::Borrowed(text)),
+            Call::Str(CowStr::Owned(text)) => Call::Str(CowStr::Owned(String::from_str(alloc, text.as_str())?)),
+            Call::Bytes(CowBytes::Borrowed(bytes)) => Call::Bytes(CowBytes::Borrowed(bytes)),
+            Call::Bytes(CowBytes::Owned(bytes)) => Call::Bytes(CowBytes::Owned(bytes.as_slice().to_vec(alloc)?)),
+            Call::Unit => Call::Unit,
+            Call::NoneCall => Call::NoneCall,
+            Call::SomeCall => Call::SomeCall,
+            Call::UnitStruct(name) => Call::UnitStruct(name),
+            Call::UnitVariant(name, index, variant) => Call::UnitVariant(name, *index, variant),
+            Call::NewtypeStruct(name) => Call::NewtypeStruct(name),
+            Call::NewtypeVariant(name, index, variant) => Call::NewtypeVariant(name, *index, variant),
+            Call::Seq(hint) => Call::Seq(*hint),
+            Call::Tuple(len) => Call::Tuple(*len),
+            Call::TupleStruct(name, len) => Call::TupleStruct(name, *len),
+            Call::TupleVariant(name, index, variant, len) => Call::TupleVariant(name, *index, variant, *len),
+            Call::Map(hint) => Call::Map(*hint),
+            Call::Struct(name, len) => Call::Struct(name, *len),
+            Call::StructVariant(name, index, variant, len) => Call::StructVariant(name, *index, variant, *len),
+            Call::Element => Call::Element,
+            Call::TupleField => Call::TupleField,
+            Call::Field(key) => Call::Field(key),
+            Call::Key => Call::Key,
+            Call::Value => Call::Value,
+            Call::Entry => Call::Entry,
+            Call::End => Call::End,
+        };
+        Ok(copy)
+    }
 }

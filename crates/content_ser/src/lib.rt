@@ -2,7 +2,10 @@
 #![tactic(auto)]
 
 mod call;
+mod impls;
+mod serialize;
 mod serializer;
 
 pub use call::Call;
+pub use serialize::Serialize;
 pub use serializer::Serializer;

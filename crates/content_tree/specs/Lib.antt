@@ -7,3 +7,11 @@ pub mod Printed
 pub mod Kind
 pub mod Texts
 pub mod Unexpected
+pub mod Cases
+pub mod Fault
+pub mod Order
+pub mod Ranked
+pub mod RankedTree
+pub mod ImageOrder
+pub mod RankedImage
+pub mod ErrorOrder

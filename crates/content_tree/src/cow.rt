@@ -1,4 +1,11 @@
 //! Texts and bytes that are borrowed or owned.
+ghost use Rattle.std.specs.Prelude.{◌≡◌, IsTrue, Ok, IfOk, IfErr, IsOk, IfSome, string_bytes};
+ghost use Rattle.content_tree.specs.Text.{text_of, bytes_of, text_content, bytes_content};
+ghost use Rattle.content_tree.specs.Cases.{string_in, vec_in};
+ghost use Rattle.content_tree.specs.Kind.{IsOutOfMemory};
+
+use crate::error::Result;
+use std::alloc::Global;
 
 /// A text, borrowed or owned. A name is static where it is borrowed, and owned where it is owned.
 #[derive(Debug, Drop)]
@@ -16,4 +23,96 @@ pub enum CowBytes<'a> {
     Borrowed(&'a [u8]),
     /// Bytes that are owned.
     Owned(Vec<u8>),
+}
+
+impl<'a> CowStr<'a> {
+    /// The text.
+    pub fn as_str(&self) -> &str
+        ensures { result.now ≡ text_content self.now }
+    {
+        match self {
+            CowStr::Borrowed(text) => text,
+            CowStr::Owned(text) => text.as_str(),
+        }
+    }
+
+    /// Whether the text is borrowed; of a name: whether it is static.
+    pub fn is_borrowed(&self) -> bool
+        ensures { result ≡ (text_of self.now).borrowed }
+    {
+        match self {
+            CowStr::Borrowed(_) => true,
+            CowStr::Owned(_) => false,
+        }
+    }
+
+    /// The text as one that is owned. An owned one is moved, without memory; a borrowed one is copied.
+    pub fn into_owned(self, alloc: Global) -> Result<String>
+        ensures value { IfOk result (λ text. string_bytes text ≡ text_content self.entry) }
+        ensures moved { IfSome (string_in self.entry) (λ text. result ≡ Ok text) }
+        ensures memory { IfErr result (λ e. IsOutOfMemory e) }
+    {
+        match self {
+            CowStr::Borrowed(text) => Ok(String::from_str(alloc, text)?),
+            CowStr::Owned(text) => Ok(text),
+        }
+    }
+
+    /// A copy of the same case: a borrowed text is borrowed again, without memory, and an owned one is copied.
+    pub fn try_clone(&self, alloc: Global) -> Result<CowStr<'a>>
+        ensures value { IfOk result (λ copy. text_of copy ≡ text_of self.now) }
+        ensures succeeds { IsTrue (text_of self.now).borrowed → IsOk result }
+        ensures memory { IfErr result (λ e. IsOutOfMemory e) }
+    {
+        match self {
+            CowStr::Borrowed(text) => Ok(CowStr::Borrowed(text)),
+            CowStr::Owned(text) => Ok(CowStr::Owned(String::from_str(alloc, text.as_str())?)),
+        }
+    }
+}
+
+impl<'a> CowBytes<'a> {
+    /// The bytes.
+    pub fn as_bytes(&self) -> &[u8]
+        ensures { result.now ≡ bytes_content self.now }
+    {
+        match self {
+            CowBytes::Borrowed(bytes) => bytes,
+            CowBytes::Owned(bytes) => bytes.as_slice(),
+        }
+    }
+
+    /// Whether the bytes are borrowed.
+    pub fn is_borrowed(&self) -> bool
+        ensures { result ≡ (bytes_of self.now).borrowed }
+    {
+        match self {
+            CowBytes::Borrowed(_) => true,
+            CowBytes::Owned(_) => false,
+        }
+    }
+
+    /// The bytes as ones that are owned. Owned ones are moved, without memory; borrowed ones are copied.
+    pub fn into_owned(self, alloc: Global) -> Result<Vec<u8>>
+        ensures value { IfOk result (λ bytes. bytes.items ≡ bytes_content self.entry) }
+        ensures moved { IfSome (vec_in self.entry) (λ bytes. result ≡ Ok bytes) }
+        ensures memory { IfErr result (λ e. IsOutOfMemory e) }
+    {
+        match self {
+            CowBytes::Borrowed(bytes) => Ok(bytes.to_vec(alloc)?),
+            CowBytes::Owned(bytes) => Ok(bytes),
+        }
+    }
+
+    /// A copy of the same case: borrowed bytes are borrowed again, without memory, and owned ones are copied.
+    pub fn try_clone(&self, alloc: Global) -> Result<CowBytes<'a>>
+        ensures value { IfOk result (λ copy. bytes_of copy ≡ bytes_of self.now) }
+        ensures succeeds { IsTrue (bytes_of self.now).borrowed → IsOk result }
+        ensures memory { IfErr result (λ e. IsOutOfMemory e) }
+    {
+        match self {
+            CowBytes::Borrowed(bytes) => Ok(CowBytes::Borrowed(bytes)),
+            CowBytes::Owned(bytes) => Ok(CowBytes::Owned(bytes.as_slice().to_vec(alloc)?)),
+        }
+    }
 }

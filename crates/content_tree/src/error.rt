@@ -13,7 +13,7 @@ use std::fmt;
 pub type Result<T> = std::result::Result<T, Error>;
 
 /// Why a call was refused.
-#[derive(Debug, Drop)]
+#[derive(Debug, Drop, PartialEq, Eq, PartialOrd, Ord)]
 pub enum ErrorKind {
     /// Something else was found than what was expected.
     Unexpected {
@@ -35,7 +35,7 @@ pub enum ErrorKind {
 }
 
 /// An error: one [`ErrorKind`].
-#[derive(Debug, Drop)]
+#[derive(Debug, Drop, PartialEq, Eq, PartialOrd, Ord)]
 pub struct Error {
     kind: ErrorKind,
 }
@@ -52,9 +52,7 @@ impl From<AllocError> for Error {
     ghost from_gives = { λ _ e. IsOutOfMemory e };
 
     fn from(_refused: AllocError) -> Error {
-        Error {
-            kind: ErrorKind::OutOfMemory,
-        }
+        Error::from(ErrorKind::OutOfMemory)
     }
 }
 
@@ -102,7 +100,8 @@ impl Error {
     pub fn into_kind(self) -> ErrorKind
         ensures { result ≡ kind_of self }
     {
-        self.kind
+        let Error { kind } = self;
+        kind
     }
 }
 

@@ -19,7 +19,7 @@ pub enum DataType {
 }
 
 /// What was expected where something else was found.
-#[derive(Debug, Drop)]
+#[derive(Debug, Drop, PartialEq, Eq, PartialOrd, Ord)]
 pub enum Expected {
     /// The unit, `()`.
     Unit,

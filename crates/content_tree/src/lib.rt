@@ -1,6 +1,11 @@
 //! Trees of Serde's data model: the types, their conversions, errors and printed texts.
 #![tactic(auto)]
 
+mod compare;
+mod convert;
+mod copy_error;
+mod copy_found;
+mod copy_value;
 mod cow;
 mod display;
 mod error;
@@ -8,6 +13,7 @@ mod expected;
 mod found;
 mod image;
 mod number;
+mod owned;
 mod quote;
 mod unexpected;
 mod value;

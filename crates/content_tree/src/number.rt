@@ -1,4 +1,6 @@
 //! Whole numbers of ten kinds.
+ghost use Rattle.std.specs.Prelude.{◌≡◌};
+ghost use Rattle.content_tree.specs.declared.number.Number.{Number};
 
 /// A whole number, with its kind.
 #[derive(Clone, Copy, Debug, PartialEq, Eq, PartialOrd, Ord)]
@@ -23,4 +25,84 @@ pub enum Number {
     I128(i128),
     /// An unsigned number of 128 bits.
     U128(u128),
+}
+
+impl From<i8> for Number {
+    ghost from_gives = { λ from number. number ≡ Number.I8 from };
+
+    fn from(from: i8) -> Number {
+        Number::I8(from)
+    }
+}
+
+impl From<u8> for Number {
+    ghost from_gives = { λ from number. number ≡ Number.U8 from };
+
+    fn from(from: u8) -> Number {
+        Number::U8(from)
+    }
+}
+
+impl From<i16> for Number {
+    ghost from_gives = { λ from number. number ≡ Number.I16 from };
+
+    fn from(from: i16) -> Number {
+        Number::I16(from)
+    }
+}
+
+impl From<u16> for Number {
+    ghost from_gives = { λ from number. number ≡ Number.U16 from };
+
+    fn from(from: u16) -> Number {
+        Number::U16(from)
+    }
+}
+
+impl From<i32> for Number {
+    ghost from_gives = { λ from number. number ≡ Number.I32 from };
+
+    fn from(from: i32) -> Number {
+        Number::I32(from)
+    }
+}
+
+impl From<u32> for Number {
+    ghost from_gives = { λ from number. number ≡ Number.U32 from };
+
+    fn from(from: u32) -> Number {
+        Number::U32(from)
+    }
+}
+
+impl From<i64> for Number {
+    ghost from_gives = { λ from number. number ≡ Number.I64 from };
+
+    fn from(from: i64) -> Number {
+        Number::I64(from)
+    }
+}
+
+impl From<u64> for Number {
+    ghost from_gives = { λ from number. number ≡ Number.U64 from };
+
+    fn from(from: u64) -> Number {
+        Number::U64(from)
+    }
+}
+
+impl From<i128> for Number {
+    ghost from_gives = { λ from number. number ≡ Number.I128 from };
+
+    fn from(from: i128) -> Number {
+        Number::I128(from)
+    }
+}
+
+impl From<u128> for Number {
+    ghost from_gives = { λ from number. number ≡ Number.U128 from };
+
+    fn from(from: u128) -> Number {
+        Number::U128(from)
+    }
 }

@@ -2,8 +2,11 @@
 #![tactic(auto)]
 
 pub use content_tree::{
-    CowBytes, CowStr, Data, DataType, Enum, Error, ErrorKind, Expected, Found, FoundData, Number, Result, Struct, Value,
+    CowBytes, CowStr, Data, DataType, Enum, Error, ErrorKind, Expected, Found, FoundData, Number,
+    Result, Struct, Unexpected, Value,
 };
 
+pub mod laws;
+pub mod ser;
 #[cfg(test)]
 mod tests;

@@ -1,2 +1,9 @@
 //! Tests over every crate, with expected values from the written rules.
+mod calls;
+mod conversions;
+mod copies;
+mod every_case;
+mod images;
+mod order;
+mod recording;
 mod texts;

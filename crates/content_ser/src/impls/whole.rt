@@ -1,0 +1,154 @@
+//! Numbers, each by the call of its kind.
+#![tactic(auto, using(crate::proofs::Sending::sending))]
+
+ghost use Rattle.content_ser.specs.Event.{number};
+ghost use Rattle.content_ser.specs.Scripts.{only};
+ghost use Rattle.content_tree.specs.declared.number.Number.TheVariants as num;
+ghost use Rattle.std.specs.Prelude.{refl};
+ghost use Rattle.content_ser.specs.Lawfulness.{leaf_lawful};
+
+use crate::serialize::Serialize;
+use crate::serializer::Serializer;
+use content_tree::{Number, Result};
+use std::alloc::Global;
+
+impl Serialize for i8 {
+    ghost script = { λ n. only (number (num.I8 n)) };
+
+    ghost lawful = { λ x readable. leaf_lawful refl };
+
+    fn serialize<S: Serializer>(&self, _alloc: Global, serializer: &mut S) -> Result<()> {
+        serializer.serialize_i8(*self)
+    }
+}
+
+impl Serialize for u8 {
+    ghost script = { λ n. only (number (num.U8 n)) };
+
+    ghost lawful = { λ x readable. leaf_lawful refl };
+
+    fn serialize<S: Serializer>(&self, _alloc: Global, serializer: &mut S) -> Result<()> {
+        serializer.serialize_u8(*self)
+    }
+}
+
+impl Serialize for i16 {
+    ghost script = { λ n. only (number (num.I16 n)) };
+
+    ghost lawful = { λ x readable. leaf_lawful refl };
+
+    fn serialize<S: Serializer>(&self, _alloc: Global, serializer: &mut S) -> Result<()> {
+        serializer.serialize_i16(*self)
+    }
+}
+
+impl Serialize for u16 {
+    ghost script = { λ n. only (number (num.U16 n)) };
+
+    ghost lawful = { λ x readable. leaf_lawful refl };
+
+    fn serialize<S: Serializer>(&self, _alloc: Global, serializer: &mut S) -> Result<()> {
+        serializer.serialize_u16(*self)
+    }
+}
+
+impl Serialize for i32 {
+    ghost script = { λ n. only (number (num.I32 n)) };
+
+    ghost lawful = { λ x readable. leaf_lawful refl };
+
+    fn serialize<S: Serializer>(&self, _alloc: Global, serializer: &mut S) -> Result<()> {
+        serializer.serialize_i32(*self)
+    }
+}
+
+impl Serialize for u32 {
+    ghost script = { λ n. only (number (num.U32 n)) };
+
+    ghost lawful = { λ x readable. leaf_lawful refl };
+
+    fn serialize<S: Serializer>(&self, _alloc: Global, serializer: &mut S) -> Result<()> {
+        serializer.serialize_u32(*self)
+    }
+}
+
+impl Serialize for i64 {
+    ghost script = { λ n. only (number (num.I64 n)) };
+
+    ghost lawful = { λ x readable. leaf_lawful refl };
+
+    fn serialize<S: Serializer>(&self, _alloc: Global, serializer: &mut S) -> Result<()> {
+        serializer.serialize_i64(*self)
+    }
+}
+
+impl Serialize for u64 {
+    ghost script = { λ n. only (number (num.U64 n)) };
+
+    ghost lawful = { λ x readable. leaf_lawful refl };
+
+    fn serialize<S: Serializer>(&self, _alloc: Global, serializer: &mut S) -> Result<()> {
+        serializer.serialize_u64(*self)
+    }
+}
+
+impl Serialize for i128 {
+    ghost script = { λ n. only (number (num.I128 n)) };
+
+    ghost lawful = { λ x readable. leaf_lawful refl };
+
+    fn serialize<S: Serializer>(&self, _alloc: Global, serializer: &mut S) -> Result<()> {
+        serializer.serialize_i128(*self)
+    }
+}
+
+impl Serialize for u128 {
+    ghost script = { λ n. only (number (num.U128 n)) };
+
+    ghost lawful = { λ x readable. leaf_lawful refl };
+
+    fn serialize<S: Serializer>(&self, _alloc: Global, serializer: &mut S) -> Result<()> {
+        serializer.serialize_u128(*self)
+    }
+}
+
+impl Serialize for usize {
+    ghost script = { λ n. only (number (num.U64 n)) };
+
+    ghost lawful = { λ x readable. leaf_lawful refl };
+
+    fn serialize<S: Serializer>(&self, _alloc: Global, serializer: &mut S) -> Result<()> {
+        serializer.serialize_u64(*self as u64)
+    }
+}
+
+impl Serialize for isize {
+    ghost script = { λ n. only (number (num.I64 n)) };
+
+    ghost lawful = { λ x readable. leaf_lawful refl };
+
+    fn serialize<S: Serializer>(&self, _alloc: Global, serializer: &mut S) -> Result<()> {
+        serializer.serialize_i64(*self as i64)
+    }
+}
+
+impl Serialize for Number {
+    ghost script = { λ n. only (number n) };
+
+    ghost lawful = { λ x readable. leaf_lawful refl };
+
+    fn serialize<S: Serializer>(&self, _alloc: Global, serializer: &mut S) -> Result<()> {
+        match *self {
+            Number::I8(n) => serializer.serialize_i8(n),
+            Number::U8(n) => serializer.serialize_u8(n),
+            Number::I16(n) => serializer.serialize_i16(n),
+            Number::U16(n) => serializer.serialize_u16(n),
+            Number::I32(n) => serializer.serialize_i32(n),
+            Number::U32(n) => serializer.serialize_u32(n),
+            Number::I64(n) => serializer.serialize_i64(n),
+            Number::U64(n) => serializer.serialize_u64(n),
+            Number::I128(n) => serializer.serialize_i128(n),
+            Number::U128(n) => serializer.serialize_u128(n),
+        }
+    }
+}

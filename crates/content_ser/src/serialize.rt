@@ -1,0 +1,28 @@
+//! The trait of what serialisers take.
+
+ghost use Rattle.std.specs.Prelude.{Bool};
+ghost use Rattle.content_ser.specs.Lawful.{IsLawful, Script, Sends};
+
+use crate::serializer::Serializer;
+use content_tree::Result;
+use std::alloc::Global;
+
+/// What sends itself to any serialiser.
+///
+/// A type's script says by which calls: a list of them, which may turn on the value and on whether
+/// the serialiser is for people to read, and perhaps a text with which it stops.
+pub trait Serialize {
+    /// The calls by which a value is sent, where the serialiser is for people to read or not.
+    ghost script: { Self → Bool → Script };
+
+    /// Makes the calls of the script, one after another.
+    ///
+    /// `Ok` says that all of them were made and that the script has no stop. `Err` says that the
+    /// serialiser refused one of them, or that all were made and the script stops (`Custom` with
+    /// its text), or that memory was refused. A serialiser that has failed before refuses them all.
+    fn serialize<S: Serializer>(&self, alloc: Global, serializer: &mut S) -> Result<()>
+        ensures { Sends S.step (S.seen serializer.old) (script self.now) result (S.seen serializer.new) };
+
+    /// Without a stop the calls spell a tree; with a stop some calls can follow that make them spell one.
+    ghost lawful: { (x : Self) (readable : Bool) → IsLawful (script x readable) };
+}

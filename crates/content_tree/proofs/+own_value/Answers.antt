@@ -1,0 +1,26 @@
+use Rattle.std.proofs.Common.{◌≡◌, sym, ap, ◌∙◌, rules, arith}
+use Rattle.content_tree.specs.Text.{to_owned}
+use Rattle.content_tree.specs.Tree.{at_texts_each, at_texts_pairs, at_texts_fields}
+use Rattle.content_tree.specs.Value.{trees_of, pairs_of, fields_of, trees_view, pairs_view, fields_view}
+use Rattle.content_tree.proofs.Owning.{trees_owned, pairs_owned, fields_owned, nothing_left}
+use Rattle.content_tree.proofs.Views.{payload_of-Struct}
+use Rattle.content_tree.proofs.+own_value.Goals as goal
+
+pub value::NamedData::into_owned-returns-in_ok-own_fields-in-Struct-clause-value :
+    goal.value::NamedData::into_owned-returns-in_ok-own_fields-in-Struct-clause-value
+value::NamedData::into_owned-returns-in_ok-own_fields-in-Struct-clause-value t c = grind (rules, payload_of-Struct)
+
+pub owned::own_fields-returns-clause-value : goal.owned::own_fields-returns-clause-value
+owned::own_fields-returns-clause-value t c =
+    let all : c.args.fields.items ≡ c.loop-key.yielded = nothing_left _ _ _ c.loop-key.invariant.2 (omega (arith, c.in-None.ensures.steps.0)) in
+    ap fields_of c.loop-key.invariant.3 ∙ fields_owned c.loop-key.yielded ∙ ap (λ fs. at_texts_fields to_owned (λ n. n) (fields_view fs)) (sym all)
+
+pub owned::own_items-returns-clause-value : goal.owned::own_items-returns-clause-value
+owned::own_items-returns-clause-value t c =
+    let all : c.args.items.items ≡ c.loop-item.yielded = nothing_left _ _ _ c.loop-item.invariant.2 (omega (arith, c.in-None.ensures.steps.0)) in
+    ap trees_of c.loop-item.invariant.3 ∙ trees_owned c.loop-item.yielded ∙ ap (λ ts. at_texts_each to_owned (λ n. n) (trees_view ts)) (sym all)
+
+pub owned::own_pairs-returns-clause-value : goal.owned::own_pairs-returns-clause-value
+owned::own_pairs-returns-clause-value t c =
+    let all : c.args.pairs.items ≡ c.loop-key.yielded = nothing_left _ _ _ c.loop-key.invariant.2 (omega (arith, c.in-None.ensures.steps.0)) in
+    ap pairs_of c.loop-key.invariant.3 ∙ pairs_owned c.loop-key.yielded ∙ ap (λ ps. at_texts_pairs to_owned (λ n. n) (pairs_view ps)) (sym all)

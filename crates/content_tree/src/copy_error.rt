@@ -1,0 +1,91 @@
+//! Copies of expectations and errors.
+ghost use Rattle.std.specs.Prelude.{◌≡◌, IfOk, IfErr};
+ghost use Rattle.content_tree.specs.Fault.{expected_view, kind_view, name_view};
+ghost use Rattle.content_tree.specs.Kind.{kind_of, IsOutOfMemory};
+
+use crate::error::{Error, ErrorKind, Result};
+use crate::expected::Expected;
+use std::alloc::Global;
+
+impl Expected {
+    /// A copy: the same expectation.
+    pub fn try_clone(&self, alloc: Global) -> Result<Expected>
+        ensures value { IfOk result (λ copy. expected_view copy ≡ expected_view self.now) }
+        ensures memory { IfErr result (λ e. IsOutOfMemory e) }
+    {
+        match self {
+            Expected::Unit => Ok(Expected::Unit),
+            Expected::Bool => Ok(Expected::Bool),
+            Expected::Char => Ok(Expected::Char),
+            Expected::String => Ok(Expected::String),
+            Expected::StaticStr => Ok(Expected::StaticStr),
+            Expected::Bytes => Ok(Expected::Bytes),
+            Expected::Seq => Ok(Expected::Seq),
+            Expected::Map => Ok(Expected::Map),
+            Expected::Struct { name, typ } => Ok(Expected::Struct {
+                name: clone_name(alloc, name)?,
+                typ: *typ,
+            }),
+            Expected::Enum { name, typ } => Ok(Expected::Enum {
+                name: clone_name(alloc, name)?,
+                typ: *typ,
+            }),
+            Expected::Tuple(len) => Ok(Expected::Tuple(*len)),
+            Expected::Identifier => Ok(Expected::Identifier),
+            Expected::I8 => Ok(Expected::I8),
+            Expected::U8 => Ok(Expected::U8),
+            Expected::I16 => Ok(Expected::I16),
+            Expected::U16 => Ok(Expected::U16),
+            Expected::I32 => Ok(Expected::I32),
+            Expected::U32 => Ok(Expected::U32),
+            Expected::I64 => Ok(Expected::I64),
+            Expected::U64 => Ok(Expected::U64),
+            Expected::I128 => Ok(Expected::I128),
+            Expected::U128 => Ok(Expected::U128),
+        }
+    }
+}
+
+fn clone_name(alloc: Global, name: &Option<String>) -> Result<Option<String>>
+    ensures value { IfOk result (λ copy. name_view copy ≡ name_view name.now) }
+    ensures memory { IfErr result (λ e. IsOutOfMemory e) }
+{
+    match name {
+        None => Ok(None),
+        Some(name) => Ok(Some(String::from_str(alloc, name.as_str())?)),
+    }
+}
+
+impl ErrorKind {
+    /// A copy: the same kind, with the same image, expectation or text.
+    pub fn try_clone(&self, alloc: Global) -> Result<ErrorKind>
+        ensures value { IfOk result (λ copy. kind_view copy ≡ kind_view self.now) }
+        ensures memory { IfErr result (λ e. IsOutOfMemory e) }
+    {
+        match self {
+            ErrorKind::Unexpected { found, expected } => Ok(ErrorKind::Unexpected {
+                found: found.try_clone(alloc)?,
+                expected: expected.try_clone(alloc)?,
+            }),
+            ErrorKind::Custom(text) => {
+                let text = String::from_str(alloc, text.as_str())?;
+                Ok(ErrorKind::Custom(text))
+            }
+            ErrorKind::OutOfMemory => Ok(ErrorKind::OutOfMemory),
+            ErrorKind::Misplaced => Ok(ErrorKind::Misplaced),
+            ErrorKind::Failed => Ok(ErrorKind::Failed),
+            ErrorKind::Unfinished => Ok(ErrorKind::Unfinished),
+        }
+    }
+}
+
+impl Error {
+    /// A copy: an error of the same kind, with the same image, expectation or text.
+    pub fn try_clone(&self, alloc: Global) -> Result<Error>
+        ensures value { IfOk result (λ copy. kind_view (kind_of copy) ≡ kind_view (kind_of self.now)) }
+        ensures memory { IfErr result (λ e. IsOutOfMemory e) }
+    {
+        let kind = self.kind().try_clone(alloc)?;
+        Ok(Error::from(kind))
+    }
+}

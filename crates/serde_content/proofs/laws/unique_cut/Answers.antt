@@ -1,0 +1,5 @@
+use Rattle.content_build.proofs.Laws.{unique_cut}
+use Rattle.serde_content.proofs.laws.unique_cut.Goals as goal
+
+pub returns : goal.returns
+returns c = unique_cut

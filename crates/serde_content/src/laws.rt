@@ -1,0 +1,18 @@
+//! Laws of the definitions that the other contracts stand on. Each call answers nothing; its
+//! contract is the law.
+#![tactic(auto, using(content_build::proofs::Laws::one_tree, content_build::proofs::Laws::unique_cut))]
+
+ghost use Rattle.content_ser.specs.Laws.{OneTree, UniqueCut};
+
+/// No whole list of calls is a proper beginning of another: a stream of trees can be cut in one
+/// way only.
+pub fn unique_cut()
+    ensures { UniqueCut }
+{
+}
+
+/// One list of calls spells one tree.
+pub fn one_tree()
+    ensures { OneTree }
+{
+}

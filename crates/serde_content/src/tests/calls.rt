@@ -1,0 +1,70 @@
+//! Calls are copied as they are and compared by contents.
+
+use content_ser::Call;
+use content_tree::{CowBytes, CowStr, Number};
+use std::test::Fail;
+
+#[test]
+fn a_borrowed_text_is_copied_borrowed(rt: HostRuntime) -> Result<(), Fail> {
+    let copy = Call::Str(CowStr::Borrowed("text")).try_clone(rt.alloc())?;
+    assert!(rt; matches!(&copy, Call::Str(CowStr::Borrowed(_))));
+    assert_eq!(rt; copy, Call::Str(CowStr::Borrowed("text")));
+    Ok(())
+}
+
+#[test]
+fn an_owned_text_is_copied_owned(rt: HostRuntime) -> Result<(), Fail> {
+    let text = String::from_str(rt.alloc(), "text")?;
+    let copy = Call::Str(CowStr::Owned(text)).try_clone(rt.alloc())?;
+    assert!(rt; matches!(&copy, Call::Str(CowStr::Owned(_))));
+    assert_eq!(rt; copy, Call::Str(CowStr::Borrowed("text")));
+    Ok(())
+}
+
+#[test]
+fn owned_bytes_are_copied_owned(rt: HostRuntime) -> Result<(), Fail> {
+    let bytes = b"bytes".to_vec(rt.alloc())?;
+    let copy = Call::Bytes(CowBytes::Owned(bytes)).try_clone(rt.alloc())?;
+    assert!(rt; matches!(&copy, Call::Bytes(CowBytes::Owned(_))));
+    assert_eq!(rt; copy, Call::Bytes(CowBytes::Borrowed(b"bytes")));
+    Ok(())
+}
+
+#[test]
+fn names_indices_and_lengths_are_copied(rt: HostRuntime) -> Result<(), Fail> {
+    let calls = [
+        Call::Bool(true),
+        Call::Number(Number::I64(-9)),
+        Call::Seq(Some(2)),
+        Call::Field("key"),
+        Call::UnitVariant("E", 1, "V"),
+        Call::TupleStruct("S", 3),
+        Call::StructVariant("E", 2, "W", 4),
+        Call::End,
+    ];
+    for call in &calls {
+        let copy = call.try_clone(rt.alloc())?;
+        assert_eq!(rt; copy, *call);
+    }
+    Ok(())
+}
+
+#[test]
+fn contents_count(rt: HostRuntime) -> Result<(), Fail> {
+    assert!(rt; Call::Str(CowStr::Borrowed("a")) != Call::Str(CowStr::Borrowed("b")));
+    assert!(rt; Call::Str(CowStr::Borrowed("a")) != Call::Bytes(CowBytes::Borrowed(b"a")));
+    assert!(rt; Call::Number(Number::U8(1)) != Call::Number(Number::I8(1)));
+    assert!(rt; Call::Number(Number::U8(1)) != Call::Number(Number::U8(2)));
+    assert!(rt; Call::Bool(true) != Call::Bool(false));
+    Ok(())
+}
+
+#[test]
+fn hints_lengths_indices_and_names_count(rt: HostRuntime) -> Result<(), Fail> {
+    assert!(rt; Call::Seq(None) != Call::Seq(Some(0)));
+    assert!(rt; Call::Tuple(1) != Call::Tuple(2));
+    assert!(rt; Call::UnitVariant("E", 0, "V") != Call::UnitVariant("E", 1, "V"));
+    assert!(rt; Call::UnitVariant("E", 0, "V") != Call::UnitVariant("E", 0, "W"));
+    assert!(rt; Call::Struct("S", 1) != Call::TupleStruct("S", 1));
+    Ok(())
+}
