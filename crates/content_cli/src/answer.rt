@@ -1,6 +1,6 @@
 //! The line and the status that an input earns.
 
-ghost use Rattle.std.specs.Prelude.{◌≡◌, ◌≢◌, ◌+◌, ◌++◌, codes, IfOk, OnOk};
+ghost use Rattle.std.specs.Prelude.{◌≡◌, ◌≢◌, ◌≤◌, ◌+◌, ◌++◌, codes, IfOk, OnOk};
 ghost use Rattle.std.specs.String.{string_bytes};
 ghost use Rattle.std.specs.Fmt.{decimal};
 ghost use Rattle.content_tree.specs.Image.{image};
@@ -17,10 +17,12 @@ use content_build::{CallsError, from_calls};
 use content_tree::{ErrorKind, Value};
 use std::alloc::{AllocError, Global};
 
-/// The line to be written, with its line feed, and the status.
+/// The line to be written, and the status.
 #[derive(Debug, Drop)]
 pub struct Answer {
+    /// The line, with its line feed.
     pub line: String,
+    /// The status, 2 at most.
     pub status: u8,
 }
 
@@ -69,6 +71,8 @@ fn refused(alloc: Global, refusal: &CallsError) -> Result<Answer, AllocError>
 /// The line and the status that the input earns, or an error where memory is refused.
 pub fn make_answer(alloc: Global, input: &[u8]) -> Result<Answer, AllocError>
     ensures value { IfOk result (λ a. Earns input.now (string_bytes a.line) a.status) }
+    ensures fits { IfOk result (λ a. Fits input.now a.status) }
+    ensures low { IfOk result (λ a. a.status ≤ 2) }
 {
     if let Some(place) = first_bad_line(input) {
         return bad_line(alloc, place);

@@ -11,15 +11,21 @@ use crate::words::{read_phrase, read_word};
 use content_tree::Number;
 use std::str;
 
-/// A name, an index and a name.
+/// A variant of an enum, as a line names it: `N i V`.
 #[derive(Clone, Copy, Debug, PartialEq, Eq)]
 pub struct Variant {
+    /// The name of the enum.
     pub name: &'static str,
+    /// The index of the variant.
     pub index: u32,
+    /// The name of the variant.
     pub variant: &'static str,
 }
 
-/// The call that a line spells, borrowed from the line: bytes are still digits.
+/// The call that a line spells, borrowed from the line.
+///
+/// Its variants are those of [`Call`](content_ser::Call). A text is the line's own, and bytes are
+/// still digits.
 #[derive(Clone, Copy, Debug, PartialEq, Eq)]
 pub enum Line<'a> {
     Unit,
