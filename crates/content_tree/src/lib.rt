@@ -12,6 +12,7 @@ mod error;
 mod expected;
 mod found;
 mod image;
+pub mod laws;
 mod number;
 mod owned;
 mod quote;
