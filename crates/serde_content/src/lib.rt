@@ -2,7 +2,8 @@
 #![tactic(auto)]
 
 pub use content_tree::{
-    CowBytes, CowStr, Data, DataType, Enum, Error, ErrorKind, Expected, Found, FoundData, Number, Result, Struct, Value,
+    CowBytes, CowStr, Data, DataType, Enum, Error, ErrorKind, Expected, Found, FoundData, Number,
+    Result, Struct, Value,
 };
 
 pub mod ser;
