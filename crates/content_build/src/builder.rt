@@ -19,6 +19,9 @@ use std::alloc::Global;
 /// spell a tree answers `Misplaced`, before any memory is taken for it. A call whose memory is
 /// refused answers `OutOfMemory`. Every call after either answers `Failed`. Hints and lengths
 /// reserve nothing. Each text and array of bytes is copied once; names are never copied.
+///
+/// Nothing in the tree is lent, so the lifetime is free: [`from_calls`](crate::from_calls) gives
+/// a value at any. As a [`Serializer`] the builder has the static one.
 #[derive(Drop)]
 pub struct Builder<'v> {
     frames: Frames<'v>,

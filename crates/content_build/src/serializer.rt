@@ -40,7 +40,7 @@ impl Serializer {
     ///
     /// Where the value's script stops, the error is of kind `Custom` with the stop's text. It is of
     /// kind `OutOfMemory` where a growth was refused. No other error comes.
-    pub fn serialize<'v, T: Serialize>(self, alloc: Global, value: &T) -> Result<Value<'v>>
+    pub fn serialize<T: Serialize>(self, alloc: Global, value: &T) -> Result<Value<'static>>
         ensures { Serialized (T.script value.now (is_readable self)) result }
     {
         let mut builder = Builder::new(alloc, self.human_readable);
