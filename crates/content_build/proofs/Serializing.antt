@@ -1,12 +1,12 @@
 -- What is serialised to a new builder.
-use Rattle.std.proofs.Common.{◌≡◌, ◌⊎◌, ℕ, Bool, true, false, List, [], ◌∷◌, ◌++◌, Option, Some, None, Result, Ok, Err, refl, sym, ap, subst, ◌∙◌, inl, inr, ⊎_elim}
+use Rattle.std.proofs.Common.{◌≡◌, ◌⊎◌, ℕ, Bool, true, false, List, [], ◌∷◌, ◌++◌, Option, Some, None, Result, Ok, Err, IsErrAnd, refl, sym, ap, subst, ◌∙◌, inl, inr, ⊎_elim}
 use Rattle.content_tree.specs.Kind.{IsOutOfMemory}
 use Rattle.content_tree.specs.Tree.{Tree}
 use Rattle.content_tree.specs.Value.{tree_of}
 use Rattle.content_tree.specs.declared.error.Error.{Error}
 use Rattle.content_tree.specs.declared.value.NamedValue.{NamedValue}
 use Rattle.content_ser.specs.Event.{Event}
-use Rattle.content_ser.specs.Lawful.{Script, calls_of, stop_of, Sent, RunsOut, RunsTo, Stopped, IsLawful, IsCustom}
+use Rattle.content_ser.specs.Lawful.{Script, Seen, Sends, calls_of, stop_of, Sent, RunsOut, RunsTo, Stopped, IsLawful, IsCustom}
 use Rattle.content_ser.specs.Spells.{SpellsWhole, IsWhole, IsViable}
 use Rattle.content_build.specs.Partial.{Partial, due, between, done, fresh, run, step}
 use Rattle.content_build.specs.Builder.{Finishes}
@@ -40,3 +40,23 @@ finished sc state r lawful none ran f =
     ends : (q : Result NamedValue Error) → Finishes false (done (lawful.whole none).0) q → Serialized sc q
     ends (Ok v) e = (none, subst (SpellsWhole (calls_of sc)) (sym e) (lawful.whole none).1)
     ends (Err e) m = inl m
+
+-- the exit of a `?`
+exit : (sc : Script) (r : Result NamedValue Error) (e : Error) → IsErrAnd r (λ x. x ≡ e) → Serialized sc (Err e) → Serialized sc r
+exit sc (Ok v) e is s = absurd is
+exit sc (Err x) e is s = subst (λ y. Serialized sc (Err y)) (sym is) s
+
+-- a script that a new builder refused, or that stopped
+pub sent_err : (sc : Bool → Script) (readable : Bool) (old new : Seen Partial) (e : Error) (r : Result NamedValue Error) → ((b : Bool) → IsLawful (sc b))
+    → old ≡ record { state = fresh; failed = false; readable = readable } → Sends step old sc (Err e) new → IsErrAnd r (λ x. x ≡ e) → Serialized (sc readable) r
+sent_err sc readable old new e r lawful is sent same =
+    let s = subst (λ o. Sends step o sc (Err e) new) is sent in
+    exit (sc readable) r e same (refused (sc readable) e new.failed new.state (lawful readable) (s.otherwise refl))
+
+-- a script that a new builder took whole
+pub sent_ok : (sc : Bool → Script) (readable : Bool) (old new : Seen Partial) (u : Unit {0}) (r : Result NamedValue Error) → ((b : Bool) → IsLawful (sc b))
+    → old ≡ record { state = fresh; failed = false; readable = readable } → Sends step old sc (Ok u) new → Finishes new.failed new.state r → Serialized (sc readable) r
+sent_ok sc readable old new u r lawful is sent f =
+    let s = subst (λ o. Sends step o sc (Ok u) new) is sent in
+    let t = s.otherwise refl in
+    finished (sc readable) new.state r (lawful readable) t.0 t.2 (subst (λ b. Finishes b new.state r) t.1 f)
