@@ -1,2 +1,4 @@
 pub mod Lists
 pub mod Sending
+mod DerivedEquality
+pub mod Equality

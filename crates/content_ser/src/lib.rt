@@ -4,6 +4,7 @@
 mod call;
 mod impls;
 mod serialize;
+pub mod laws;
 mod serializer;
 
 pub use call::Call;

@@ -1,4 +1,5 @@
 //! Tests over every crate, with expected values from the written rules.
+mod building;
 mod calls;
 mod conversions;
 mod copies;
