@@ -1,3 +1,4 @@
 pub mod Earned
 pub mod Parsed
 pub mod Texts
+pub mod Told
