@@ -3,9 +3,12 @@
 
 mod call;
 mod impls;
+mod loose_form;
+mod send;
 mod serialize;
 mod serializer;
 
 pub use call::Call;
+pub use loose_form::{loose_once, script_spells};
 pub use serialize::Serialize;
 pub use serializer::Serializer;
