@@ -1,5 +1,5 @@
 -- From the states of a run to what a list of calls is answered.
-use Rattle.std.proofs.Common.{◌≡◌, ◌≢◌, ℕ, zero, suc, ◌+◌, ◌<◌, ◌≤◌, Bool, true, false, List, [], ◌∷◌, ◌++◌, length, take, drop, get_or, Option, Some, None, IsSome, Result, Ok, Err, refl, sym, ap, subst, ◌∙◌, option_and_then, arith, append_assoc, inl, inr, ◌⊎◌, ⊎_elim}
+use Rattle.std.proofs.Common.{◌≡◌, ◌≢◌, ℕ, zero, suc, ◌+◌, ◌<◌, ◌≤◌, false, List, [], ◌∷◌, ◌++◌, length, take, drop, get_or, Option, Some, None, IsSome, Result, Ok, Err, refl, sym, ap, subst, ◌∙◌, option_and_then, arith, append_assoc, inl, inr, ⊎_elim}
 use Rattle.std.proofs.lemmas.List.{take_more, take-append-drop, take_all}
 use Rattle.std.proofs.lemmas.Bool.{cases_lt}
 use Rattle.content_tree.specs.Kind.{kind_of, IsOutOfMemory}
@@ -111,7 +111,7 @@ pub whole_run : (calls : List Call) (at : ℕ) (s : Partial) → length calls �
 whole_run calls at s h r = rw (take_all at calls h) at r
 
 -- a beginning of what is viable is viable
-beginning : (a b : List Event) → IsViable (a ++ b) → IsViable a
+pub beginning : (a b : List Event) → IsViable (a ++ b) → IsViable a
 beginning a b (more, (t, w)) = (b ++ more, (t, subst (λ l. SpellsWhole l t) (append_assoc a b more) w))
 
 beginning_take : (n : ℕ) (calls : List Event) → IsViable calls → IsViable (take n calls)

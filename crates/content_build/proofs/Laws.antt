@@ -1,13 +1,12 @@
 -- The machine and the grammar agree.
-use Rattle.std.proofs.Common.{◌≡◌, ℕ, List, [], ◌∷◌, ◌++◌, Option, Some, None, refl, sym, ap, subst, ◌∙◌, option_and_then, append-nil, ◌↔◌}
+use Rattle.std.proofs.Common.{◌≡◌, List, [], ◌∷◌, ◌++◌, Option, Some, None, refl, sym, ap, ◌∙◌, option_and_then, ◌↔◌}
 use Rattle.content_tree.specs.Tree as tree
 use Rattle.content_tree.specs.Tree.{Tree, Trees, no_trees, tree_then, Pairs, no_pairs, pair_then, Fields, no_fields, field_then}
-use Rattle.content_tree.specs.Text.{Text, static_name}
 use Rattle.content_ser.specs.Event as event
 use Rattle.content_ser.specs.Event.{Event}
 use Rattle.content_ser.specs.Kind.{wrapped}
-use Rattle.content_ser.specs.Spells.{Spells, SpellsWhole, IsWhole, IsViable}
-use Rattle.content_build.specs.Partial.{Partial, Place, Compound, due, between, done, in_row, in_map, in_record, child, element, key, value, entry_key, entry_value, field_value, fill, closed, step, run, fresh, push_tree, push_pair, push_field, set_last}
+use Rattle.content_ser.specs.Spells.{SpellsWhole, IsWhole, IsViable}
+use Rattle.content_build.specs.Partial.{Partial, Place, Compound, due, between, done, in_row, in_map, in_record, child, element, key, value, entry_key, entry_value, field_value, fill, closed, step, run, fresh}
 use Rattle.content_build.proofs.Forward.{run-spells}
 use Rattle.content_build.proofs.Backward.{whole_from_run, run-of_kinds}
 

@@ -1,10 +1,8 @@
 -- From the answer of a call in a partial tree to what the trait says of it, and to the place of refusal.
-use Rattle.std.proofs.Common.{◌≡◌, Bool, true, false, List, [], ◌∷◌, ◌++◌, Option, Some, None, Result, Ok, Err, refl, sym, subst, ◌∙◌, IsSome, option_and_then, ◌↔◌, inl, inr}
-use Rattle.content_tree.specs.Kind.{kind_of, IsOutOfMemory}
+use Rattle.std.proofs.Common.{◌≡◌, Bool, List, Option, Some, None, Ok, Err, refl, sym, subst, ◌∙◌, IsSome, option_and_then, inl, inr}
 use Rattle.content_tree.specs.declared.error.ErrorKind.TheVariants.{Misplaced, OutOfMemory}
 use Rattle.content_ser.specs.Event.{Event}
 use Rattle.content_ser.specs.Lawful.{Seen, Answer, Takes}
-use Rattle.content_ser.specs.Spells.{IsViable}
 use Rattle.content_build.specs.Partial.{Partial, step, run, fresh}
 use Rattle.content_build.specs.Taken.{Moves}
 use Rattle.content_build.specs.Builder.{has_failed, or_fresh, refuses, RefusedExactly, RefusesExactly}

@@ -23,7 +23,7 @@ or_fresh None = fresh
 or_fresh (Some s) = s
 
 -- the builder as a serialiser
-abbrev pub seen_of : Builder → Seen Partial
+unfoldable pub seen_of : Builder → Seen Partial
 seen_of b = record { state = or_fresh (partial_tree b.frames); failed = has_failed (partial_tree b.frames); readable = b.human_readable }
 
 -- with which error a builder refuses a call; nothing is said of what it keeps

@@ -5,3 +5,4 @@ pub mod Taken
 pub mod Builder
 pub mod Answers
 pub mod Recorder
+pub mod Serializer

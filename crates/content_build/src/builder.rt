@@ -28,6 +28,7 @@ pub struct Builder<'v> {
 impl<'v> Builder<'v> {
     /// A builder to which no call was made, which takes no memory. The flag is what
     /// [`is_human_readable`](Serializer::is_human_readable) answers; nothing else rests on it.
+    #[tactic(auto, unfolding(crate::specs::Builder::seen_of))]
     pub fn new(alloc: Global, human_readable: bool) -> Builder<'v>
         ensures { seen_of result ≡ record { state = fresh; failed = false; readable = human_readable } }
     {
@@ -51,6 +52,7 @@ impl<'v> Builder<'v> {
     ///
     /// It answers `Failed` where the builder has failed, and `Unfinished` where the calls spell no
     /// tree yet.
+    #[tactic(auto, unfolding(crate::specs::Builder::seen_of))]
     pub fn finish(self) -> Result<Value<'v>>
         ensures value { Finishes (seen_of self.entry).failed (seen_of self.entry).state result }
         // it takes no memory
@@ -60,7 +62,7 @@ impl<'v> Builder<'v> {
     }
 }
 
-impl<'v> Serializer for Builder<'v> {
+impl Serializer for Builder<'static> {
     ghost State = { Partial };
 
     ghost seen = { seen_of };
@@ -231,10 +233,12 @@ impl<'v> Serializer for Builder<'v> {
         self.take(&Call::End)
     }
 
+    #[tactic(auto, unfolding(crate::specs::Builder::seen_of))]
     fn is_human_readable(&self) -> bool {
         self.human_readable
     }
 
+    #[tactic(auto, unfolding(crate::specs::Builder::seen_of))]
     fn is_failed(&self) -> bool {
         self.frames.is_failed()
     }

@@ -9,8 +9,10 @@ mod kind;
 mod parts;
 mod places;
 mod recorder;
+mod serializer;
 
 pub use builder::Builder;
 pub use calls::from_calls;
 pub use calls_error::CallsError;
 pub use recorder::Recorder;
+pub use serializer::Serializer;

@@ -4,3 +4,5 @@ pub mod Placing
 pub mod Walking
 pub mod Spelling
 pub mod Twice
+mod DerivedEquality
+pub mod Equality

@@ -3,6 +3,7 @@ use Rattle.std.specs.Prelude.{ℕ, suc, Bool, List, ◌++◌, codes, Some, if◌
 use Rattle.content_tree.specs.Text.{Text}
 use Rattle.content_tree.specs.Tree as tree
 use Rattle.content_tree.specs.Tree.{Tree, Payload, Trees, Pairs, Fields}
+use Rattle.content_tree.specs.Printed.{quoted}
 use Rattle.content_ser.specs.Event as event
 use Rattle.content_ser.specs.Event.{Event}
 use Rattle.content_ser.specs.Lawful.{Script, done, stop_with, call_then, and_then}
@@ -10,7 +11,7 @@ use Rattle.content_ser.specs.Loose.{loose}
 
 -- the text with which sending stops at a field with an owned key
 abbrev pub owned_key_text : List ℕ → List ℕ
-owned_key_text k = codes "failed to deserialize; expected a static string slice, found " ++ k
+owned_key_text k = codes "failed to deserialize; expected a static string slice, found " ++ quoted k
 
 -- a field's key: a call, or a stop where it is owned
 abbrev pub key_script : Text → Script

@@ -1,11 +1,11 @@
 //! Serialiser calls as data.
 
-use content_tree::{CowBytes, CowStr, Number, Result};
-use std::alloc::Global;
-
 ghost use Rattle.std.specs.Prelude.{◌≡◌, true, IfOk, IfErr, IfSome, IsOk};
 ghost use Rattle.content_tree.specs.Kind.{IsOutOfMemory};
 ghost use Rattle.content_ser.specs.Call.{event_of, text_part};
+
+use content_tree::{CowBytes, CowStr, Number, Result};
+use std::alloc::Global;
 
 /// One call on a serialiser, of the 26 kinds that Serde's data model has without floats.
 ///
@@ -83,23 +83,34 @@ impl<'a> Call<'a> {
             Call::Number(n) => Call::Number(*n),
             Call::Char(c) => Call::Char(*c),
             Call::Str(CowStr::Borrowed(text)) => Call::Str(CowStr::Borrowed(text)),
-            Call::Str(CowStr::Owned(text)) => Call::Str(CowStr::Owned(String::from_str(alloc, text.as_str())?)),
+            Call::Str(CowStr::Owned(text)) => Call::Str(CowStr::Owned(String::from_str(
+                alloc,
+                text.as_str(),
+            )?)),
             Call::Bytes(CowBytes::Borrowed(bytes)) => Call::Bytes(CowBytes::Borrowed(bytes)),
-            Call::Bytes(CowBytes::Owned(bytes)) => Call::Bytes(CowBytes::Owned(bytes.as_slice().to_vec(alloc)?)),
+            Call::Bytes(CowBytes::Owned(bytes)) => Call::Bytes(CowBytes::Owned(
+                bytes.as_slice().to_vec(alloc)?,
+            )),
             Call::Unit => Call::Unit,
             Call::NoneCall => Call::NoneCall,
             Call::SomeCall => Call::SomeCall,
             Call::UnitStruct(name) => Call::UnitStruct(name),
             Call::UnitVariant(name, index, variant) => Call::UnitVariant(name, *index, variant),
             Call::NewtypeStruct(name) => Call::NewtypeStruct(name),
-            Call::NewtypeVariant(name, index, variant) => Call::NewtypeVariant(name, *index, variant),
+            Call::NewtypeVariant(name, index, variant) => Call::NewtypeVariant(
+                name, *index, variant,
+            ),
             Call::Seq(hint) => Call::Seq(*hint),
             Call::Tuple(len) => Call::Tuple(*len),
             Call::TupleStruct(name, len) => Call::TupleStruct(name, *len),
-            Call::TupleVariant(name, index, variant, len) => Call::TupleVariant(name, *index, variant, *len),
+            Call::TupleVariant(name, index, variant, len) => Call::TupleVariant(
+                name, *index, variant, *len,
+            ),
             Call::Map(hint) => Call::Map(*hint),
             Call::Struct(name, len) => Call::Struct(name, *len),
-            Call::StructVariant(name, index, variant, len) => Call::StructVariant(name, *index, variant, *len),
+            Call::StructVariant(name, index, variant, len) => Call::StructVariant(
+                name, *index, variant, *len,
+            ),
             Call::Element => Call::Element,
             Call::TupleField => Call::TupleField,
             Call::Field(key) => Call::Field(key),

@@ -3,6 +3,7 @@
 
 mod call;
 mod impls;
+pub mod laws;
 mod loose_form;
 mod send;
 mod serialize;

@@ -21,6 +21,7 @@ use Rattle.content_tree.specs.contracts.expected.ExpectedOrd.TheImpl as expected
 use Rattle.content_tree.specs.contracts.error.ErrorKindOrd.TheImpl as kind_ord
 use Rattle.content_tree.specs.contracts.error.ErrorOrd.TheImpl as error_ord
 
+-- what structs and variants hold
 pub type_order : (a b : DataType) → (type_ord.ghosts).cmp a b ≡ type_cmp a b
 type_order kind.Unit kind.Unit = refl
 type_order kind.NewType kind.NewType = refl
@@ -28,6 +29,7 @@ type_order kind.Tuple kind.Tuple = refl
 type_order kind.Struct kind.Struct = refl
 type_order a b = refl
 
+-- numbers
 pub number_order : (a b : Number) → (number_ord.ghosts).cmp a b ≡ number_cmp a b
 number_order (num.I8 a) (num.I8 b) = refl
 number_order (num.U8 a) (num.U8 b) = refl
@@ -41,16 +43,20 @@ number_order (num.I128 a) (num.I128 b) = refl
 number_order (num.U128 a) (num.U128 b) = refl
 number_order a b = refl
 
+-- what a struct or a variant may hold
 types_order : (a b : Option DataType) → option_cmp (type_ord.ghosts).cmp a b ≡ option_cmp type_cmp a b
 types_order None None = refl
 types_order None (Some u) = refl
 types_order (Some t) None = refl
 types_order (Some t) (Some u) = type_order t u
 
+-- a name and a type
 named : (n m : Option (String Global)) (t u : Option DataType) →
-    ordering_then (option_cmp string_cmp n m) (option_cmp (type_ord.ghosts).cmp t u) ≡ ordering_then (option_cmp string_cmp n m) (option_cmp type_cmp t u)
+    ordering_then (option_cmp string_cmp n m) (option_cmp (type_ord.ghosts).cmp t u)
+    ≡ ordering_then (option_cmp string_cmp n m) (option_cmp type_cmp t u)
 named n m t u = ap (ordering_then (option_cmp string_cmp n m)) (types_order t u)
 
+-- expectations
 pub expected_order : (a b : Expected) → (expected_ord.ghosts).cmp a b ≡ expected_cmp a b
 expected_order want.Unit want.Unit = refl
 expected_order want.Bool want.Bool = refl
@@ -76,8 +82,10 @@ expected_order want.I128 want.I128 = refl
 expected_order want.U128 want.U128 = refl
 expected_order a b = refl
 
+-- kinds of errors
 pub kind_order : (a b : ErrorKind) → (kind_ord.ghosts).cmp a b ≡ kind_cmp a b
-kind_order (error.Unexpected f e) (error.Unexpected g d) = ap (ordering_then (image_cmp (image_view f) (image_view g))) (expected_order e d)
+kind_order (error.Unexpected f e) (error.Unexpected g d) =
+    ap (ordering_then (image_cmp (image_view f) (image_view g))) (expected_order e d)
 kind_order (error.Custom a) (error.Custom b) = refl
 kind_order error.OutOfMemory error.OutOfMemory = refl
 kind_order error.Misplaced error.Misplaced = refl
@@ -85,5 +93,6 @@ kind_order error.Failed error.Failed = refl
 kind_order error.Unfinished error.Unfinished = refl
 kind_order a b = refl
 
+-- errors
 pub error_order : (a b : Error) → (error_ord.ghosts).cmp a b ≡ error_cmp a b
 error_order a b = kind_order a.kind b.kind

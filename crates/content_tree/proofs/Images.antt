@@ -1,5 +1,5 @@
 -- Lists of values, each as its image.
-use Rattle.std.proofs.Common.{◌≡◌, ℕ, List, [], ◌∷◌, ◌++◌, map, length, refl, ap, ◌∙◌, arith, append-nil}
+use Rattle.std.proofs.Common.{◌≡◌, ℕ, List, [], ◌∷◌, map, refl, ap}
 use Rattle.content_tree.specs.Text.{text_of}
 use Rattle.content_tree.specs.Value.{tree_of, trees_view, pairs_view, fields_view}
 use Rattle.content_tree.specs.declared.cow.CowStr.{CowStr}
@@ -34,8 +34,3 @@ pairs_found (p ∷ ps) = ap (image.entry_then (image (tree_of p.0)) (image (tree
 pub fields_found : (fs : List (CowStr × NamedValue)) → members_of (map field_image fs) ≡ image_fields (fields_view fs)
 fields_found [] = refl
 fields_found (f ∷ fs) = ap (image.member_then (text_of f.0).content (image (tree_of f.1))) (fields_found fs)
-
--- a list whose end has no items
-pub nothing_left : {A : Type 0} (xs ys zs : List A) → xs ≡ ys ++ zs → length zs ≡ 0 → xs ≡ ys
-nothing_left xs ys [] all none = all ∙ append-nil ys
-nothing_left xs ys (z ∷ zs) all none = absurd (omega arith)

@@ -57,7 +57,8 @@ abbrev mutual
   image_cmp (present a) absent = Greater
   image_cmp (present a) (present b) = image_cmp a b
   image_cmp (structure n c) (structure m d) = ordering_then (bytes_cmp n m) (content_cmp c d)
-  image_cmp (enumeration n v c) (enumeration m w d) = ordering_then (bytes_cmp n m) (ordering_then (bytes_cmp v w) (content_cmp c d))
+  image_cmp (enumeration n v c) (enumeration m w d) =
+      ordering_then (bytes_cmp n m) (ordering_then (bytes_cmp v w) (content_cmp c d))
   image_cmp (tuple a) (tuple b) = images_cmp a b
   image_cmp (identifier a) (identifier b) = bytes_cmp a b
   image_cmp a b = nat_cmp (image_rank a) (image_rank b)
@@ -80,13 +81,15 @@ abbrev mutual
   entries_cmp no_entries no_entries = Equal
   entries_cmp no_entries (entry_then l j fs) = Less
   entries_cmp (entry_then k i es) no_entries = Greater
-  entries_cmp (entry_then k i es) (entry_then l j fs) = ordering_then (image_cmp k l) (ordering_then (image_cmp i j) (entries_cmp es fs))
+  entries_cmp (entry_then k i es) (entry_then l j fs) =
+      ordering_then (image_cmp k l) (ordering_then (image_cmp i j) (entries_cmp es fs))
 
   pub members_cmp : Members → Members → Ordering
   members_cmp no_members no_members = Equal
   members_cmp no_members (member_then l j ns) = Less
   members_cmp (member_then k i ms) no_members = Greater
-  members_cmp (member_then k i ms) (member_then l j ns) = ordering_then (bytes_cmp k l) (ordering_then (image_cmp i j) (members_cmp ms ns))
+  members_cmp (member_then k i ms) (member_then l j ns) =
+      ordering_then (bytes_cmp k l) (ordering_then (image_cmp i j) (members_cmp ms ns))
 
 -- two images are the same if the order finds neither less
 abbrev pub same_image : Image → Image → Bool

@@ -12,9 +12,6 @@ pub mod Fault
 pub mod Order
 pub mod Ranked
 pub mod RankedTree
-pub mod Decide
-pub mod SameTree
 pub mod ImageOrder
 pub mod RankedImage
-pub mod SameImage
 pub mod ErrorOrder

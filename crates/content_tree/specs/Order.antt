@@ -79,7 +79,8 @@ abbrev mutual
   tree_cmp (present a) absent = Greater
   tree_cmp (present a) (present b) = tree_cmp a b
   tree_cmp (structure n p) (structure m q) = ordering_then (text_cmp n m) (payload_cmp p q)
-  tree_cmp (enumeration n i v p) (enumeration m j w q) = ordering_then (text_cmp n m) (ordering_then (nat_cmp i j) (ordering_then (text_cmp v w) (payload_cmp p q)))
+  tree_cmp (enumeration n i v p) (enumeration m j w q) =
+      ordering_then (text_cmp n m) (ordering_then (nat_cmp i j) (ordering_then (text_cmp v w) (payload_cmp p q)))
   tree_cmp (tuple a) (tuple b) = trees_cmp a b
   tree_cmp a b = nat_cmp (tree_rank a) (tree_rank b)
 
@@ -101,13 +102,15 @@ abbrev mutual
   pairs_cmp no_pairs no_pairs = Equal
   pairs_cmp no_pairs (pair_then l u qs) = Less
   pairs_cmp (pair_then k t ps) no_pairs = Greater
-  pairs_cmp (pair_then k t ps) (pair_then l u qs) = ordering_then (tree_cmp k l) (ordering_then (tree_cmp t u) (pairs_cmp ps qs))
+  pairs_cmp (pair_then k t ps) (pair_then l u qs) =
+      ordering_then (tree_cmp k l) (ordering_then (tree_cmp t u) (pairs_cmp ps qs))
 
   pub fields_cmp : Fields → Fields → Ordering
   fields_cmp no_fields no_fields = Equal
   fields_cmp no_fields (field_then l u gs) = Less
   fields_cmp (field_then k t fs) no_fields = Greater
-  fields_cmp (field_then k t fs) (field_then l u gs) = ordering_then (text_cmp k l) (ordering_then (tree_cmp t u) (fields_cmp fs gs))
+  fields_cmp (field_then k t fs) (field_then l u gs) =
+      ordering_then (text_cmp k l) (ordering_then (tree_cmp t u) (fields_cmp fs gs))
 
 -- two trees are the same if the order finds neither less
 abbrev pub same_tree : Tree → Tree → Bool

@@ -5,13 +5,15 @@ use Rattle.std.specs.Ordering.{ordering_reverse, ordering_then, int_cmp, then_cm
 use Rattle.std.specs.Cmp.{IsTotalOrder, nat_cmp_total, int_cmp_total, then_total, on_total, alike_right}
 use Rattle.std.specs.Cmp.Lexicographic.{slice_cmp, nat_list_cmp_total}
 
--- a case's place, a number below zero or above, and bytes
+-- the place of the case, a place within it, a signed number, and bytes or an unsigned number
 abbrev pub Label : Type 0
 Label = ℕ × ℕ × ℤ × List ℕ
 
 -- labels go part by part
 abbrev pub label_cmp : Label → Label → Ordering
-label_cmp = then_cmp (on (λ l. l.0) nat_cmp) (then_cmp (on (λ l. l.1) nat_cmp) (then_cmp (on (λ l. l.2) int_cmp) (on (λ l. l.3) (slice_cmp nat_cmp))))
+label_cmp =
+    then_cmp (on (λ l. l.0) nat_cmp) (then_cmp (on (λ l. l.1) nat_cmp)
+    (then_cmp (on (λ l. l.2) int_cmp) (on (λ l. l.3) (slice_cmp nat_cmp))))
 
 mutual
   -- a label and children
@@ -34,21 +36,25 @@ abbrev mutual
   children_cmp (child_then r rs) no_children = Greater
   children_cmp (child_then r rs) (child_then s ss) = ordering_then (ranked_cmp r s) (children_cmp rs ss)
 
+-- nothing after it
 pub then_equal : (a : Ordering) → ordering_then a Equal ≡ a
 then_equal Less = refl
 then_equal Equal = refl
 then_equal Greater = refl
 
+-- one after another
 pub then_assoc : (a b c : Ordering) → ordering_then (ordering_then a b) c ≡ ordering_then a (ordering_then b c)
 then_assoc Less b c = refl
 then_assoc Equal b c = refl
 then_assoc Greater b c = refl
 
+-- the other way round
 then_reverse : (a b : Ordering) → ordering_reverse (ordering_then a b) ≡ ordering_then (ordering_reverse a) (ordering_reverse b)
 then_reverse Less b = refl
 then_reverse Equal b = refl
 then_reverse Greater b = refl
 
+-- labels are ordered
 label_total : IsTotalOrder label_cmp
 label_total =
     then_total (on_total (λ (l : Label). l.0) nat_cmp_total)
@@ -60,7 +66,8 @@ abbrev Triple : Ordering → Ordering → Ordering → Type 0
 Triple a b c = (a ≡ Less → b ≡ Less → c ≡ Less) × (a ≡ Equal → c ≡ b) × (b ≡ Equal → c ≡ a)
 
 -- the same of one comparison and then another
-chained : (a a' a'' b b' b'' : Ordering) → Triple a a' a'' → Triple b b' b'' → Triple (ordering_then a b) (ordering_then a' b') (ordering_then a'' b'')
+chained : (a a' a'' b b' b'' : Ordering) → Triple a a' a'' → Triple b b' b'' →
+    Triple (ordering_then a b) (ordering_then a' b') (ordering_then a'' b'')
 chained Less Less a'' b b' b'' p q = rw (p.0 refl refl) (λ e f. refl, λ e. absurd (cc e), λ e. absurd (cc e))
 chained Less Equal a'' b b' b'' p q = rw (p.2 refl) (λ e f. refl, λ e. absurd (cc e), λ e. refl)
 chained Less Greater a'' b b' b'' p q = (λ e f. absurd (cc f), λ e. absurd (cc e), λ e. absurd (cc e))
@@ -71,19 +78,24 @@ chained Greater Less a'' b b' b'' p q = (λ e f. absurd (cc e), λ e. absurd (cc
 chained Greater Equal a'' b b' b'' p q = rw (p.2 refl) (λ e f. absurd (cc e), λ e. absurd (cc e), λ e. refl)
 chained Greater Greater a'' b b' b'' p q = (λ e f. absurd (cc e), λ e. absurd (cc e), λ e. absurd (cc e))
 
+-- three labels
 label_triple : (x y z : Label) → Triple (label_cmp x y) (label_cmp y z) (label_cmp x z)
 label_triple x y z = (label_total.trans x y z, label_total.congr x y z, λ e. sym (alike_right label_total y z x e))
 
+-- ranked trees the other way round
 mutual
   turned : (x y : Ranked) → ranked_cmp x y ≡ ordering_reverse (ranked_cmp y x)
-  turned (ranked l rs) (ranked m ss) = rw (label_total.antisymm l m, turned_each rs ss) (sym (then_reverse (label_cmp m l) (children_cmp ss rs)))
+  turned (ranked l rs) (ranked m ss) =
+      rw (label_total.antisymm l m, turned_each rs ss) (sym (then_reverse (label_cmp m l) (children_cmp ss rs)))
 
   turned_each : (rs ss : Children) → children_cmp rs ss ≡ ordering_reverse (children_cmp ss rs)
   turned_each no_children no_children = refl
   turned_each no_children (child_then s ss) = refl
   turned_each (child_then r rs) no_children = refl
-  turned_each (child_then r rs) (child_then s ss) = rw (turned r s, turned_each rs ss) (sym (then_reverse (ranked_cmp s r) (children_cmp ss rs)))
+  turned_each (child_then r rs) (child_then s ss) =
+      rw (turned r s, turned_each rs ss) (sym (then_reverse (ranked_cmp s r) (children_cmp ss rs)))
 
+-- three ranked trees
 mutual
   triple : (x y z : Ranked) → Triple (ranked_cmp x y) (ranked_cmp y z) (ranked_cmp x z)
   triple (ranked l rs) (ranked m ss) (ranked n ts) = chained _ _ _ _ _ _ (label_triple l m n) (triple_each rs ss ts)

@@ -22,7 +22,8 @@ abbrev mutual
   rank absent = leaf 8 0 (pos 0) []
   rank (present i) = ranked (8, 1, pos 0, []) (child_then (rank i) no_children)
   rank (structure n c) = ranked (9, 0, pos 0, n) (child_then (rank_content c) no_children)
-  rank (enumeration n v c) = ranked (10, 0, pos 0, n) (child_then (leaf 0 0 (pos 0) v) (child_then (rank_content c) no_children))
+  rank (enumeration n v c) =
+      ranked (10, 0, pos 0, n) (child_then (leaf 0 0 (pos 0) v) (child_then (rank_content c) no_children))
   rank (tuple is) = ranked (11, 0, pos 0, []) (rank_each is)
   rank (identifier t) = leaf 12 0 (pos 0) t
 
@@ -87,7 +88,8 @@ mutual
   entries_as no_entries no_entries = refl
   entries_as no_entries (entry_then l j fs) = refl
   entries_as (entry_then k i es) no_entries = refl
-  entries_as (entry_then k i es) (entry_then l j fs) = λ p. ordering_then (image_as k l p) (ordering_then (image_as i j p) (entries_as es fs p))
+  entries_as (entry_then k i es) (entry_then l j fs) =
+      λ p. ordering_then (image_as k l p) (ordering_then (image_as i j p) (entries_as es fs p))
 
   members_as : (ms ns : Members) → members_cmp ms ns ≡ children_cmp (rank_members ms) (rank_members ns)
   members_as no_members no_members = refl
@@ -104,15 +106,18 @@ image_total = subst (λ R. IsTotalOrder R) (λ i a b. sym (image_as a b) i) (on_
 pub content_total : IsTotalOrder content_cmp
 content_total = subst (λ R. IsTotalOrder R) (λ i a b. sym (content_as a b) i) (on_total rank_content ranked_total)
 
--- the tests of images and contents are equivalences, and agree with the orders
+-- the test of images is an equivalence
 pub image_equiv : IsEquivalence same_image
 image_equiv = eq_by_cmp_equiv image_total
 
+-- the order of images agrees with their test
 pub image_partial_order : IsPartialOrder same_image (as_partial_cmp image_cmp)
 image_partial_order = partial_order_from_total image_total
 
+-- the test of contents is an equivalence
 pub content_equiv : IsEquivalence same_content
 content_equiv = eq_by_cmp_equiv content_total
 
+-- the order of contents agrees with their test
 pub content_partial_order : IsPartialOrder same_content (as_partial_cmp content_cmp)
 content_partial_order = partial_order_from_total content_total

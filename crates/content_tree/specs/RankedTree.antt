@@ -62,7 +62,8 @@ abbrev mutual
   rank absent = leaf 8 0 (pos 0) []
   rank (present t) = ranked (8, 1, pos 0, []) (child_then (rank t) no_children)
   rank (structure n p) = ranked (9, 0, pos 0, n.content) (child_then (rank_payload p) no_children)
-  rank (enumeration n i v p) = ranked (10, 0, pos 0, n.content) (child_then (leaf 0 i (pos 0) v.content) (child_then (rank_payload p) no_children))
+  rank (enumeration n i v p) =
+      ranked (10, 0, pos 0, n.content) (child_then (leaf 0 i (pos 0) v.content) (child_then (rank_payload p) no_children))
   rank (tuple ts) = ranked (11, 0, pos 0, []) (rank_each ts)
 
   rank_payload : Payload → Ranked
@@ -83,8 +84,7 @@ abbrev mutual
   rank_fields no_fields = no_children
   rank_fields (field_then k t fs) = child_then (leaf 0 0 (pos 0) k.content) (child_then (rank t) (rank_fields fs))
 
--- each comparison is that of the ranked trees
-
+-- numbers go as their ranked trees
 pub number_as : (a b : Number) → number_cmp a b ≡ ranked_cmp (number_leaf a) (number_leaf b)
 number_as (num.I8 a) (num.I8 b) = sym (then_equal _ ∙ then_equal _)
 number_as (num.U8 a) (num.U8 b) = sym (then_equal _ ∙ then_equal _)
@@ -98,6 +98,7 @@ number_as (num.I128 a) (num.I128 b) = sym (then_equal _ ∙ then_equal _)
 number_as (num.U128 a) (num.U128 b) = sym (then_equal _ ∙ then_equal _)
 number_as a b = refl
 
+-- each comparison is that of the ranked trees
 mutual
   tree_as : (t u : Tree) → tree_cmp t u ≡ ranked_cmp (rank t) (rank u)
   tree_as unit unit = refl
@@ -118,9 +119,11 @@ mutual
   tree_as (structure n p) (structure m q) = ap (ordering_then (text_cmp n m)) (payload_as p q ∙ sym (then_equal _))
   tree_as (enumeration n i v p) (enumeration m j w q) =
       let payloads = payload_as p q ∙ sym (then_equal _) in
-      let after : Ordering → Ordering = λ o. ordering_then o (ordering_then (ranked_cmp (rank_payload p) (rank_payload q)) Equal) in
-      let variants = ap after (then_equal (ordering_then (nat_cmp i j) (text_cmp v w))) ∙ then_assoc (nat_cmp i j) (text_cmp v w) _ in
-      ap (ordering_then (text_cmp n m)) (ap (λ o. ordering_then (nat_cmp i j) (ordering_then (text_cmp v w) o)) payloads ∙ sym variants)
+      let rest = ordering_then (ranked_cmp (rank_payload p) (rank_payload q)) Equal in
+      let labels = then_equal (ordering_then (nat_cmp i j) (text_cmp v w)) in
+      let variants = ap (λ o. ordering_then o rest) labels ∙ then_assoc (nat_cmp i j) (text_cmp v w) rest in
+      let places = ap (λ o. ordering_then (nat_cmp i j) (ordering_then (text_cmp v w) o)) payloads in
+      ap (ordering_then (text_cmp n m)) (places ∙ sym variants)
   tree_as (tuple a) (tuple b) = trees_as a b
   tree_as t u = refl
 
@@ -141,13 +144,15 @@ mutual
   pairs_as no_pairs no_pairs = refl
   pairs_as no_pairs (pair_then l u qs) = refl
   pairs_as (pair_then k t ps) no_pairs = refl
-  pairs_as (pair_then k t ps) (pair_then l u qs) = λ i. ordering_then (tree_as k l i) (ordering_then (tree_as t u i) (pairs_as ps qs i))
+  pairs_as (pair_then k t ps) (pair_then l u qs) =
+      λ i. ordering_then (tree_as k l i) (ordering_then (tree_as t u i) (pairs_as ps qs i))
 
   fields_as : (fs gs : Fields) → fields_cmp fs gs ≡ children_cmp (rank_fields fs) (rank_fields gs)
   fields_as no_fields no_fields = refl
   fields_as no_fields (field_then l u gs) = refl
   fields_as (field_then k t fs) no_fields = refl
-  fields_as (field_then k t fs) (field_then l u gs) = λ i. ordering_then (sym (then_equal (text_cmp k l)) i) (ordering_then (tree_as t u i) (fields_as fs gs i))
+  fields_as (field_then k t fs) (field_then l u gs) =
+      λ i. ordering_then (sym (then_equal (text_cmp k l)) i) (ordering_then (tree_as t u i) (fields_as fs gs i))
 
 -- the order of trees is total
 pub tree_total : IsTotalOrder tree_cmp
@@ -157,15 +162,18 @@ tree_total = subst (λ R. IsTotalOrder R) (λ i x y. sym (tree_as x y) i) (on_to
 pub payload_total : IsTotalOrder payload_cmp
 payload_total = subst (λ R. IsTotalOrder R) (λ i x y. sym (payload_as x y) i) (on_total rank_payload ranked_total)
 
--- the tests of trees and payloads are equivalences, and agree with the orders
+-- the test of trees is an equivalence
 pub tree_equiv : IsEquivalence same_tree
 tree_equiv = eq_by_cmp_equiv tree_total
 
+-- the order of trees agrees with their test
 pub tree_partial_order : IsPartialOrder same_tree (as_partial_cmp tree_cmp)
 tree_partial_order = partial_order_from_total tree_total
 
+-- the test of payloads is an equivalence
 pub payload_equiv : IsEquivalence same_payload
 payload_equiv = eq_by_cmp_equiv payload_total
 
+-- the order of payloads agrees with their test
 pub payload_partial_order : IsPartialOrder same_payload (as_partial_cmp payload_cmp)
 payload_partial_order = partial_order_from_total payload_total

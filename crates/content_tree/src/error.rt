@@ -52,9 +52,7 @@ impl From<AllocError> for Error {
     ghost from_gives = { λ _ e. IsOutOfMemory e };
 
     fn from(_refused: AllocError) -> Error {
-        Error {
-            kind: ErrorKind::OutOfMemory,
-        }
+        Error::from(ErrorKind::OutOfMemory)
     }
 }
 
@@ -102,7 +100,8 @@ impl Error {
     pub fn into_kind(self) -> ErrorKind
         ensures { result ≡ kind_of self }
     {
-        self.kind
+        let Error { kind } = self;
+        kind
     }
 }
 

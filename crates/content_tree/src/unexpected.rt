@@ -3,16 +3,16 @@ ghost use Rattle.std.specs.Prelude.{Bool, true, false, ◌≡◌, MatchResult};
 ghost use Rattle.content_tree.specs.declared.error.ErrorKind.TheVariants as kind;
 ghost use Rattle.content_tree.specs.Value.{tree_of, struct_tree, enum_tree};
 ghost use Rattle.content_tree.specs.Image.{Image, image, number};
-ghost use Rattle.content_tree.specs.Kind.{kind_of, IsOutOfMemory};
+ghost use Rattle.content_tree.specs.Kind.{kind_of};
 ghost use Rattle.content_tree.specs.Unexpected.{IsUnexpected};
 
-use crate::error::Error;
+use crate::error::{Error, Result};
 use crate::expected::Expected;
 use crate::found::Found;
-use crate::image::{found_enum, found_struct, found_value};
+use crate::image::{found_enum, found_struct};
 use crate::number::Number;
 use crate::value::{NamedEnum, NamedStruct, NamedValue};
-use std::alloc::{AllocError, Global};
+use std::alloc::Global;
 
 /// What can be found where something else was expected.
 pub trait Unexpected {
@@ -45,7 +45,7 @@ impl<'a, 'n> Unexpected for NamedValue<'a, 'n> {
     ghost takes_memory = { true };
 
     fn unexpected(self, alloc: Global, expected: Expected) -> Error {
-        refusal(found_value(alloc, self), expected)
+        refusal(self.into_found(alloc), expected)
     }
 }
 
@@ -69,12 +69,12 @@ impl<'a, 'n> Unexpected for Box<NamedEnum<'a, 'n>> {
     }
 }
 
-/// The error of an image, or of a growth that was refused while the image was made.
-fn refusal(found: Result<Found, AllocError>, expected: Expected) -> Error
-    ensures { MatchResult found (λ f. kind_of result ≡ kind.Unexpected f expected) (λ _. IsOutOfMemory result) }
+/// The error of an image, or the error of making it.
+fn refusal(found: Result<Found>, expected: Expected) -> Error
+    ensures { MatchResult found (λ f. kind_of result ≡ kind.Unexpected f expected) (λ e. result ≡ e) }
 {
     match found {
         Ok(found) => Error::unexpected(found, expected),
-        Err(refused) => Error::from(refused),
+        Err(error) => error,
     }
 }

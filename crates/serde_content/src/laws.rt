@@ -8,11 +8,9 @@ ghost use Rattle.content_ser.specs.Laws.{OneTree, UniqueCut};
 /// way only.
 pub fn unique_cut()
     ensures { UniqueCut }
-{
-}
+{}
 
 /// One list of calls spells one tree.
 pub fn one_tree()
     ensures { OneTree }
-{
-}
+{}

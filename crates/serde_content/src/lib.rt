@@ -1,6 +1,7 @@
 //! A container for any value of Serde's data model.
 #![tactic(auto)]
 
+pub use content_build::Serializer;
 pub use content_tree::{
     CowBytes, CowStr, Data, DataType, Enum, Error, ErrorKind, Expected, Found, FoundData, Number,
     Result, Struct, Unexpected, Value,

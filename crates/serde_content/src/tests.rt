@@ -1,4 +1,5 @@
 //! Tests over every crate, with expected values from the written rules.
+mod building;
 mod calls;
 mod conversions;
 mod copies;
@@ -6,4 +7,6 @@ mod every_case;
 mod images;
 mod order;
 mod recording;
+mod sending;
+mod sending_values;
 mod texts;

@@ -1,5 +1,7 @@
 //! Images are compared case by case, and then by contents.
 
+// Two are equal exactly if they stand for the same image: `images_tie` and `contents_tie` of `proofs/SameImage.antt`.
+
 ghost use Rattle.std.specs.Prelude.{Some, refl};
 ghost use Rattle.std.specs.Cmp.{on_per, on_equiv, on_po, on_total, partial_equiv_from_equiv};
 ghost use Rattle.content_tree.specs.Found.{image_view, content_view};

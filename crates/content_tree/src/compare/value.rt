@@ -1,5 +1,8 @@
 //! Values, structs, variants and their data are compared as trees, without marks.
 
+// Two are equal exactly if their trees are equal with the marks taken off: `trees_tie` and `payloads_tie` of
+// `proofs/SameTree.antt`. So the order finds neither less exactly if they are equal.
+
 ghost use Rattle.std.specs.Prelude.{◌≡◌, Some, refl};
 ghost use Rattle.std.specs.Cmp.{on_per, on_equiv, on_po, on_total, partial_equiv_from_equiv};
 ghost use Rattle.content_tree.specs.Order.{tree_cmp, payload_cmp, same_tree, same_payload};

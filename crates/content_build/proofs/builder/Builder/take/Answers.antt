@@ -1,11 +1,13 @@
 use Rattle.std.proofs.Common.{subst}
 use Rattle.content_ser.specs.Call.{event_of}
+use Rattle.content_build.specs.Builder.{seen_of}
 use Rattle.content_build.specs.Frames.{partial_tree}
 use Rattle.content_build.specs.Taken.{Turns}
 use Rattle.content_build.proofs.Taking.{taken, refuses_exactly}
 use Rattle.content_build.proofs.builder.Builder.take.Goals as goal
 
 pub returns-clause-taken : goal.returns-clause-taken
+unfolding seen_of
 returns-clause-taken c =
     let old = partial_tree c.args.self.now.frames in
     let new = partial_tree c.take.new.self in
@@ -13,6 +15,7 @@ returns-clause-taken c =
     (subst (λ k. Turns old k c.take.result new) c.of.ensures c.take.ensures)
 
 pub returns-clause-exact : goal.returns-clause-exact
+unfolding seen_of
 returns-clause-exact c =
     let old = partial_tree c.args.self.now.frames in
     let new = partial_tree c.take.new.self in

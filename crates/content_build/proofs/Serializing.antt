@@ -1,0 +1,42 @@
+-- What is serialised to a new builder.
+use Rattle.std.proofs.Common.{◌≡◌, ◌⊎◌, ℕ, Bool, true, false, List, [], ◌∷◌, ◌++◌, Option, Some, None, Result, Ok, Err, refl, sym, ap, subst, ◌∙◌, inl, inr, ⊎_elim}
+use Rattle.content_tree.specs.Kind.{IsOutOfMemory}
+use Rattle.content_tree.specs.Tree.{Tree}
+use Rattle.content_tree.specs.Value.{tree_of}
+use Rattle.content_tree.specs.declared.error.Error.{Error}
+use Rattle.content_tree.specs.declared.value.NamedValue.{NamedValue}
+use Rattle.content_ser.specs.Event.{Event}
+use Rattle.content_ser.specs.Lawful.{Script, calls_of, stop_of, Sent, RunsOut, RunsTo, Stopped, IsLawful, IsCustom}
+use Rattle.content_ser.specs.Spells.{SpellsWhole, IsWhole, IsViable}
+use Rattle.content_build.specs.Partial.{Partial, due, between, done, fresh, run, step}
+use Rattle.content_build.specs.Builder.{Finishes}
+use Rattle.content_build.specs.Serializer.{Serialized}
+use Rattle.content_build.proofs.Laws.{run_from_whole, run_from_viable}
+use Rattle.content_build.proofs.Backward.{whole_from_run}
+use Rattle.content_build.proofs.Headline.{beginning}
+
+-- no beginning of viable calls has no run
+never_out : (calls : List Event) → IsViable calls → RunsOut step fresh calls → ⊥
+never_out calls viable (made, rest, split, none) =
+    let some = run_from_viable made (beginning made rest (subst IsViable (sym split) viable)) in
+    let x : Some some.0 ≡ None = sym some.1 ∙ none in cc
+
+-- a refused script
+pub refused : (sc : Script) (e : Error) (failed : Bool) (new : Partial) → IsLawful sc → Sent step fresh sc (Err e) failed new → Serialized sc (Err e)
+refused sc e failed new lawful sent =
+    ⊎_elim
+    (λ f. ⊎_elim (λ m. inl m) (λ out. absurd (never_out (calls_of sc) lawful.viable out)) f.1)
+    (λ k. ⊎_elim (λ (s : Stopped step fresh sc e new). inr (s.0, s.1, s.2)) (λ m. inl m.0) k.1)
+    sent
+
+-- a script that was taken whole, and then finished
+pub finished : (sc : Script) (state : Partial) (r : Result NamedValue Error) → IsLawful sc → stop_of sc ≡ None → run fresh (calls_of sc) ≡ Some state → Finishes false state r → Serialized sc r
+finished sc state r lawful none ran f =
+    let whole = lawful.whole none in
+    let same : Some (done whole.0) ≡ Some state = sym (run_from_whole (calls_of sc) whole.1) ∙ ran in
+    let here : done whole.0 ≡ state = cc in
+    ends r (subst (λ s. Finishes false s r) (sym here) f)
+  where
+    ends : (q : Result NamedValue Error) → Finishes false (done (lawful.whole none).0) q → Serialized sc q
+    ends (Ok v) e = (none, subst (SpellsWhole (calls_of sc)) (sym e) (lawful.whole none).1)
+    ends (Err e) m = inl m

@@ -1,0 +1,3 @@
+pub mod Earned
+pub mod Parsed
+pub mod Texts

@@ -1,0 +1,6 @@
+pub mod Numerals
+pub mod Forms
+pub mod Words
+pub mod Lines
+pub mod Views
+pub mod Answers

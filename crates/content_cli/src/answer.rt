@@ -1,0 +1,85 @@
+//! The line and the status that an input earns.
+
+ghost use Rattle.std.specs.Prelude.{◌≡◌, ◌≢◌, ◌≤◌, ◌+◌, ◌++◌, codes, IfOk, OnOk};
+ghost use Rattle.std.specs.String.{string_bytes};
+ghost use Rattle.std.specs.Fmt.{decimal};
+ghost use Rattle.content_tree.specs.Image.{image};
+ghost use Rattle.content_tree.specs.Kind.{kind_of};
+ghost use Rattle.content_tree.specs.Printed.{printed};
+ghost use Rattle.content_tree.specs.Texts.{error_text};
+ghost use Rattle.content_tree.specs.Value.{tree_of};
+ghost use Rattle.content_tree.specs.declared.error.ErrorKind.TheVariants.{OutOfMemory};
+ghost use Rattle.content_cli.specs.Answers.{Earns, Fits};
+
+use crate::calls::read_calls;
+use crate::line::first_bad_line;
+use content_build::{CallsError, from_calls};
+use content_tree::{ErrorKind, Value};
+use std::alloc::{AllocError, Global};
+
+/// The line to be written, and the status.
+#[derive(Debug, Drop)]
+pub struct Answer {
+    /// The line, with its line feed.
+    pub line: String,
+    /// The status, 2 at most.
+    pub status: u8,
+}
+
+/// The line that names a bad line, whose place is counted from 0 and named from 1.
+fn bad_line(alloc: Global, place: usize) -> Result<Answer, AllocError>
+    ensures line { IfOk result (λ a. string_bytes a.line ≡ codes "bad line " ++ (decimal (place + 1) ++ codes "\n")) }
+    ensures status { IfOk result (λ a. a.status ≡ 2) }
+{
+    let number = place as u128 + 1;
+    Ok(Answer {
+        line: format!(in alloc; "bad line {number}\n")?,
+        status: 2,
+    })
+}
+
+/// The line that prints the image of a value.
+fn taken(alloc: Global, value: Value<'_>) -> Result<Answer, AllocError>
+    ensures line { IfOk result (λ a. string_bytes a.line ≡ codes "ok " ++ (printed (image (tree_of value.entry)) ++ codes "\n")) }
+    ensures status { IfOk result (λ a. a.status ≡ 0) }
+{
+    let Ok(found) = value.into_found(alloc) else {
+        return Err(AllocError);
+    };
+    Ok(Answer {
+        line: format!(in alloc; "ok {found}\n")?,
+        status: 0,
+    })
+}
+
+/// The line that names the place and the cause of a refusal, unless memory is the cause.
+fn refused(alloc: Global, refusal: &CallsError) -> Result<Answer, AllocError>
+    ensures cause { OnOk result (kind_of refusal.now.error ≢ OutOfMemory) }
+    ensures line { IfOk result (λ a. string_bytes a.line ≡ codes "refused at " ++ (decimal refusal.now.at ++ (codes ": " ++ (error_text refusal.now.error ++ codes "\n")))) }
+    ensures status { IfOk result (λ a. a.status ≡ 1) }
+{
+    let CallsError { at, error } = refusal;
+    if matches!(error.kind(), ErrorKind::OutOfMemory) {
+        return Err(AllocError);
+    }
+    Ok(Answer {
+        line: format!(in alloc; "refused at {at}: {error}\n")?,
+        status: 1,
+    })
+}
+
+/// The line and the status that the input earns, or an error where memory is refused.
+pub fn make_answer(alloc: Global, input: &[u8]) -> Result<Answer, AllocError>
+    ensures value { IfOk result (λ a. Earns input.now (string_bytes a.line) a.status) }
+    ensures fits { IfOk result (λ a. Fits input.now a.status) }
+    ensures low { IfOk result (λ a. a.status ≤ 2) }
+{
+    if let Some(place) = first_bad_line(input) {
+        return bad_line(alloc, place);
+    }
+    let calls = read_calls(alloc, input)?;
+    match from_calls(alloc, calls.as_slice()) {
+        Ok(value) => taken(alloc, value),
+        Err(refusal) => refused(alloc, &refusal),
+    }
+}

@@ -1,0 +1,58 @@
+//! Reads all input into one vector.
+
+ghost use Rattle.std.specs.Prelude.{◌≡◌, ◌≤◌, ◌<◌, IfOk, OnOk, IfErr, true};
+ghost use Rattle.std.specs.Io.KnownBytes.{Consumes, IsAtEnd};
+ghost use Rattle.content_cli.specs.declared.gather.NoInput.TheVariants.{OutOfMemory, ReadFailed};
+
+use crate::ports::{Fault, Source};
+use std::alloc::{AllocError, Global};
+
+/// How many bytes a read asks for at most.
+const READ_SIZE: usize = 4096;
+
+/// Why there is no input.
+#[derive(Clone, Copy, Debug, PartialEq, Eq)]
+pub enum NoInput {
+    /// The source answered a fault.
+    ReadFailed,
+    /// A growth of the vector was refused.
+    OutOfMemory,
+}
+
+impl From<Fault> for NoInput {
+    ghost from_gives = { λ _ e. e ≡ ReadFailed };
+
+    fn from(_fault: Fault) -> NoInput {
+        NoInput::ReadFailed
+    }
+}
+
+impl From<AllocError> for NoInput {
+    ghost from_gives = { λ _ e. e ≡ OutOfMemory };
+
+    fn from(_refused: AllocError) -> NoInput {
+        NoInput::OutOfMemory
+    }
+}
+
+/// All that is left of the source, in one vector.
+///
+/// Each read that is neither the end nor a fault adds at least one byte to the vector, so a source
+/// that never ends brings it to `OutOfMemory`.
+pub fn gather<R: Source>(alloc: Global, reader: &mut R) -> Result<Vec<u8>, NoInput>
+    ensures all { IfOk result (λ input. Consumes (R.left reader.old) (R.left reader.new) input.items) }
+    ensures ended { OnOk result (IsAtEnd (R.left reader.new)) }
+    ensures kept { OnOk result (R.has_failed reader.new ≡ R.has_failed reader.old) }
+    ensures fault { IfErr result (λ e. e ≡ NoInput.ReadFailed → R.has_failed reader.new ≡ true) }
+    ensures memory { IfErr result (λ e. e ≡ NoInput.OutOfMemory → R.has_failed reader.new ≡ R.has_failed reader.old) }
+{
+    let mut input = Vec::new(alloc);
+    let mut buf = [0u8; READ_SIZE];
+    'reads: loop {
+        let n = reader.take(&mut buf)?;
+        if n == 0 {
+            return Ok(input);
+        }
+        input.extend_from_slice(&buf[..n])?;
+    }
+}

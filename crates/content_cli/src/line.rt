@@ -1,0 +1,106 @@
+//! What a line says.
+
+ghost use Rattle.std.specs.Prelude.{◌≡◌, MatchOption, true, false};
+ghost use Rattle.std.specs.List.{list_all};
+ghost use Rattle.content_cli.specs.Lines.{is_bad, first_bad};
+ghost use Rattle.content_cli.specs.Forms.{is_printable};
+ghost use Rattle.content_cli.specs.Words.{event_in, of_parts, word_of, rest_of};
+ghost use Rattle.content_cli.specs.Views.{Reads};
+
+use crate::words::{read_phrase, read_word};
+use content_tree::Number;
+use std::str;
+
+/// A variant of an enum, as a line names it: `N i V`.
+#[derive(Clone, Copy, Debug, PartialEq, Eq)]
+pub struct Variant {
+    /// The name of the enum.
+    pub name: &'static str,
+    /// The index of the variant.
+    pub index: u32,
+    /// The name of the variant.
+    pub variant: &'static str,
+}
+
+/// The call that a line spells, borrowed from the line.
+///
+/// Its variants are those of [`Call`](content_ser::Call). A text is the line's own, and bytes are
+/// still digits.
+#[derive(Clone, Copy, Debug, PartialEq, Eq)]
+pub enum Line<'a> {
+    Unit,
+    NoneCall,
+    SomeCall,
+    Bool(bool),
+    Number(Number),
+    Char(char),
+    Str(&'a str),
+    Bytes(&'a [u8]),
+    UnitStruct(&'static str),
+    NewtypeStruct(&'static str),
+    UnitVariant(Variant),
+    NewtypeVariant(Variant),
+    Seq(Option<usize>),
+    Map(Option<usize>),
+    Tuple(usize),
+    TupleStruct(&'static str, usize),
+    TupleVariant(Variant, usize),
+    Struct(&'static str, usize),
+    StructVariant(Variant, usize),
+    Element,
+    TupleField,
+    Field(&'static str),
+    Key,
+    Value,
+    Entry,
+    End,
+}
+
+fn is_printable_text(line: &[u8]) -> bool
+    ensures { result ≡ list_all is_printable line.now }
+{
+    line.iter().all(|b| (32..127).contains(b))
+}
+
+/// The line as text, if its bytes are 32 to 126.
+fn text_of(line: &[u8]) -> Option<&str>
+    ensures { MatchOption result (list_all is_printable line.now ≡ false) (λ t. (list_all is_printable line.now ≡ true) × (t.now ≡ line.now)) }
+{
+    if is_printable_text(line) {
+        str::from_utf8(line).ok()
+    } else {
+        None
+    }
+}
+
+fn read_text(text: &str) -> Option<Line<'_>>
+    ensures { Reads result (of_parts (word_of text.now) (rest_of text.now)) }
+{
+    match text.split_once(' ') {
+        None => read_word(text),
+        Some((word, rest)) => read_phrase(word, rest),
+    }
+}
+
+/// The call that the line spells, if it spells one.
+pub fn read_line(line: &[u8]) -> Option<Line<'_>>
+    ensures { Reads result (event_in line.now) }
+{
+    read_text(text_of(line)?)
+}
+
+/// Whether the line is neither empty nor a call.
+fn is_bad_line(line: &[u8]) -> bool
+    ensures { result ≡ is_bad line.now }
+{
+    !line.is_empty() && read_line(line).is_none()
+}
+
+/// Where the first bad line stands, counted from 0 with the empty lines. It takes no memory.
+pub fn first_bad_line(input: &[u8]) -> Option<usize>
+    ensures { result ≡ first_bad input.now }
+{
+    input
+        .split(|b| *b == b'\n')
+        .position(|line| is_bad_line(line))
+}

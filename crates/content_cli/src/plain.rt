@@ -1,0 +1,69 @@
+//! A reader or a writer of the standard library, as a source or a sink.
+
+ghost use Rattle.std.specs.Prelude.{◌≡◌, false};
+
+use crate::ports::{Fault, Sink, Source};
+use std::io::{Read, Write};
+
+/// A reader or a writer of the standard library, and whether it has failed.
+///
+/// Each error counts as a fault, that of an interrupted call too, and so does a write that takes
+/// no byte.
+#[derive(Drop)]
+pub struct Plain<T> {
+    inner: T,
+    failed: bool,
+}
+
+impl<T> Plain<T> {
+    /// One that hasn't failed.
+    pub fn new(inner: T) -> Plain<T>
+        ensures inner { result.inner ≡ inner }
+        ensures failed { result.failed ≡ false }
+    {
+        Plain {
+            inner,
+            failed: false,
+        }
+    }
+}
+
+impl<R: Read> Source for Plain<R> {
+    ghost left = { λ p. R.remaining p.inner };
+
+    ghost has_failed = { λ p. p.failed };
+
+    fn take(&mut self, buf: &mut [u8]) -> Result<usize, Fault> {
+        match self.inner.read(buf) {
+            Ok(n) => Ok(n),
+            Err(_) => {
+                self.failed = true;
+                Err(Fault)
+            }
+        }
+    }
+
+    fn failed(&self) -> bool {
+        self.failed
+    }
+}
+
+impl<W: Write> Sink for Plain<W> {
+    ghost written = { λ p. W.contents p.inner };
+
+    ghost has_failed = { λ p. p.failed };
+
+    fn put(&mut self, bytes: &[u8]) -> Result<usize, Fault> {
+        match self.inner.write(bytes) {
+            Ok(n) if n > 0 || bytes.is_empty() => Ok(n),
+            _ => {
+                self.failed = true;
+                Err(Fault)
+            }
+        }
+    }
+
+    fn failed(&self) -> bool {
+        self.failed
+    }
+}

@@ -1,0 +1,61 @@
+//! The whole program, over any source and sink.
+
+ghost use Rattle.std.specs.Prelude.{◌≡◌, ◌<◌, ◌≤◌, ◌⊎◌, ◌↔◌, true, false, codes, IfSome};
+ghost use Rattle.std.specs.Io.KnownBytes.{Appends, IsAtEnd};
+ghost use Rattle.content_cli.specs.Answers.{Tells, Fits};
+
+use crate::answer::make_answer;
+use crate::gather::{NoInput, gather};
+use crate::ports::{Sink, Source};
+use crate::send::send;
+use std::alloc::Global;
+
+/// Writes the line, and answers the status, or 5 where the writer failed.
+fn finish<W: Sink>(writer: &mut W, line: &[u8], status: u8) -> u8
+    requires { W.has_failed writer.old ≡ false }
+    ensures failed { W.has_failed writer.new ≡ true → result ≡ 5 }
+    ensures told { W.has_failed writer.new ≡ false → (result ≡ status) × Appends (W.written writer.old) (W.written writer.new) line.now }
+{
+    match send(writer, line) {
+        Ok(()) => status,
+        Err(_) => 5,
+    }
+}
+
+/// Reads all input, turns each line into a call, builds a tree of the calls and writes one line.
+///
+/// | Status | Line | When |
+/// |---|---|---|
+/// | 0 | `ok ` and the printed image of the tree | the calls spell a tree |
+/// | 1 | `refused at N: ` and the error's text, N the call's place from 0 | they spell none |
+/// | 2 | `bad line N`, N counted from 1 | a line is no call |
+/// | 3 | `out of memory` | memory was refused before the line was made |
+/// | 4 | `read failed` | the reader answered a fault |
+/// | 5 | any part of a line | the writer answered a fault |
+///
+/// The line is made whole before any of it is written. A reader that never ends brings the run to
+/// want of memory.
+pub fn run<R: Source, W: Sink>(alloc: Global, reader: &mut R, writer: &mut W) -> u8
+    requires reader_works { R.has_failed reader.old ≡ false }
+    requires writer_works { W.has_failed writer.old ≡ false }
+    // the answer, where memory is there and no port failed
+    ensures told { result < 3 → IfSome (R.left reader.old) (λ input. Tells input result (W.written writer.old) (W.written writer.new)) }
+    ensures fits { result < 3 → IfSome (R.left reader.old) (λ input. Fits input result) }
+    ensures whole { result < 3 → IsAtEnd (R.left reader.new) }
+    // want of memory, and failures
+    ensures memory { result ≡ 3 → Appends (W.written writer.old) (W.written writer.new) (codes "out of memory\n") }
+    ensures fault { result ≡ 4 → Appends (W.written writer.old) (W.written writer.new) (codes "read failed\n") }
+    ensures only_failed { result ≡ 4 → R.has_failed reader.new ≡ true }
+    ensures read_failed { R.has_failed reader.new ≡ true → (result ≡ 4) ⊎ (result ≡ 5) }
+    ensures write_failed { (W.has_failed writer.new ≡ true) ↔ (result ≡ 5) }
+    ensures range { result ≤ 5 }
+{
+    match gather(alloc, reader) {
+        Err(NoInput::ReadFailed) => finish(writer, b"read failed\n", 4),
+        Err(NoInput::OutOfMemory) => finish(writer, b"out of memory\n", 3),
+        Ok(input) => match make_answer(alloc, input.as_slice()) {
+            Ok(answer) => finish(writer, answer.line.as_bytes(), answer.status),
+            Err(_) => finish(writer, b"out of memory\n", 3),
+        },
+    }
+}
