@@ -1,13 +1,12 @@
 -- What is sent for a value, level by level.
-use Rattle.std.proofs.Common.{◌≡◌, ◌<◌, ◌≤◌, ◌+◌, ◌*◌, arith, get_or, inl, inr, IsErrAnd, ℕ, suc, Bool, List, [], ◌∷◌, length, map, Ok, Err, Some, Bor, refl, sym, ap, subst}
+use Rattle.std.proofs.Common.{◌≡◌, ◌<◌, ◌≤◌, ◌+◌, ◌*◌, arith, get_or, inl, inr, ℕ, suc, Bool, List, [], ◌∷◌, length, map, Err, Some, Bor, refl, sym, ap, subst}
 use Rattle.std.specs.Prelude.{slice_get}
 use denote.Param.Weighed.{most, at_most}
 use Rattle.content_tree.specs.Value.{tree_of, trees_view, pairs_view, fields_view}
 use Rattle.content_tree.specs.declared.cow.CowStr.{CowStr}
 use Rattle.content_tree.specs.declared.error.Error.{Error}
 use Rattle.content_tree.specs.declared.value.NamedValue.{NamedValue, size-NamedValue}
-use Rattle.content_tree.specs.Kind.{IsOutOfMemory}
-use Rattle.content_ser.specs.Lawful.{Seen, Step, Answer, Script, stop_with, calls_of, IsCustom, Sends}
+use Rattle.content_ser.specs.Lawful.{Seen, Step, Answer, Script, stop_with, IsCustom, Sends}
 use Rattle.content_ser.specs.Loose.{Entry, loose_each, loose_pairs, loose_fields, loose_entries, keyed, text_pairs}
 use Rattle.content_ser.specs.Places.{entry_of, StandsFor}
 use Rattle.content_ser.specs.TreeScript.{count, count_pairs, count_fields, script_of, script_of_pairs, sent_tree}
@@ -53,19 +52,6 @@ pub stands_none : (fs : List (CowStr × NamedValue)) (ps : List (Bor (List ℕ) 
 stands_none fs [] [] is h = refl
 stands_none fs [] (e ∷ es) is h = absurd h
 stands_none fs (p ∷ ps) es is h = absurd (cc is)
-
--- memory was refused before the first call
-pub no_memory : {S : Type 0} {step : Step S} {old : Seen S} (sc : Bool → Script) {x : Error} → IsOutOfMemory x → Sends step old sc (Err x) old
-no_memory {S} {step} {old} sc oom = record {
-  readable = refl;
-  when_failed = λ h. h;
-  otherwise = λ h. inr (h, inr (oom, ([], calls_of (sc old.readable), refl, refl)));
-}
-
--- the exit of a `?` on what was refused memory before the first call
-pub no_memory_exit : {S : Type 0} {step : Step S} {old : Seen S} (sc : Bool → Script) (r : Answer) → IsErrAnd r IsOutOfMemory → Sends step old sc r old
-no_memory_exit sc (Ok u) refused = absurd refused
-no_memory_exit sc (Err x) refused = no_memory sc refused
 
 -- a stop before the first call
 pub stopped : {S : Type 0} {step : Step S} {old : Seen S} (message : List ℕ) {x : Error} → IsCustom message x → Sends step old (λ h. stop_with message) (Err x) old
