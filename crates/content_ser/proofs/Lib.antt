@@ -1,4 +1,8 @@
 pub mod Lists
 pub mod Sending
+pub mod Placing
+pub mod Walking
+pub mod Spelling
+pub mod Twice
 mod DerivedEquality
 pub mod Equality

@@ -8,3 +8,9 @@ pub mod Scripts
 pub mod ScriptLaws
 pub mod Fits
 pub mod Lawfulness
+pub mod Loose
+pub mod TreeScript
+pub mod TreeLaw
+pub mod Heads
+pub mod Places
+pub mod Canonical

@@ -3,10 +3,13 @@
 
 mod call;
 mod impls;
-mod serialize;
 pub mod laws;
+mod loose_form;
+mod send;
+mod serialize;
 mod serializer;
 
 pub use call::Call;
+pub use loose_form::{loose_once, script_spells};
 pub use serialize::Serialize;
 pub use serializer::Serializer;

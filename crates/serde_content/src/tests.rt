@@ -7,4 +7,6 @@ mod every_case;
 mod images;
 mod order;
 mod recording;
+mod sending;
+mod sending_values;
 mod texts;

@@ -1,0 +1,99 @@
+-- The loose form of a loose form is itself.
+use Rattle.std.proofs.Common.{◌≡◌, ℕ, Bool, true, false, ◌&&◌, List, [], ◌∷◌, Ordering, Less, Equal, Greater, nat_cmp, cond, refl, sym, ap, ◌∙◌}
+use Rattle.std.specs.Ordering.{match_ordering}
+use Rattle.std.specs.Cmp.Lexicographic.{slice_cmp}
+use Rattle.content_tree.specs.Text.{Text}
+use Rattle.content_tree.specs.Tree.{Tree, unit, boolean, number, character, text, octets, seq, map, absent, present, structure, enumeration, tuple, Payload, no_payload, one, many, named, Trees, no_trees, tree_then, Pairs, no_pairs, pair_then, Fields, no_fields, field_then}
+use Rattle.content_ser.specs.Loose.{Entry, put, put_each, sorted, text_pairs, single, loose, loose_struct, loose_variant, loose_payload, loose_each, loose_pairs, loose_entries, loose_fields, keyed}
+
+-- what stands at each key is loose
+abbrev pub EachLoose : List Entry → Type 0
+EachLoose [] = Unit {0}
+EachLoose (e ∷ es) = (loose e.1 ≡ e.1) × EachLoose es
+
+loose_by : (o : Ordering) (xs ys zs : List Entry) → EachLoose xs → EachLoose ys → EachLoose zs → EachLoose (match_ordering o xs ys zs)
+loose_by Less xs ys zs a b c = a
+loose_by Equal xs ys zs a b c = b
+loose_by Greater xs ys zs a b c = c
+
+put_loose : (es : List Entry) (e : Entry) → EachLoose es → loose e.1 ≡ e.1 → EachLoose (put es e)
+put_loose [] e h is = (is, tt)
+put_loose (f ∷ es) e h is = loose_by (slice_cmp nat_cmp e.0 f.0) (e ∷ f ∷ es) ((f.0, e.1) ∷ es) (f ∷ put es e) (is, h) (is, h.1) (h.0, put_loose es e h.1 is)
+
+put_each-loose : (all es : List Entry) → EachLoose all → EachLoose es → EachLoose (put_each all es)
+put_each-loose all [] a h = a
+put_each-loose all (e ∷ es) a h = put_each-loose (put all e) es (put_loose all e a h.0) h.1
+
+text_pairs-loose : (es : List Entry) → EachLoose es → loose_pairs (text_pairs es) ≡ text_pairs es
+text_pairs-loose [] h = refl
+text_pairs-loose (e ∷ es) h = rw (h.0, text_pairs-loose es h.1)
+
+struct_twice : (b : Bool) (n : Text) (p : Payload) → n.borrowed ≡ b → loose_payload (loose_payload p) ≡ loose_payload p → loose (loose_struct p) ≡ loose_struct p
+    → loose (loose (structure n p)) ≡ loose (structure n p)
+struct_twice true n p e h k = rw (e, h)
+struct_twice false n p e h k = rw (e, k)
+
+enum_twice : (b : Bool) (n : Text) (i : ℕ) (v : Text) (p : Payload) → (n.borrowed && v.borrowed) ≡ b → loose_payload (loose_payload p) ≡ loose_payload p
+    → loose (loose_variant v p) ≡ loose_variant v p → loose (loose (enumeration n i v p)) ≡ loose (enumeration n i v p)
+enum_twice true n i v p e h k =
+    let once : loose (enumeration n i v p) ≡ enumeration n i v (loose_payload p) = ap (λ b. cond b (enumeration n i v (loose_payload p)) (loose_variant v p)) e in
+    let again : loose (enumeration n i v (loose_payload p)) ≡ enumeration n i v (loose_payload (loose_payload p)) =
+    ap (λ b. cond b (enumeration n i v (loose_payload (loose_payload p))) (loose_variant v (loose_payload p))) e in
+    ap loose once ∙ (again ∙ (ap (enumeration n i v) h ∙ sym once))
+enum_twice false n i v p e h k =
+    let once : loose (enumeration n i v p) ≡ loose_variant v p = ap (λ b. cond b (enumeration n i v (loose_payload p)) (loose_variant v p)) e in
+    ap loose once ∙ (k ∙ sym once)
+
+mutual
+  pub twice : (t : Tree) → loose (loose t) ≡ loose t
+  twice unit = refl
+  twice (boolean b) = refl
+  twice (number n) = refl
+  twice (character c) = refl
+  twice (text t) = refl
+  twice (octets t) = refl
+  twice (seq ts) = ap seq (twice_each ts)
+  twice (map ps) = ap map (twice_pairs ps)
+  twice absent = refl
+  twice (present t) = ap present (twice t)
+  twice (structure n p) = struct_twice n.borrowed n p refl (twice_payload p) (twice_struct p)
+  twice (enumeration n i v p) = enum_twice (n.borrowed && v.borrowed) n i v p refl (twice_payload p) (twice_variant v p)
+  twice (tuple ts) = ap tuple (twice_each ts)
+
+  twice_struct : (p : Payload) → loose (loose_struct p) ≡ loose_struct p
+  twice_struct no_payload = refl
+  twice_struct (one t) = twice t
+  twice_struct (many ts) = ap seq (twice_each ts)
+  twice_struct (named fs) = ap map (twice_entries fs)
+
+  twice_variant : (v : Text) (p : Payload) → loose (loose_variant v p) ≡ loose_variant v p
+  twice_variant v no_payload = refl
+  twice_variant v (one t) = ap (single v) (twice t)
+  twice_variant v (many ts) = ap (λ us. single v (seq us)) (twice_each ts)
+  twice_variant v (named fs) = ap (λ ps. single v (map ps)) (text_pairs-loose (sorted (keyed fs)) (put_each-loose [] (keyed fs) tt (keyed_loose fs)))
+
+  twice_payload : (p : Payload) → loose_payload (loose_payload p) ≡ loose_payload p
+  twice_payload no_payload = refl
+  twice_payload (one t) = ap one (twice t)
+  twice_payload (many ts) = ap many (twice_each ts)
+  twice_payload (named fs) = ap named (twice_fields fs)
+
+  twice_each : (ts : Trees) → loose_each (loose_each ts) ≡ loose_each ts
+  twice_each no_trees = refl
+  twice_each (tree_then t ts) = rw (twice t, twice_each ts)
+
+  twice_pairs : (ps : Pairs) → loose_pairs (loose_pairs ps) ≡ loose_pairs ps
+  twice_pairs no_pairs = refl
+  twice_pairs (pair_then k t ps) = rw (twice k, twice t, twice_pairs ps)
+
+  twice_entries : (fs : Fields) → loose_pairs (loose_entries fs) ≡ loose_entries fs
+  twice_entries no_fields = refl
+  twice_entries (field_then k t fs) = rw (twice t, twice_entries fs)
+
+  twice_fields : (fs : Fields) → loose_fields (loose_fields fs) ≡ loose_fields fs
+  twice_fields no_fields = refl
+  twice_fields (field_then k t fs) = rw (twice t, twice_fields fs)
+
+  keyed_loose : (fs : Fields) → EachLoose (keyed fs)
+  keyed_loose no_fields = tt
+  keyed_loose (field_then k t fs) = (twice t, keyed_loose fs)

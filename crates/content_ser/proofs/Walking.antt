@@ -1,0 +1,81 @@
+-- What is sent for a value, level by level.
+use Rattle.std.proofs.Common.{◌≡◌, ◌<◌, ◌≤◌, ◌+◌, ◌*◌, arith, get_or, inl, inr, ℕ, suc, Bool, List, [], ◌∷◌, length, map, Err, Some, Bor, refl, sym, ap, subst}
+use Rattle.std.specs.Prelude.{slice_get}
+use denote.Param.Weighed.{most, at_most}
+use Rattle.content_tree.specs.Value.{tree_of, trees_view, pairs_view, fields_view}
+use Rattle.content_tree.specs.declared.cow.CowStr.{CowStr}
+use Rattle.content_tree.specs.declared.error.Error.{Error}
+use Rattle.content_tree.specs.declared.value.NamedValue.{NamedValue, size-NamedValue}
+use Rattle.content_ser.specs.Lawful.{Seen, Step, Answer, Script, stop_with, IsCustom, Sends}
+use Rattle.content_ser.specs.Loose.{Entry, loose_each, loose_pairs, loose_fields, loose_entries, keyed, text_pairs}
+use Rattle.content_ser.specs.Places.{entry_of, StandsFor}
+use Rattle.content_ser.specs.TreeScript.{count, count_pairs, count_fields, script_of, script_of_pairs, sent_tree}
+
+pub count_each : (vs : List NamedValue) → length vs ≡ count (loose_each (trees_view vs))
+count_each [] = refl
+count_each (v ∷ vs) = ap suc (count_each vs)
+
+pub count_each_pair : (ps : List (NamedValue × NamedValue)) → length ps ≡ count_pairs (loose_pairs (pairs_view ps))
+count_each_pair [] = refl
+count_each_pair (p ∷ ps) = ap suc (count_each_pair ps)
+
+pub count_each_field : (fs : List (CowStr × NamedValue)) → length fs ≡ count_fields (loose_fields (fields_view fs))
+count_each_field [] = refl
+count_each_field (f ∷ fs) = ap suc (count_each_field fs)
+
+pub count_each_entry : (fs : List (CowStr × NamedValue)) → length fs ≡ count_pairs (loose_entries (fields_view fs))
+count_each_entry [] = refl
+count_each_entry (f ∷ fs) = ap suc (count_each_entry fs)
+
+pub count_text_pairs : (es : List Entry) → length es ≡ count_pairs (text_pairs es)
+count_text_pairs [] = refl
+count_text_pairs (e ∷ es) = ap suc (count_text_pairs es)
+
+-- fields by the bytes of their keys, one at a time
+pub keyed_each : (fs : List (CowStr × NamedValue)) → map entry_of fs ≡ keyed (fields_view fs)
+keyed_each [] = refl
+keyed_each (f ∷ fs) = ap (λ es. entry_of f ∷ es) (keyed_each fs)
+
+-- the entry of the first place, and what the others stand for
+pub stands_first : (fs : List (CowStr × NamedValue)) (all : List (Bor (List ℕ) × ℕ)) (p : Bor (List ℕ) × ℕ) (ps : List (Bor (List ℕ) × ℕ)) (es : List Entry)
+    → all ≡ p ∷ ps → StandsFor fs all es
+    → (e : Entry) × (rest : List Entry) × (es ≡ e ∷ rest) × (slice_get (map entry_of fs) p.1 ≡ Some e) × (p.0.now ≡ e.0) × StandsFor fs ps rest
+stands_first fs all p ps es is h = split es (subst (λ ys. StandsFor fs ys es) is h)
+  where
+    split : (es : List Entry) → StandsFor fs (p ∷ ps) es
+        → (e : Entry) × (rest : List Entry) × (es ≡ e ∷ rest) × (slice_get (map entry_of fs) p.1 ≡ Some e) × (p.0.now ≡ e.0) × StandsFor fs ps rest
+    split [] h = absurd h
+    split (e ∷ rest) h = (e, rest, refl, h.0, h.1, h.2)
+
+-- no places stand for no entries
+pub stands_none : (fs : List (CowStr × NamedValue)) (ps : List (Bor (List ℕ) × ℕ)) (es : List Entry) → ps ≡ [] → StandsFor fs ps es → es ≡ []
+stands_none fs [] [] is h = refl
+stands_none fs [] (e ∷ es) is h = absurd h
+stands_none fs (p ∷ ps) es is h = absurd (cc is)
+
+-- a stop before the first call
+pub stopped : {S : Type 0} {step : Step S} {old : Seen S} (message : List ℕ) {x : Error} → IsCustom message x → Sends step old (λ h. stop_with message) (Err x) old
+stopped {S} {step} {old} message is = record {
+  readable = refl;
+  when_failed = λ h. h;
+  otherwise = λ h. inr (h, inl (message, refl, is, refl));
+}
+
+-- what is sent for one entry and then the others ends what is sent for all of them
+pub entries_end : {S : Type 0} {step : Step S} {old new : Seen S} {r : Answer} (es : List Entry) (e : Entry) (rest : List Entry) → es ≡ e ∷ rest
+    → Sends step old (λ h. script_of_pairs (text_pairs (e ∷ rest))) r new → Sends step old (λ h. script_of_pairs (text_pairs es)) r new
+entries_end {S} {step} {old} {new} {r} es e rest is sent = subst (λ ys. Sends step old (λ h. script_of_pairs (text_pairs ys)) r new) (sym is) sent
+
+-- what is sent for a field's value is what is sent for its entry
+pub sent_value : {S : Type 0} {step : Step S} {old new : Seen S} {r : Answer} (f : CowStr × NamedValue) (e : Entry) → entry_of f ≡ e
+    → Sends step old (sent_tree (tree_of f.1)) r new → Sends step old (λ h. script_of e.1) r new
+sent_value {S} {step} {old} {new} {r} f e same sent = subst (λ (d : Entry). Sends step old (λ h. script_of d.1) r new) same sent
+
+-- a field's value is less deep than the fields
+pub field_below : {depth : CowStr × NamedValue → ℕ} {t : ℕ} (fs : List (CowStr × NamedValue)) (i : ℕ) (x : CowStr × NamedValue)
+    → 3 * most depth fs + 1 ≡ t → ((f : CowStr × NamedValue) → size-NamedValue f.1 ≤ depth f) → i < length fs → x ≡ get_or fs i x
+    → 3 * size-NamedValue x.1 + 0 < t
+field_below {depth} fs i x measure deep below is =
+    let within : depth x ≤ most depth fs = subst (λ (f : CowStr × NamedValue). depth f ≤ most depth fs) (sym is) (at_most depth fs i x below) in
+    let under = deep x in
+    omega (arith, within, under, measure)

@@ -1,0 +1,52 @@
+//! Values, structs and variants, sent.
+
+mod head;
+mod key;
+mod places;
+mod walk;
+
+ghost use Rattle.content_tree.specs.Value.{enum_tree, struct_tree, tree_of};
+ghost use Rattle.content_ser.specs.TreeLaw.{tree_lawful};
+ghost use Rattle.content_ser.specs.TreeScript.{sent_tree};
+ghost use Rattle.content_ser.specs.Loose.{loose};
+
+use crate::serialize::Serialize;
+use crate::serializer::Serializer;
+use content_tree::{Enum, Result, Struct, Value};
+use std::alloc::Global;
+
+// Each node by its own call and children in order, a struct and a variant as below. The first field
+// with an owned key among what is sent stops it: all calls before are made, and the error is `Custom`.
+impl<'a> Serialize for Value<'a> {
+    ghost script = { λ v. sent_tree (tree_of v) };
+
+    ghost lawful = { λ v readable. tree_lawful (loose (tree_of v)) };
+
+    fn serialize<S: Serializer>(&self, alloc: Global, serializer: &mut S) -> Result<()> {
+        walk::send(self, alloc, serializer)
+    }
+}
+
+// Under its name where that is static; else what it holds alone: a unit, a value, a sequence, or a
+// map with text keys in their order.
+impl<'a> Serialize for Struct<'a> {
+    ghost script = { λ v. sent_tree (struct_tree v) };
+
+    ghost lawful = { λ v readable. tree_lawful (loose (struct_tree v)) };
+
+    fn serialize<S: Serializer>(&self, alloc: Global, serializer: &mut S) -> Result<()> {
+        walk::send_struct(self, alloc, serializer)
+    }
+}
+
+// Under its names where both are static; else its name as a text, or a map from it to what it holds:
+// a value, a sequence, or a map sorted by the bytes of its text keys, of equal keys the last alone.
+impl<'a> Serialize for Enum<'a> {
+    ghost script = { λ v. sent_tree (enum_tree v) };
+
+    ghost lawful = { λ v readable. tree_lawful (loose (enum_tree v)) };
+
+    fn serialize<S: Serializer>(&self, alloc: Global, serializer: &mut S) -> Result<()> {
+        walk::send_enum(self, alloc, serializer)
+    }
+}
