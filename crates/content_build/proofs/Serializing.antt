@@ -1,18 +1,14 @@
 -- What is serialised to a new builder.
-use Rattle.std.proofs.Common.{◌≡◌, ◌⊎◌, ℕ, Bool, true, false, List, [], ◌∷◌, ◌++◌, Option, Some, None, Result, Ok, Err, IsErrAnd, refl, sym, ap, subst, ◌∙◌, inl, inr, ⊎_elim}
-use Rattle.content_tree.specs.Kind.{IsOutOfMemory}
-use Rattle.content_tree.specs.Tree.{Tree}
-use Rattle.content_tree.specs.Value.{tree_of}
+use Rattle.std.proofs.Common.{◌≡◌, Bool, false, List, Some, None, Result, Ok, Err, IsErrAnd, refl, sym, subst, ◌∙◌, inl, inr, ⊎_elim}
 use Rattle.content_tree.specs.declared.error.Error.{Error}
 use Rattle.content_tree.specs.declared.value.NamedValue.{NamedValue}
 use Rattle.content_ser.specs.Event.{Event}
-use Rattle.content_ser.specs.Lawful.{Script, Seen, Sends, calls_of, stop_of, Sent, RunsOut, RunsTo, Stopped, IsLawful, IsCustom}
-use Rattle.content_ser.specs.Spells.{SpellsWhole, IsWhole, IsViable}
-use Rattle.content_build.specs.Partial.{Partial, due, between, done, fresh, run, step}
+use Rattle.content_ser.specs.Lawful.{Script, Seen, Sends, calls_of, stop_of, Sent, RunsOut, Stopped, IsLawful}
+use Rattle.content_ser.specs.Spells.{SpellsWhole, IsViable}
+use Rattle.content_build.specs.Partial.{Partial, done, fresh, run, step}
 use Rattle.content_build.specs.Builder.{Finishes}
 use Rattle.content_build.specs.Serializer.{Serialized}
 use Rattle.content_build.proofs.Laws.{run_from_whole, run_from_viable}
-use Rattle.content_build.proofs.Backward.{whole_from_run}
 use Rattle.content_build.proofs.Headline.{beginning}
 
 -- no beginning of viable calls has no run

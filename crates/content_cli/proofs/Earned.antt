@@ -1,5 +1,5 @@
 -- What an answer's parts come to, and which inputs earn which status.
-use Rattle.std.proofs.Common.{◌≡◌, ◌≢◌, ◌⊎◌, inl, inr, ℕ, ◌+◌, ◌≤◌, List, ◌++◌, Option, Some, None, Result, Ok, Err, IfOk, OnOk, refl, sym, ◌∙◌, subst, arith}
+use Rattle.std.proofs.Common.{◌≡◌, ◌≢◌, inl, inr, ℕ, ◌+◌, ◌≤◌, List, ◌++◌, Option, Some, None, Result, Ok, Err, IfOk, OnOk, refl, sym, ◌∙◌, subst, arith}
 use Rattle.std.specs.Prelude.{codes}
 use Rattle.std.specs.String.{string_bytes}
 use Rattle.std.specs.Fmt.{decimal}
@@ -16,7 +16,7 @@ use Rattle.content_ser.specs.Event.{Event}
 use Rattle.content_ser.specs.Spells.{SpellsWhole, IsWhole, IsViable}
 use Rattle.content_build.specs.Answers.{IsRefusal}
 use Rattle.content_cli.specs.Lines.{first_bad, calls_of}
-use Rattle.content_cli.specs.Answers.{IsBad, IsTaken, IsRefused, Earns, Fits}
+use Rattle.content_cli.specs.Answers.{Earns, Fits}
 use Rattle.content_cli.specs.declared.answer.Answer.{Answer}
 
 -- the line of a bad line is earned by it

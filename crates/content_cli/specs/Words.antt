@@ -1,5 +1,5 @@
 -- The call that a line spells.
-use Rattle.std.specs.Prelude.{ℕ, Bool, cond, nat_lt, List, length, codes, Option, None, Some}
+use Rattle.std.specs.Prelude.{ℕ, cond, nat_lt, List, length, codes, Option, None, Some}
 use Rattle.std.specs.Str.{bytes_eq}
 use Rattle.std.specs.Option.{option_map}
 use Rattle.std.specs.List.{list_all, before_first, after_first, position_or_len}

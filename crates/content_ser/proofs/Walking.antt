@@ -1,12 +1,12 @@
 -- What is sent for a value, level by level.
-use Rattle.std.proofs.Common.{◌≡◌, ◌<◌, ◌≤◌, ◌+◌, ◌*◌, arith, get_or, inl, inr, ℕ, suc, Bool, List, [], ◌∷◌, length, map, Err, Some, Bor, refl, sym, ap, subst}
+use Rattle.std.proofs.Common.{◌≡◌, ◌<◌, ◌≤◌, ◌+◌, ◌*◌, arith, get_or, inl, inr, ℕ, suc, List, [], ◌∷◌, length, map, Err, Some, Bor, refl, sym, ap, subst}
 use Rattle.std.specs.Prelude.{slice_get}
 use denote.Param.Weighed.{most, at_most}
 use Rattle.content_tree.specs.Value.{tree_of, trees_view, pairs_view, fields_view}
 use Rattle.content_tree.specs.declared.cow.CowStr.{CowStr}
 use Rattle.content_tree.specs.declared.error.Error.{Error}
 use Rattle.content_tree.specs.declared.value.NamedValue.{NamedValue, size-NamedValue}
-use Rattle.content_ser.specs.Lawful.{Seen, Step, Answer, Script, stop_with, IsCustom, Sends}
+use Rattle.content_ser.specs.Lawful.{Seen, Step, Answer, stop_with, IsCustom, Sends}
 use Rattle.content_ser.specs.Loose.{Entry, loose_each, loose_pairs, loose_fields, loose_entries, keyed, text_pairs}
 use Rattle.content_ser.specs.Places.{entry_of, StandsFor}
 use Rattle.content_ser.specs.TreeScript.{count, count_pairs, count_fields, script_of, script_of_pairs, sent_tree}

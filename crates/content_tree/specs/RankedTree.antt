@@ -1,6 +1,6 @@
 -- The order of trees is total: it is that of their ranked trees.
 use Rattle.std.specs.Prelude.{◌≡◌, ℕ, ℤ, pos, Bool, true, false, List, [], ◌∷◌, refl}
-use Rattle.std.proofs.Common.{subst, sym, ap, ◌∙◌, Ordering, Equal, nat_cmp}
+use Rattle.std.proofs.Common.{subst, sym, ap, ◌∙◌, Equal, nat_cmp}
 use Rattle.std.specs.Ordering.{ordering_then, as_partial_cmp}
 use Rattle.std.specs.Cmp.{IsTotalOrder, IsEquivalence, IsPartialOrder, on_total, eq_by_cmp_equiv, partial_order_from_total}
 use Rattle.content_tree.specs.Ranked.{Ranked, ranked, Children, no_children, child_then, ranked_cmp, children_cmp, then_equal, then_assoc, ranked_total}

@@ -3,8 +3,8 @@
 
 pub use content_build::Serializer;
 pub use content_tree::{
-    CowBytes, CowStr, Data, DataType, Enum, Error, ErrorKind, Expected, Found, FoundData, Number,
-    Result, Struct, Unexpected, Value,
+    CowBytes, CowStr, Data, DataType, Enum, Error, ErrorKind, Expected, Found, FoundData,
+    NamedData, NamedEnum, NamedStruct, NamedValue, Number, Result, Struct, Unexpected, Value,
 };
 
 pub mod laws;

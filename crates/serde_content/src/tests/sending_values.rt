@@ -51,7 +51,10 @@ fn an_owned_key_stops_after_the_fields_before_it(rt: HostRuntime) -> Result<(), 
         Ok(()) => String::new(alloc),
         Err(error) => format!(in alloc; "{error}")?,
     };
-    assert_eq!(rt; text.as_str(), "failed to deserialize; expected a static string slice, found \"b\"");
+    assert_eq!(rt;
+        text.as_str(),
+        "failed to deserialize; expected a static string slice, found \"b\""
+    );
     let expected = [Call::Struct("S", 2), Call::Field("a"), Call::Bool(true)];
     assert!(rt; recorder.calls().iter().eq(expected.iter()));
     assert!(rt; !recorder.is_failed());

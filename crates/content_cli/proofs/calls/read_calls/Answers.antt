@@ -1,4 +1,4 @@
-use Rattle.std.proofs.Common.{rules, tests, ◌≡◌, ◌==◌, ap, ◌∙◌, map, List, ℕ}
+use Rattle.std.proofs.Common.{rules, tests, ◌==◌, ap, ◌∙◌}
 use Rattle.std.proofs.lemmas.Iterator.Splits.{YieldsList-from_slice_split}
 use Rattle.std.proofs.lemmas.Iterator.Consumers.{YieldsList-end}
 use Rattle.std.specs.Slice.Iter.{split_rest, split_done, split_callee}
