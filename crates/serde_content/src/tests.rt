@@ -8,5 +8,8 @@ mod images;
 mod order;
 mod recording;
 mod sending;
+mod sending_owned;
 mod sending_values;
+mod serializer;
 mod texts;
+mod trees;
