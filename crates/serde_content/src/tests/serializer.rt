@@ -1,33 +1,12 @@
 //! What a serialiser of whole values makes.
-#![tactic(auto, using(content_ser::proofs::Sending::sending))]
-
-ghost use Rattle.content_ser.specs.Event.{boolean};
-ghost use Rattle.content_ser.specs.Lawful.{call_then, done};
-ghost use Rattle.content_ser.specs.Lawfulness.{leaf_lawful};
-ghost use Rattle.std.specs.Prelude.{refl};
-
 use super::every_case::is_alike;
 use super::trees::{one_field, one_pair, owned, owned_variant, structure, text, variant};
-use crate::ser::{self, Serialize};
-use crate::{CowStr, Data, Number, Result as Answer, Serializer, Value};
+use crate::ser::Serialize;
+use crate::{CowStr, Data, ErrorKind, Number, Result as Answer, Serializer, Value};
 use std::alloc::Global;
 use std::cmp::Ordering;
 use std::collections::BTreeMap;
 use std::test::Fail;
-
-/// What sends whether the serialiser is for people to read.
-struct ForPeople;
-
-impl Serialize for ForPeople {
-    ghost script = { λ x readable. call_then (boolean readable) done };
-
-    ghost lawful = { λ x readable. leaf_lawful refl };
-
-    fn serialize<S: ser::Serializer>(&self, _alloc: Global, serializer: &mut S) -> Answer<()> {
-        let readable = serializer.is_human_readable();
-        serializer.serialize_bool(readable)
-    }
-}
 
 /// Whether the value is serialised to this tree, with the same texts and names owned.
 fn becomes<T: Serialize>(alloc: Global, value: &T, tree: &Value<'static>) -> Answer<bool> {
@@ -35,11 +14,14 @@ fn becomes<T: Serialize>(alloc: Global, value: &T, tree: &Value<'static>) -> Ans
     Ok(made == *tree && is_alike(alloc, &made, tree)?)
 }
 
-/// The text of the error, or nothing where there is none.
-fn error_text<T: Serialize>(alloc: Global, value: &T) -> Answer<String> {
+/// The text with which the value stops, or nothing where it doesn't stop.
+fn stop_text<T: Serialize>(alloc: Global, value: &T) -> Answer<String> {
     match Serializer::new().serialize(alloc, value) {
         Ok(_) => Ok(String::new(alloc)),
-        Err(error) => Ok(format!(in alloc; "{error}")?),
+        Err(error) => match error.kind() {
+            ErrorKind::Custom(text) => Ok(String::from_str(alloc, text.as_str())?),
+            _ => Ok(String::new(alloc)),
+        },
     }
 }
 
@@ -90,16 +72,6 @@ fn texts_and_bytes_of_a_value_are_owned(rt: HostRuntime) -> Result<(), Fail> {
 }
 
 #[test]
-fn a_type_learns_whether_it_is_for_people(rt: HostRuntime) -> Result<(), Fail> {
-    let alloc = rt.alloc();
-    let plain = Serializer::new();
-    let readable = plain.human_readable();
-    assert!(rt; plain.serialize(alloc, &ForPeople)? == Value::Bool(false));
-    assert!(rt; readable.serialize(alloc, &ForPeople)? == Value::Bool(true));
-    Ok(())
-}
-
-#[test]
 fn serialisers_go_by_their_flag(rt: HostRuntime) -> Result<(), Fail> {
     let plain = Serializer::new();
     let readable = Serializer::new().human_readable();
@@ -139,7 +111,7 @@ fn a_static_struct_stops_at_an_owned_key(rt: HostRuntime) -> Result<(), Fail> {
     ]?;
     let value = structure(alloc, CowStr::Borrowed("S"), Data::Struct { fields })?;
     assert_eq!(rt;
-        error_text(alloc, &value)?.as_str(),
+        stop_text(alloc, &value)?.as_str(),
         "failed to deserialize; expected a static string slice, found \"b\""
     );
     Ok(())
@@ -209,7 +181,7 @@ fn a_static_variant_stops_at_an_owned_key_within(rt: HostRuntime) -> Result<(), 
     let (name, of) = (CowStr::Borrowed("E"), CowStr::Borrowed("V"));
     let value = variant(alloc, name, 0, of, data)?;
     assert_eq!(rt;
-        error_text(alloc, &value)?.as_str(),
+        stop_text(alloc, &value)?.as_str(),
         "failed to deserialize; expected a static string slice, found \"q\""
     );
     Ok(())
