@@ -4,6 +4,7 @@ mod calls;
 mod conversions;
 mod copies;
 mod every_case;
+mod for_people;
 mod images;
 mod order;
 mod recording;
