@@ -1,43 +1,9 @@
 //! What values, structs and variants send.
 
+use super::trees::{one_field, owned, owned_variant, structure};
+use crate::ser::{Call, Recorder, Serialize, Serializer};
 use crate::{CowStr, Data, Enum, Number, Struct, Value};
-use content_build::Recorder;
-use content_ser::{Call, Serialize, Serializer};
-use std::alloc::{AllocError, Global};
 use std::test::Fail;
-
-fn owned(alloc: Global, text: &str) -> Result<CowStr<'static>, AllocError> {
-    Ok(CowStr::Owned(String::from_str(alloc, text)?))
-}
-
-fn one_field(
-    alloc: Global,
-    key: CowStr<'static>,
-    value: Value<'static>,
-) -> Result<Data<'static>, Fail> {
-    let mut fields = Vec::new(alloc);
-    fields.push((key, value))?;
-    Ok(Data::Struct { fields })
-}
-
-fn structure(
-    alloc: Global,
-    name: CowStr<'static>,
-    data: Data<'static>,
-) -> Result<Value<'static>, AllocError> {
-    Ok(Value::Struct(Box::new(alloc, Struct { name, data })?))
-}
-
-// A variant of index 0 with an owned name of the enum, `E`, and of the variant, `V`.
-fn owned_variant(alloc: Global, data: Data<'static>) -> Result<Value<'static>, Fail> {
-    let inner = Enum {
-        name: owned(alloc, "E")?,
-        variant_index: 0,
-        variant: owned(alloc, "V")?,
-        data,
-    };
-    Ok(Value::Enum(Box::new(alloc, inner)?))
-}
 
 #[test]
 fn an_owned_key_stops_after_the_fields_before_it(rt: HostRuntime) -> Result<(), Fail> {
