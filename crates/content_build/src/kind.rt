@@ -1,7 +1,6 @@
 //! What each call is in a list: the table of calls.
 
 ghost use Rattle.std.specs.Prelude.{◌≡◌, IfOk};
-ghost use Rattle.content_tree.specs.Text.{text_content, bytes_content};
 ghost use Rattle.content_tree.specs.Value.{tree_of};
 ghost use Rattle.content_ser.specs.Call.{event_of};
 ghost use Rattle.content_ser.specs.Kind.{kind};
@@ -49,26 +48,6 @@ pub(crate) enum Kind<'a> {
     End,
 }
 
-/// The text itself.
-fn text_slice<'b>(text: &'b CowStr<'_>) -> &'b str
-    ensures { result.now ≡ text_content text.now }
-{
-    match text {
-        CowStr::Borrowed(text) => text,
-        CowStr::Owned(text) => text.as_str(),
-    }
-}
-
-/// The bytes themselves.
-fn byte_slice<'b>(bytes: &'b CowBytes<'_>) -> &'b [u8]
-    ensures { result.now ≡ bytes_content bytes.now }
-{
-    match bytes {
-        CowBytes::Borrowed(bytes) => bytes,
-        CowBytes::Owned(bytes) => bytes.as_slice(),
-    }
-}
-
 impl<'b> Kind<'b> {
     /// What the call is in a list.
     pub(crate) fn of(call: &'b Call<'_>) -> Kind<'b>
@@ -78,8 +57,8 @@ impl<'b> Kind<'b> {
             Call::Bool(v) => Kind::Leaf(Leaf::Bool(*v)),
             Call::Number(v) => Kind::Leaf(Leaf::Number(*v)),
             Call::Char(v) => Kind::Leaf(Leaf::Char(*v)),
-            Call::Str(text) => Kind::Leaf(Leaf::Text(text_slice(text))),
-            Call::Bytes(bytes) => Kind::Leaf(Leaf::Bytes(byte_slice(bytes))),
+            Call::Str(text) => Kind::Leaf(Leaf::Text(text.as_str())),
+            Call::Bytes(bytes) => Kind::Leaf(Leaf::Bytes(bytes.as_bytes())),
             Call::Unit => Kind::Leaf(Leaf::Unit),
             Call::NoneCall => Kind::Leaf(Leaf::Absent),
             Call::SomeCall => Kind::Wrap(Wrap::Present),
