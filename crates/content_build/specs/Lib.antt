@@ -6,3 +6,4 @@ pub mod Builder
 pub mod Answers
 pub mod Recorder
 pub mod Serializer
+pub mod Canonical

@@ -3,6 +3,8 @@ pub mod Sending
 pub mod Placing
 pub mod Walking
 pub mod Spelling
+pub mod Sorting
 pub mod Twice
+pub mod Naming
 mod DerivedEquality
 pub mod Equality

@@ -1,30 +1,15 @@
 -- The loose form of a loose form is itself.
-use Rattle.std.proofs.Common.{◌≡◌, ℕ, Bool, true, false, ◌&&◌, List, [], ◌∷◌, Ordering, Less, Equal, Greater, nat_cmp, cond, refl, sym, ap, ◌∙◌}
-use Rattle.std.specs.Ordering.{match_ordering}
-use Rattle.std.specs.Cmp.Lexicographic.{slice_cmp}
+use Rattle.std.proofs.Common.{◌≡◌, ℕ, Bool, true, false, ◌&&◌, List, [], ◌∷◌, cond, refl, sym, ap, ◌∙◌}
 use Rattle.content_tree.specs.Text.{Text}
 use Rattle.content_tree.specs.Tree.{Tree, unit, boolean, number, character, text, octets, seq, map, absent, present, structure, enumeration, tuple, Payload, no_payload, one, many, named, Trees, no_trees, tree_then, Pairs, no_pairs, pair_then, Fields, no_fields, field_then}
-use Rattle.content_ser.specs.Loose.{Entry, put, put_each, sorted, text_pairs, single, loose, loose_struct, loose_variant, loose_payload, loose_each, loose_pairs, loose_entries, loose_fields, keyed}
+use Rattle.content_ser.specs.Loose.{Entry, sorted, text_pairs, single, loose, loose_struct, loose_variant, loose_payload, loose_each, loose_pairs, loose_entries, loose_fields, keyed}
+use Rattle.content_ser.proofs.Sorting.{EachHeld, sorted_held}
 
--- what stands at each key is loose
-abbrev pub EachLoose : List Entry → Type 0
-EachLoose [] = Unit {0}
-EachLoose (e ∷ es) = (loose e.1 ≡ e.1) × EachLoose es
+-- a tree that is its own loose form
+abbrev IsLoose : Tree → Type 0
+IsLoose t = loose t ≡ t
 
-loose_by : (o : Ordering) (xs ys zs : List Entry) → EachLoose xs → EachLoose ys → EachLoose zs → EachLoose (match_ordering o xs ys zs)
-loose_by Less xs ys zs a b c = a
-loose_by Equal xs ys zs a b c = b
-loose_by Greater xs ys zs a b c = c
-
-put_loose : (es : List Entry) (e : Entry) → EachLoose es → loose e.1 ≡ e.1 → EachLoose (put es e)
-put_loose [] e h is = (is, tt)
-put_loose (f ∷ es) e h is = loose_by (slice_cmp nat_cmp e.0 f.0) (e ∷ f ∷ es) ((f.0, e.1) ∷ es) (f ∷ put es e) (is, h) (is, h.1) (h.0, put_loose es e h.1 is)
-
-put_each-loose : (all es : List Entry) → EachLoose all → EachLoose es → EachLoose (put_each all es)
-put_each-loose all [] a h = a
-put_each-loose all (e ∷ es) a h = put_each-loose (put all e) es (put_loose all e a h.0) h.1
-
-text_pairs-loose : (es : List Entry) → EachLoose es → loose_pairs (text_pairs es) ≡ text_pairs es
+text_pairs-loose : (es : List Entry) → EachHeld IsLoose es → loose_pairs (text_pairs es) ≡ text_pairs es
 text_pairs-loose [] h = refl
 text_pairs-loose (e ∷ es) h = rw (h.0, text_pairs-loose es h.1)
 
@@ -70,7 +55,7 @@ mutual
   twice_variant v no_payload = refl
   twice_variant v (one t) = ap (single v) (twice t)
   twice_variant v (many ts) = ap (λ us. single v (seq us)) (twice_each ts)
-  twice_variant v (named fs) = ap (λ ps. single v (map ps)) (text_pairs-loose (sorted (keyed fs)) (put_each-loose [] (keyed fs) tt (keyed_loose fs)))
+  twice_variant v (named fs) = ap (λ ps. single v (map ps)) (text_pairs-loose (sorted (keyed fs)) (sorted_held IsLoose (keyed fs) (keyed_loose fs)))
 
   twice_payload : (p : Payload) → loose_payload (loose_payload p) ≡ loose_payload p
   twice_payload no_payload = refl
@@ -94,6 +79,6 @@ mutual
   twice_fields no_fields = refl
   twice_fields (field_then k t fs) = rw (twice t, twice_fields fs)
 
-  keyed_loose : (fs : Fields) → EachLoose (keyed fs)
+  keyed_loose : (fs : Fields) → EachHeld IsLoose (keyed fs)
   keyed_loose no_fields = tt
   keyed_loose (field_then k t fs) = (twice t, keyed_loose fs)

@@ -14,3 +14,4 @@ pub mod TreeLaw
 pub mod Heads
 pub mod Places
 pub mod Canonical
+pub mod StaticNames

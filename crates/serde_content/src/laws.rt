@@ -4,6 +4,7 @@
 
 ghost use Rattle.content_ser.specs.Laws.{OneTree, UniqueCut};
 
+pub use content_build::{canonical_is_built, canonical_is_missing};
 pub use content_ser::{loose_once, script_spells};
 
 /// No whole list of calls is a proper beginning of another: a stream of trees can be cut in one
