@@ -306,7 +306,7 @@ fn texts_and_bytes_are_copied(rt: HostRuntime) -> Result<(), Fail> {
 #[test]
 fn a_refused_builder_has_failed(rt: HostRuntime) -> Result<(), Fail> {
     let alloc = rt.alloc();
-    let mut builder = Builder::new(alloc, false);
+    let mut builder: Builder<'static> = Builder::new(alloc, false);
     assert_eq!(rt;
         answered(alloc, builder.serialize_seq(None))?.as_str(),
         "taken"
@@ -325,7 +325,7 @@ fn a_refused_builder_has_failed(rt: HostRuntime) -> Result<(), Fail> {
 #[test]
 fn a_printed_text_is_built(rt: HostRuntime) -> Result<(), Fail> {
     let alloc = rt.alloc();
-    let mut builder = Builder::new(alloc, true);
+    let mut builder: Builder<'static> = Builder::new(alloc, true);
     assert!(rt; builder.is_human_readable());
     builder.collect_str(alloc, &7u8)?;
     assert_eq!(rt; finished(alloc, builder)?.as_str(), "String(Owned(\"7\"))");
@@ -365,13 +365,13 @@ fn unsigned_numbers(builder: &mut Builder<'static>) -> Answer<()> {
 #[test]
 fn numbers_keep_their_kind(rt: HostRuntime) -> Result<(), Fail> {
     let alloc = rt.alloc();
-    let mut builder = Builder::new(alloc, false);
+    let mut builder: Builder<'static> = Builder::new(alloc, false);
     signed_numbers(&mut builder)?;
     assert_eq!(rt;
         finished(alloc, builder)?.as_str(),
         "Tuple([Number(I8(-8)), Number(I16(-16)), Number(I32(-32)), Number(I64(-64)), Number(I128(-128))])"
     );
-    let mut builder = Builder::new(alloc, false);
+    let mut builder: Builder<'static> = Builder::new(alloc, false);
     unsigned_numbers(&mut builder)?;
     assert_eq!(rt;
         finished(alloc, builder)?.as_str(),
@@ -383,7 +383,7 @@ fn numbers_keep_their_kind(rt: HostRuntime) -> Result<(), Fail> {
 #[test]
 fn a_map_of_keys_and_entries(rt: HostRuntime) -> Result<(), Fail> {
     let alloc = rt.alloc();
-    let mut builder = Builder::new(alloc, false);
+    let mut builder: Builder<'static> = Builder::new(alloc, false);
     builder.serialize_map(None)?;
     builder.serialize_entry()?;
     builder.serialize_none()?;
@@ -403,7 +403,7 @@ fn a_map_of_keys_and_entries(rt: HostRuntime) -> Result<(), Fail> {
 #[test]
 fn structs_around_structs(rt: HostRuntime) -> Result<(), Fail> {
     let alloc = rt.alloc();
-    let mut builder = Builder::new(alloc, false);
+    let mut builder: Builder<'static> = Builder::new(alloc, false);
     builder.serialize_newtype_struct("Foo")?;
     builder.serialize_struct("Bar", 2)?;
     builder.serialize_field("a")?;
@@ -422,7 +422,7 @@ fn structs_around_structs(rt: HostRuntime) -> Result<(), Fail> {
 #[test]
 fn variants_around_variants(rt: HostRuntime) -> Result<(), Fail> {
     let alloc = rt.alloc();
-    let mut builder = Builder::new(alloc, false);
+    let mut builder: Builder<'static> = Builder::new(alloc, false);
     builder.serialize_newtype_variant("E", 1, "A")?;
     builder.serialize_tuple_variant("E", 2, "B", 1)?;
     builder.serialize_tuple_field()?;
@@ -441,7 +441,7 @@ fn variants_around_variants(rt: HostRuntime) -> Result<(), Fail> {
 #[test]
 fn a_sequence_of_units(rt: HostRuntime) -> Result<(), Fail> {
     let alloc = rt.alloc();
-    let mut builder = Builder::new(alloc, false);
+    let mut builder: Builder<'static> = Builder::new(alloc, false);
     assert!(rt; !builder.is_human_readable());
     builder.take(&Call::Seq(None))?;
     builder.serialize_element()?;
@@ -461,7 +461,7 @@ fn an_open_builder_is_unfinished(rt: HostRuntime) -> Result<(), Fail> {
         finished(alloc, Builder::new(alloc, false))?.as_str(),
         "Unfinished"
     );
-    let mut builder = Builder::new(alloc, false);
+    let mut builder: Builder<'static> = Builder::new(alloc, false);
     builder.serialize_map(None)?;
     assert_eq!(rt; finished(alloc, builder)?.as_str(), "Unfinished");
     Ok(())

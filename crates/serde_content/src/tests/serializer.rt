@@ -134,19 +134,6 @@ fn a_dropped_field_stops_nothing(rt: HostRuntime) -> Result<(), Fail> {
 }
 
 #[test]
-fn a_static_unit_struct_keeps_its_name(rt: HostRuntime) -> Result<(), Fail> {
-    let alloc = rt.alloc();
-    let value = structure(alloc, CowStr::Borrowed("Foo"), Data::Unit)?;
-    assert!(rt; becomes(alloc, &value, &value)?);
-    let is_static = match Serializer::new().serialize(alloc, &value)? {
-        Value::Struct(inner) => matches!(inner.name, CowStr::Borrowed("Foo")),
-        _ => false,
-    };
-    assert!(rt; is_static);
-    Ok(())
-}
-
-#[test]
 fn an_owned_unit_struct_is_the_unit(rt: HostRuntime) -> Result<(), Fail> {
     let alloc = rt.alloc();
     let value = structure(alloc, owned(alloc, "Foo")?, Data::Unit)?;
