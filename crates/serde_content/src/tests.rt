@@ -1,17 +1,3 @@
 //! Tests over every crate, with expected values from the written rules.
-mod building;
 mod calls;
-mod conversions;
-mod copies;
-mod every_case;
-mod examples;
-mod for_people;
-mod images;
-mod order;
 mod recording;
-mod sending;
-mod sending_owned;
-mod sending_values;
-mod serializer;
-mod texts;
-mod trees;
