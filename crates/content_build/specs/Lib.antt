@@ -7,3 +7,4 @@ pub mod Answers
 pub mod Recorder
 pub mod Serializer
 pub mod Canonical
+pub mod Printed

@@ -17,11 +17,22 @@ use std::alloc::Global;
 ///
 /// Its state is a partial tree: fresh, open, or done. A call after which no list of calls can
 /// spell a tree answers `Misplaced`, before any memory is taken for it. A call whose memory is
-/// refused answers `OutOfMemory`. Every call after either answers `Failed`. Hints and lengths
-/// reserve nothing. Each text and array of bytes is copied once; names are never copied.
+/// refused answers `OutOfMemory`. Every call after either answers `Failed`; `collect_str` alone prints
+/// first, and where memory for that is refused it answers `OutOfMemory` and changes nothing. Hints and
+/// lengths reserve nothing. Texts and bytes are copied, names never. The calls are Serde's; that one
+/// out of place is an error is ours.
 ///
 /// Nothing in the tree is lent, so the lifetime is free: [`from_calls`](crate::from_calls) gives
 /// a value at any. As a [`Serializer`] the builder has the static one.
+///
+/// ```rust
+/// let mut builder: Builder<'static> = Builder::new(alloc, false);
+/// builder.serialize_seq(None)?;
+/// builder.serialize_element()?;
+/// builder.serialize_bool(true)?;
+/// builder.end()?;
+/// assert!(rt; builder.finish()? == Value::Seq(vec![in alloc; Value::Bool(true)]?));
+/// ```
 #[derive(Drop)]
 pub struct Builder<'v> {
     frames: Frames<'v>,
@@ -42,6 +53,10 @@ impl<'v> Builder<'v> {
     }
 
     /// Makes the call that a [`Call`] says.
+    ///
+    /// Errors: `Misplaced` where no whole list begins with the calls so far and this one,
+    /// `OutOfMemory` where a growth was refused, `Failed` after either. Memory is taken for texts,
+    /// bytes, items and boxes.
     pub fn take(&mut self, call: &Call<'_>) -> Result<()>
         // one step of the partial tree
         ensures taken { Takes step refuses (seen_of self.old) (event_of call.now) result (seen_of self.new) }
@@ -54,7 +69,7 @@ impl<'v> Builder<'v> {
     /// The tree that the calls spell. Its texts and bytes are owned and its names static.
     ///
     /// It answers `Failed` where the builder has failed, and `Unfinished` where the calls spell no
-    /// tree yet.
+    /// tree yet. It takes no memory.
     #[tactic(auto, unfolding(crate::specs::Builder::seen_of))]
     pub fn finish(self) -> Result<Value<'v>>
         ensures value { Finishes (seen_of self.entry).failed (seen_of self.entry).state result }

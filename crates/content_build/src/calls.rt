@@ -33,12 +33,21 @@ fn build<'v>(alloc: Global, calls: &[Call<'_>]) -> Result<Value<'v>, CallsError>
     }
 }
 
-/// The tree that a list of calls spells.
+/// The tree that a list of calls spells, its texts and bytes owned and its names static. (Ours: the
+/// Rust crate has no lists of calls.)
 ///
 /// Where it spells none, the error names the place of the first call after which nothing that
 /// follows can make it spell one, `Misplaced`; or the list's length where it only ended too early,
-/// `Unfinished`. Where memory is refused it names the call that needed it, or the list's length.
-/// Hints and lengths reserve nothing. Texts and bytes are copied once, names are not.
+/// `Unfinished`. Where memory is refused it names the call that needed it, or the list's length:
+/// `OutOfMemory`. Hints and lengths reserve nothing. Texts and bytes are copied once, names are not.
+///
+/// ```rust
+/// let calls = [Call::Seq(None), Call::Unit];
+/// match from_calls(alloc, &calls) {
+///     Ok(_) => assert!(rt; false),
+///     Err(refusal) => assert_eq!(rt; refusal.at, 1),
+/// }
+/// ```
 #[tactic(auto, using(crate::proofs::Headline::only))]
 pub fn from_calls<'v>(alloc: Global, calls: &[Call<'_>]) -> Result<Value<'v>, CallsError>
     // a tree that the calls spell, or a refusal at the right place for the right cause

@@ -9,13 +9,22 @@ ghost use Rattle.content_build.specs.Recorder.{recorded, keeps};
 use content_ser::{Call, Serializer};
 use content_tree::{CowBytes, CowStr, Error, ErrorKind, Number, Result};
 use std::alloc::Global;
+use std::fmt::Display;
 use std::marker::Model;
 
 /// A list of the calls that it took, in order.
 ///
 /// It takes any call, in or out of place, and refuses one only where memory is refused: then it
-/// answers `OutOfMemory`, from then on `Failed`, and keeps the calls taken before. It keeps texts
-/// and bytes of its own, copied from what a call lends.
+/// answers `OutOfMemory`, from then on `Failed`, and keeps the calls taken before (`collect_str` that
+/// can't print answers `OutOfMemory` and changes nothing). It keeps texts and bytes of its own, copied
+/// from what a call lends. The Rust crate has no such type.
+///
+/// ```rust
+/// let mut recorder = Recorder::new(alloc, false);
+/// Some(7u8).serialize(alloc, &mut recorder)?;
+/// let calls = [Call::SomeCall, Call::Number(Number::U8(7))];
+/// assert!(rt; recorder.calls().iter().eq(calls.iter()));
+/// ```
 #[derive(Drop)]
 pub struct Recorder {
     alloc: Global,
@@ -46,7 +55,7 @@ impl Recorder {
         }
     }
 
-    /// The calls taken so far, in order; their texts and bytes are owned.
+    /// The calls taken so far, in order; their texts and bytes are owned. It takes no memory.
     pub fn calls(&self) -> &[Call<'static>]
         ensures value { events_of result.now ≡ self.now.state }
         ensures owned { All IsOwned result.now }
@@ -54,7 +63,7 @@ impl Recorder {
         self.calls.as_slice()
     }
 
-    /// The calls taken, in order, moved out; their texts and bytes are owned.
+    /// The calls taken, in order, moved out; their texts and bytes are owned. It takes no memory.
     pub fn into_calls(self) -> Vec<Call<'static>>
         ensures value { events_of result.items ≡ self.state }
         ensures owned { All IsOwned result.items }
@@ -151,6 +160,12 @@ impl Serializer for Recorder {
             Ok(text) => self.take(Call::Str(CowStr::Owned(text))),
             Err(refused) => Err(self.fail(Error::from(refused))),
         }
+    }
+
+    // The printed text is moved, not copied.
+    fn collect_str<T: Display>(&mut self, alloc: Global, value: &T) -> Result<()> {
+        let text = format!(in alloc; "{value}")?;
+        self.take(Call::Str(CowStr::Owned(text)))
     }
 
     fn serialize_bytes(&mut self, v: &[u8]) -> Result<()> {

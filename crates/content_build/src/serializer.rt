@@ -8,17 +8,22 @@ use content_ser::Serialize;
 use content_tree::{Result, Value};
 use std::alloc::Global;
 
-/// Makes the tree of anything that can be serialised.
+/// Makes the tree of anything that can be serialised. The name and the flag are `serde-content`'s.
 ///
 /// It has one flag: whether what is serialised is told that it is for people to read, which is off
 /// at first. Serialisers go by that flag in `==` and in the order.
+///
+/// ```rust
+/// let held = Box::new(alloc, Value::from(7u8))?;
+/// assert!(rt; Serializer::new().serialize(alloc, &Some(7u8))? == Value::Option(Some(held)));
+/// ```
 #[derive(Clone, Copy, Debug, PartialEq, Eq, PartialOrd, Ord)]
 pub struct Serializer {
     human_readable: bool,
 }
 
 impl Serializer {
-    /// A serialiser with the flag off.
+    /// A serialiser with the flag off. It takes no memory.
     pub fn new() -> Serializer
         ensures { is_readable result ≡ false }
     {
@@ -27,7 +32,7 @@ impl Serializer {
         }
     }
 
-    /// The same with the flag on.
+    /// The same with the flag on. It takes no memory.
     pub fn human_readable(self) -> Serializer
         ensures { is_readable result ≡ true }
     {

@@ -1,4 +1,4 @@
--- What contracts see of the Rust types of a line.
+-- What contracts see of the types of a line.
 use Rattle.std.specs.Prelude.{◌≡◌, Option, None, Some, MatchOption}
 use Rattle.content_ser.specs.Event as event
 use Rattle.content_ser.specs.Event.{Event}

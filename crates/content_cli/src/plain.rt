@@ -1,6 +1,7 @@
 //! A reader or a writer of the standard library, as a source or a sink.
 
 ghost use Rattle.std.specs.Prelude.{◌≡◌, false};
+ghost use Rattle.content_cli.specs.Plain.{inner_of, is_failed};
 
 use crate::ports::{Fault, Sink, Source};
 use std::io::{Read, Write};
@@ -16,10 +17,10 @@ pub struct Plain<T> {
 }
 
 impl<T> Plain<T> {
-    /// One that hasn't failed.
+    /// One that hasn't failed. It takes no memory.
     pub fn new(inner: T) -> Plain<T>
-        ensures inner { result.inner ≡ inner }
-        ensures failed { result.failed ≡ false }
+        ensures inner { inner_of result ≡ inner }
+        ensures failed { is_failed result ≡ false }
     {
         Plain {
             inner,

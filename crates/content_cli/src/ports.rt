@@ -16,7 +16,8 @@ pub trait Source {
     ghost has_failed: { Self → Bool };
 
     /// Moves the next bytes to the front of the buffer, and answers how many. With a buffer that
-    /// isn't empty it answers 0 only at the end.
+    /// isn't empty it answers 0 only at the end. `Err` says that the read went wrong: nothing is said
+    /// of the buffer, and it has failed.
     fn take(&mut self, buf: &mut [u8]) -> Result<usize, Fault>
         ensures bound { IfOk result (λ n. n ≤ length buf.new) }
         ensures moved { IfOk result (λ n. Consumes (left self.old) (left self.new) (take n buf.new)) }
@@ -37,7 +38,8 @@ pub trait Sink {
     /// Whether a write has gone wrong.
     ghost has_failed: { Self → Bool };
 
-    /// Takes bytes from the front, and answers how many: at least one where there is one.
+    /// Takes bytes from the front, and answers how many: at least one where there is one. `Err` says
+    /// that the write went wrong, and it has failed.
     fn put(&mut self, bytes: &[u8]) -> Result<usize, Fault>
         ensures bound { IfOk result (λ n. n ≤ length bytes.now) }
         ensures moved { IfOk result (λ n. Appends (written self.old) (written self.new) (take n bytes.now)) }

@@ -33,8 +33,15 @@ fn finish<W: Sink>(writer: &mut W, line: &[u8], status: u8) -> u8
 /// | 4 | `read failed` | the reader answered a fault |
 /// | 5 | any part of a line | the writer answered a fault |
 ///
-/// The line is made whole before any of it is written. A reader that never ends brings the run to
-/// want of memory.
+/// Neither the reader nor the writer may have failed before. The line is made whole before any of it
+/// is written. A reader that never ends brings the run to want of memory. The lines, their answers
+/// and the statuses are ours.
+///
+/// ```rust
+/// let mut input = Plain::new(rt.stdin());
+/// let mut output = Plain::new(rt.stdout());
+/// let status = run(rt.alloc(), &mut input, &mut output);
+/// ```
 pub fn run<R: Source, W: Sink>(alloc: Global, reader: &mut R, writer: &mut W) -> u8
     requires reader_works { R.has_failed reader.old ≡ false }
     requires writer_works { W.has_failed writer.old ≡ false }

@@ -7,11 +7,18 @@ ghost use Rattle.content_ser.specs.Call.{event_of, text_part};
 use content_tree::{CowBytes, CowStr, Number, Result};
 use std::alloc::Global;
 
-/// One call on a serialiser, of the 26 kinds that Serde's data model has without floats.
+/// One call on a serialiser, of 26 kinds: those of Serde's data model without floats, its ten whole
+/// numbers as one, and seven that are ours, which announce an item or close what was opened.
 ///
-/// Hints and lengths are what the caller says: no answer rests on them. Two calls are equal where
-/// they are of one kind and hold the same contents, hints and lengths: whether a text or bytes are
-/// borrowed does not count.
+/// Hints and lengths are what the caller says: no tree rests on them. Two calls are equal where they
+/// are of one kind and hold the same contents, hints and lengths: whether a text or bytes are borrowed
+/// does not count.
+///
+/// ```rust
+/// let calls = [Call::Seq(Some(1)), Call::Element, Call::Bool(true), Call::End];
+/// let value = from_calls(alloc, &calls)?;
+/// assert!(rt; value == Value::Seq(vec![in alloc; Value::Bool(true)]?));
+/// ```
 #[derive(Debug, Drop, PartialEq, Eq)]
 pub enum Call<'a> {
     /// A boolean.
@@ -71,7 +78,8 @@ pub enum Call<'a> {
 impl<'a> Call<'a> {
     /// The same call, its text or bytes borrowed or owned as here.
     ///
-    /// Memory is taken where it holds an owned text or owned bytes, and nowhere else.
+    /// Memory is taken where it holds an owned text or owned bytes, and nowhere else; where that is
+    /// refused: an error of kind `OutOfMemory`.
     pub fn try_clone(&self, alloc: Global) -> Result<Call<'a>>
         ensures value { IfOk result (λ copy. event_of copy ≡ event_of self.now) }
         ensures kept { IfOk result (λ copy. text_part copy ≡ text_part self.now) }

@@ -6,7 +6,7 @@ ghost use Rattle.content_ser.specs.Call.{event_of};
 
 use crate::call::Call;
 
-/// What `==` answers: whether two calls are the same by contents.
+/// What `==` answers: whether two calls are the same by contents. It takes no memory.
 pub fn equal_by_contents(a: &Call<'_>, b: &Call<'_>) -> bool
     ensures { Decides result (event_of a.now ≡ event_of b.now) }
 {

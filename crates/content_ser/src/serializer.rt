@@ -13,9 +13,14 @@ use std::fmt::Display;
 ///
 /// An implementation names its state as plain data, which no code has to make, and the step that
 /// each call takes in it. A call that answers `Ok` takes that step and leaves the serialiser not
-/// failed. A call that answers `Err` leaves it failed: the step is none, or a growth was refused.
-/// A failed serialiser refuses every call and stays failed. No call changes whether it is for
-/// people to read.
+/// failed. A call other than `collect_str` that answers `Err` leaves it failed: the step is none, or a
+/// growth was refused. A failed serialiser refuses every call and stays failed. No call changes
+/// whether it is for people to read.
+///
+/// Names live as long as the program. `variant_index` is the variant's place in its enum, from 0. A
+/// length counts items; that of a sequence or a map is a hint, which may be left out. Errors are those
+/// that `refuses` names; whether a call takes memory is the implementation's. The calls are Serde's,
+/// but that items are announced and that `end` is one call.
 pub trait Serializer {
     /// What the calls so far have come to.
     ghost State: { Type 0 };

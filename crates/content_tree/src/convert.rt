@@ -10,6 +10,7 @@ use crate::cow::{CowBytes, CowStr};
 use crate::number::Number;
 use crate::value::NamedValue;
 
+/// It takes no memory.
 impl<'a, 'n> From<()> for NamedValue<'a, 'n> {
     ghost from_gives = { λ _unit value. tree_of value ≡ tree.unit };
 
@@ -18,6 +19,7 @@ impl<'a, 'n> From<()> for NamedValue<'a, 'n> {
     }
 }
 
+/// It takes no memory.
 impl<'a, 'n> From<bool> for NamedValue<'a, 'n> {
     ghost from_gives = { λ boolean value. tree_of value ≡ tree.boolean boolean };
 
@@ -26,6 +28,7 @@ impl<'a, 'n> From<bool> for NamedValue<'a, 'n> {
     }
 }
 
+/// It takes no memory.
 impl<'a, 'n> From<Number> for NamedValue<'a, 'n> {
     ghost from_gives = { λ number value. tree_of value ≡ tree.number number };
 
@@ -34,6 +37,7 @@ impl<'a, 'n> From<Number> for NamedValue<'a, 'n> {
     }
 }
 
+/// It takes no memory.
 impl<'a, 'n> From<i8> for NamedValue<'a, 'n> {
     ghost from_gives = { λ number value. tree_of value ≡ tree.number (Number.I8 number) };
 
@@ -42,6 +46,7 @@ impl<'a, 'n> From<i8> for NamedValue<'a, 'n> {
     }
 }
 
+/// It takes no memory.
 impl<'a, 'n> From<u8> for NamedValue<'a, 'n> {
     ghost from_gives = { λ number value. tree_of value ≡ tree.number (Number.U8 number) };
 
@@ -50,6 +55,7 @@ impl<'a, 'n> From<u8> for NamedValue<'a, 'n> {
     }
 }
 
+/// It takes no memory.
 impl<'a, 'n> From<i16> for NamedValue<'a, 'n> {
     ghost from_gives = { λ number value. tree_of value ≡ tree.number (Number.I16 number) };
 
@@ -58,6 +64,7 @@ impl<'a, 'n> From<i16> for NamedValue<'a, 'n> {
     }
 }
 
+/// It takes no memory.
 impl<'a, 'n> From<u16> for NamedValue<'a, 'n> {
     ghost from_gives = { λ number value. tree_of value ≡ tree.number (Number.U16 number) };
 
@@ -66,6 +73,7 @@ impl<'a, 'n> From<u16> for NamedValue<'a, 'n> {
     }
 }
 
+/// It takes no memory.
 impl<'a, 'n> From<i32> for NamedValue<'a, 'n> {
     ghost from_gives = { λ number value. tree_of value ≡ tree.number (Number.I32 number) };
 
@@ -74,6 +82,7 @@ impl<'a, 'n> From<i32> for NamedValue<'a, 'n> {
     }
 }
 
+/// It takes no memory.
 impl<'a, 'n> From<u32> for NamedValue<'a, 'n> {
     ghost from_gives = { λ number value. tree_of value ≡ tree.number (Number.U32 number) };
 
@@ -82,6 +91,7 @@ impl<'a, 'n> From<u32> for NamedValue<'a, 'n> {
     }
 }
 
+/// It takes no memory.
 impl<'a, 'n> From<i64> for NamedValue<'a, 'n> {
     ghost from_gives = { λ number value. tree_of value ≡ tree.number (Number.I64 number) };
 
@@ -90,6 +100,7 @@ impl<'a, 'n> From<i64> for NamedValue<'a, 'n> {
     }
 }
 
+/// It takes no memory.
 impl<'a, 'n> From<u64> for NamedValue<'a, 'n> {
     ghost from_gives = { λ number value. tree_of value ≡ tree.number (Number.U64 number) };
 
@@ -98,6 +109,7 @@ impl<'a, 'n> From<u64> for NamedValue<'a, 'n> {
     }
 }
 
+/// It takes no memory.
 impl<'a, 'n> From<i128> for NamedValue<'a, 'n> {
     ghost from_gives = { λ number value. tree_of value ≡ tree.number (Number.I128 number) };
 
@@ -106,6 +118,7 @@ impl<'a, 'n> From<i128> for NamedValue<'a, 'n> {
     }
 }
 
+/// It takes no memory.
 impl<'a, 'n> From<u128> for NamedValue<'a, 'n> {
     ghost from_gives = { λ number value. tree_of value ≡ tree.number (Number.U128 number) };
 
@@ -114,6 +127,7 @@ impl<'a, 'n> From<u128> for NamedValue<'a, 'n> {
     }
 }
 
+/// It takes no memory.
 impl<'a, 'n> From<char> for NamedValue<'a, 'n> {
     ghost from_gives = { λ character value. tree_of value ≡ tree.character character };
 
@@ -122,6 +136,7 @@ impl<'a, 'n> From<char> for NamedValue<'a, 'n> {
     }
 }
 
+/// It takes no memory.
 impl<'a, 'n> From<CowStr<'a>> for NamedValue<'a, 'n> {
     ghost from_gives = { λ text value. tree_of value ≡ tree.text (text_of text) };
 
@@ -130,6 +145,7 @@ impl<'a, 'n> From<CowStr<'a>> for NamedValue<'a, 'n> {
     }
 }
 
+/// It takes no memory.
 impl<'a, 'n> From<&'a str> for NamedValue<'a, 'n> {
     ghost from_gives = { λ text value. tree_of value ≡ tree.text (borrowed_text text.now) };
 
@@ -138,6 +154,7 @@ impl<'a, 'n> From<&'a str> for NamedValue<'a, 'n> {
     }
 }
 
+/// It takes no memory.
 impl<'a, 'n> From<&'a String> for NamedValue<'a, 'n> {
     ghost from_gives = { λ text value. tree_of value ≡ tree.text (borrowed_text (string_bytes text.now)) };
 
@@ -146,6 +163,7 @@ impl<'a, 'n> From<&'a String> for NamedValue<'a, 'n> {
     }
 }
 
+/// It takes no memory.
 impl<'a, 'n> From<String> for NamedValue<'a, 'n> {
     ghost from_gives = { λ text value. tree_of value ≡ tree.text (owned_text (string_bytes text)) };
 
@@ -154,6 +172,7 @@ impl<'a, 'n> From<String> for NamedValue<'a, 'n> {
     }
 }
 
+/// It takes no memory.
 impl<'a, 'n> From<&'a [u8]> for NamedValue<'a, 'n> {
     ghost from_gives = { λ bytes value. tree_of value ≡ tree.octets (borrowed_text bytes.now) };
 
@@ -162,6 +181,7 @@ impl<'a, 'n> From<&'a [u8]> for NamedValue<'a, 'n> {
     }
 }
 
+/// It takes no memory.
 impl<'a, 'n> From<&'a Vec<u8>> for NamedValue<'a, 'n> {
     ghost from_gives = { λ bytes value. tree_of value ≡ tree.octets (borrowed_text bytes.now.items) };
 
@@ -170,6 +190,7 @@ impl<'a, 'n> From<&'a Vec<u8>> for NamedValue<'a, 'n> {
     }
 }
 
+/// It takes no memory.
 impl<'a, 'n> From<Vec<u8>> for NamedValue<'a, 'n> {
     ghost from_gives = { λ bytes value. tree_of value ≡ tree.octets (owned_text bytes.items) };
 

@@ -9,6 +9,9 @@ use std::alloc::Global;
 
 impl Expected {
     /// A copy: the same expectation.
+    ///
+    /// It takes memory for owned texts, vectors and boxes, and nothing for the rest; where that is
+    /// refused: an error of kind `OutOfMemory`.
     pub fn try_clone(&self, alloc: Global) -> Result<Expected>
         ensures value { IfOk result (λ copy. expected_view copy ≡ expected_view self.now) }
         ensures memory { IfErr result (λ e. IsOutOfMemory e) }
@@ -58,6 +61,9 @@ fn clone_name(alloc: Global, name: &Option<String>) -> Result<Option<String>>
 
 impl ErrorKind {
     /// A copy: the same kind, with the same image, expectation or text.
+    ///
+    /// It takes memory for owned texts, vectors and boxes, and nothing for the rest; where that is
+    /// refused: an error of kind `OutOfMemory`.
     pub fn try_clone(&self, alloc: Global) -> Result<ErrorKind>
         ensures value { IfOk result (λ copy. kind_view copy ≡ kind_view self.now) }
         ensures memory { IfErr result (λ e. IsOutOfMemory e) }
@@ -81,6 +87,9 @@ impl ErrorKind {
 
 impl Error {
     /// A copy: an error of the same kind, with the same image, expectation or text.
+    ///
+    /// It takes memory for owned texts, vectors and boxes, and nothing for the rest; where that is
+    /// refused: an error of kind `OutOfMemory`.
     pub fn try_clone(&self, alloc: Global) -> Result<Error>
         ensures value { IfOk result (λ copy. kind_view (kind_of copy) ≡ kind_view (kind_of self.now)) }
         ensures memory { IfErr result (λ e. IsOutOfMemory e) }

@@ -9,6 +9,9 @@ use std::alloc::Global;
 
 impl Found {
     /// A copy of the image.
+    ///
+    /// It takes memory for owned texts, vectors and boxes, and nothing for the rest; where that is
+    /// refused: an error of kind `OutOfMemory`.
     #[cycle(copy_found)]
     pub fn try_clone(&self, alloc: Global) -> Result<Found>
         ensures value { IfOk result (λ copy. image_view copy ≡ image_view self.now) }
@@ -57,6 +60,9 @@ impl Found {
 
 impl FoundData {
     /// A copy of the image.
+    ///
+    /// It takes memory for owned texts, vectors and boxes, and nothing for the rest; where that is
+    /// refused: an error of kind `OutOfMemory`.
     #[cycle(copy_found)]
     pub fn try_clone(&self, alloc: Global) -> Result<FoundData>
         ensures value { IfOk result (λ copy. content_view copy ≡ content_view self.now) }

@@ -7,7 +7,8 @@ ghost use Rattle.content_tree.specs.Kind.{IsOutOfMemory};
 use crate::error::Result;
 use std::alloc::Global;
 
-/// A text, borrowed or owned. A name is static where it is borrowed, and owned where it is owned.
+/// A text, borrowed or owned. A borrowed name is called static: in [`Value`](crate::Value) it lives
+/// as long as the program.
 #[derive(Debug, Drop)]
 pub enum CowStr<'a> {
     /// A text that is lent.
@@ -26,7 +27,7 @@ pub enum CowBytes<'a> {
 }
 
 impl<'a> CowStr<'a> {
-    /// The text.
+    /// The text. It takes no memory.
     pub fn as_str(&self) -> &str
         ensures { result.now ≡ text_content self.now }
     {
@@ -36,7 +37,7 @@ impl<'a> CowStr<'a> {
         }
     }
 
-    /// Whether the text is borrowed; of a name: whether it is static.
+    /// Whether the text is borrowed; of a name: whether it is static. It takes no memory.
     pub fn is_borrowed(&self) -> bool
         ensures { result ≡ (text_of self.now).borrowed }
     {
@@ -47,6 +48,7 @@ impl<'a> CowStr<'a> {
     }
 
     /// The text as one that is owned. An owned one is moved, without memory; a borrowed one is copied.
+    /// Where that copy is refused: an error of kind `OutOfMemory`.
     pub fn into_owned(self, alloc: Global) -> Result<String>
         ensures value { IfOk result (λ text. string_bytes text ≡ text_content self.entry) }
         ensures moved { IfSome (string_in self.entry) (λ text. result ≡ Ok text) }
@@ -58,7 +60,8 @@ impl<'a> CowStr<'a> {
         }
     }
 
-    /// A copy of the same case: a borrowed text is borrowed again, without memory, and an owned one is copied.
+    /// A copy of the same case: a borrowed text is borrowed again, without memory, and an owned one is
+    /// copied. Where that copy is refused: an error of kind `OutOfMemory`.
     pub fn try_clone(&self, alloc: Global) -> Result<CowStr<'a>>
         ensures value { IfOk result (λ copy. text_of copy ≡ text_of self.now) }
         ensures succeeds { IsTrue (text_of self.now).borrowed → IsOk result }
@@ -72,7 +75,7 @@ impl<'a> CowStr<'a> {
 }
 
 impl<'a> CowBytes<'a> {
-    /// The bytes.
+    /// The bytes. It takes no memory.
     pub fn as_bytes(&self) -> &[u8]
         ensures { result.now ≡ bytes_content self.now }
     {
@@ -82,7 +85,7 @@ impl<'a> CowBytes<'a> {
         }
     }
 
-    /// Whether the bytes are borrowed.
+    /// Whether the bytes are borrowed. It takes no memory.
     pub fn is_borrowed(&self) -> bool
         ensures { result ≡ (bytes_of self.now).borrowed }
     {
@@ -92,7 +95,8 @@ impl<'a> CowBytes<'a> {
         }
     }
 
-    /// The bytes as ones that are owned. Owned ones are moved, without memory; borrowed ones are copied.
+    /// The bytes as ones that are owned. Owned ones are moved, without memory; borrowed ones are
+    /// copied. Where that copy is refused: an error of kind `OutOfMemory`.
     pub fn into_owned(self, alloc: Global) -> Result<Vec<u8>>
         ensures value { IfOk result (λ bytes. bytes.items ≡ bytes_content self.entry) }
         ensures moved { IfSome (vec_in self.entry) (λ bytes. result ≡ Ok bytes) }
@@ -104,7 +108,8 @@ impl<'a> CowBytes<'a> {
         }
     }
 
-    /// A copy of the same case: borrowed bytes are borrowed again, without memory, and owned ones are copied.
+    /// A copy of the same case: borrowed bytes are borrowed again, without memory, and owned ones are
+    /// copied. Where that copy is refused: an error of kind `OutOfMemory`.
     pub fn try_clone(&self, alloc: Global) -> Result<CowBytes<'a>>
         ensures value { IfOk result (λ copy. bytes_of copy ≡ bytes_of self.now) }
         ensures succeeds { IsTrue (bytes_of self.now).borrowed → IsOk result }

@@ -10,7 +10,8 @@ use crate::number::Number;
 use crate::quote::write_quoted;
 use std::fmt;
 
-// What is found prints as it would stand in a program: `Foo::Bar(true, 'a')`, `{ "k": 1u8 }`.
+/// The text of an image as `serde-content` prints it: `Foo::Bar(true, 'a')`, `{ "k": 1u8 }`. Names,
+/// keys and characters stand as they are, so it isn't always what a program could say.
 impl fmt::Display for Found {
     ghost output = { λ f. Some (printed (image_view f)) };
 

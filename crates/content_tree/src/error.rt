@@ -34,7 +34,17 @@ pub enum ErrorKind {
     Unfinished,
 }
 
-/// An error: one [`ErrorKind`].
+/// An error: one [`ErrorKind`], with no box. `Unexpected` and `Custom` are `serde-content`'s kinds, the
+/// other four are ours.
+///
+/// ```rust
+/// let error = Error::unexpected(Found::Bool(true), Expected::Unit);
+/// assert_eq!(rt;
+///     format!(in alloc; "{error}")?.as_str(),
+///     "failed to deserialize; expected a unit, found true"
+/// );
+/// assert!(rt; matches!(error.kind(), ErrorKind::Unexpected { .. }));
+/// ```
 #[derive(Debug, Drop, PartialEq, Eq, PartialOrd, Ord)]
 pub struct Error {
     kind: ErrorKind,
@@ -89,14 +99,14 @@ impl Error {
         }
     }
 
-    /// The kind of the error.
+    /// The kind of the error. It takes no memory.
     pub fn kind(&self) -> &ErrorKind
         ensures { result.now ≡ kind_of self.now }
     {
         &self.kind
     }
 
-    /// The kind of the error, moved out of it.
+    /// The kind of the error, moved out of it. It takes no memory.
     pub fn into_kind(self) -> ErrorKind
         ensures { result ≡ kind_of self }
     {

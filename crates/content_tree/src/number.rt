@@ -2,7 +2,7 @@
 ghost use Rattle.std.specs.Prelude.{◌≡◌};
 ghost use Rattle.content_tree.specs.declared.number.Number.{Number};
 
-/// A whole number, with its kind.
+/// A whole number with its kind, within that kind's range. As `serde-content`'s, without floats.
 #[derive(Clone, Copy, Debug, PartialEq, Eq, PartialOrd, Ord)]
 pub enum Number {
     /// A signed number of 8 bits.
@@ -27,6 +27,7 @@ pub enum Number {
     U128(u128),
 }
 
+/// It takes no memory.
 impl From<i8> for Number {
     ghost from_gives = { λ from number. number ≡ Number.I8 from };
 
@@ -35,6 +36,7 @@ impl From<i8> for Number {
     }
 }
 
+/// It takes no memory.
 impl From<u8> for Number {
     ghost from_gives = { λ from number. number ≡ Number.U8 from };
 
@@ -43,6 +45,7 @@ impl From<u8> for Number {
     }
 }
 
+/// It takes no memory.
 impl From<i16> for Number {
     ghost from_gives = { λ from number. number ≡ Number.I16 from };
 
@@ -51,6 +54,7 @@ impl From<i16> for Number {
     }
 }
 
+/// It takes no memory.
 impl From<u16> for Number {
     ghost from_gives = { λ from number. number ≡ Number.U16 from };
 
@@ -59,6 +63,7 @@ impl From<u16> for Number {
     }
 }
 
+/// It takes no memory.
 impl From<i32> for Number {
     ghost from_gives = { λ from number. number ≡ Number.I32 from };
 
@@ -67,6 +72,7 @@ impl From<i32> for Number {
     }
 }
 
+/// It takes no memory.
 impl From<u32> for Number {
     ghost from_gives = { λ from number. number ≡ Number.U32 from };
 
@@ -75,6 +81,7 @@ impl From<u32> for Number {
     }
 }
 
+/// It takes no memory.
 impl From<i64> for Number {
     ghost from_gives = { λ from number. number ≡ Number.I64 from };
 
@@ -83,6 +90,7 @@ impl From<i64> for Number {
     }
 }
 
+/// It takes no memory.
 impl From<u64> for Number {
     ghost from_gives = { λ from number. number ≡ Number.U64 from };
 
@@ -91,6 +99,7 @@ impl From<u64> for Number {
     }
 }
 
+/// It takes no memory.
 impl From<i128> for Number {
     ghost from_gives = { λ from number. number ≡ Number.I128 from };
 
@@ -99,6 +108,7 @@ impl From<i128> for Number {
     }
 }
 
+/// It takes no memory.
 impl From<u128> for Number {
     ghost from_gives = { λ from number. number ≡ Number.U128 from };
 

@@ -3,16 +3,27 @@
 use crate::cow::{CowBytes, CowStr};
 use crate::number::Number;
 
-/// A value of Serde's data model, whose texts and bytes may be borrowed for `'a`.
+/// A value of Serde's data model without floats, with the cases of `serde-content`'s `Value`. Its
+/// texts and bytes may be borrowed for `'a`; a name, a variant or a key that is borrowed is static.
+///
+/// `==` and the order see neither whether a text is borrowed nor whether a name is static. (That the
+/// order is total is ours.)
+///
+/// ```rust
+/// let value = Value::Seq(vec![in alloc; Value::from(true), Value::from(255u8)]?);
+/// let found = value.into_found(alloc)?;
+/// assert_eq!(rt; format!(in alloc; "{found}")?.as_str(), "[true, 255u8]");
+/// ```
 pub type Value<'a> = NamedValue<'a, 'static>;
 
-/// A struct of Serde's data model.
+/// A struct of Serde's data model: its name and what it holds. As in `serde-content`.
 pub type Struct<'a> = NamedStruct<'a, 'static>;
 
-/// A variant of an enum of Serde's data model.
+/// A variant of an enum of Serde's data model: the enum's name, the variant's index (from 0) and
+/// name, and what it holds. As in `serde-content`.
 pub type Enum<'a> = NamedEnum<'a, 'static>;
 
-/// What a struct or a variant holds.
+/// What a struct or a variant holds. As in `serde-content`.
 pub type Data<'a> = NamedData<'a, 'static>;
 
 /// A [`Value`] whose borrowed names live for `'n`.

@@ -1,4 +1,6 @@
-//! A container for any value of Serde's data model.
+//! A container for any value of Serde's data model without floats: a serialiser's calls build a
+//! tree, and a tree goes out again as calls. Types and names are those of the crate
+//! `serde-content` 0.1.2; [`ser`] has the calls and [`laws`] the laws.
 #![tactic(auto)]
 
 pub use content_build::Serializer;

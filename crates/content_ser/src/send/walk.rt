@@ -18,6 +18,7 @@ use crate::serializer::Serializer;
 use content_tree::{CowStr, Data, Enum, Result, Struct, Value};
 use std::alloc::Global;
 
+/// Sends a value: each node by its call, its children in order, structs and variants by their names.
 #[cycle(send)]
 pub fn send<S: Serializer>(value: &Value<'_>, alloc: Global, serializer: &mut S) -> Result<()>
     ensures { Sends S.step (S.seen serializer.old) (sent_tree (tree_of value.now)) result (S.seen serializer.new) }
