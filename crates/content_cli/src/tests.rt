@@ -2,6 +2,7 @@
 
 ghost use Rattle.std.specs.Prelude.{Some};
 
+use crate::plain::Plain;
 use crate::ports::{Fault, Sink, Source};
 use crate::run::run;
 use std::alloc::Global;
@@ -278,5 +279,14 @@ fn failed_writes_are_the_status(rt: HostRuntime) -> Result<(), Fail> {
         let (_, status) = outcome(rt.alloc(), b"bad\n", AMPLE, writes);
         assert_eq!(rt; status, 5);
     }
+    Ok(())
+}
+
+#[test]
+fn a_new_port_has_not_failed(rt: HostRuntime) -> Result<(), Fail> {
+    let reader = Plain::new(rt.stdin());
+    let writer = Plain::new(rt.stdout());
+    assert!(rt; !Source::failed(&reader));
+    assert!(rt; !Sink::failed(&writer));
     Ok(())
 }

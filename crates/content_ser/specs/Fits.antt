@@ -19,16 +19,19 @@ mutual
   spells_before more (spells_map s) = spells_map (items_before more s)
   spells_before more (spells_record s) = spells_record (members_before more s)
 
+  -- one by one
   pub elements_before : (more : List Kind) {m : Mark} {calls rest : List Kind} {ts : Trees} → Elements m calls ts rest → Elements m (calls ++ more) ts (rest ++ more)
   elements_before more elements_end = elements_end
   elements_before more (elements_more s e) = elements_more (spells_before more s) (elements_before more e)
 
+  -- for the items of a map
   pub items_before : (more : List Kind) {calls rest : List Kind} {items : List Item} → Items calls items rest → Items (calls ++ more) items (rest ++ more)
   items_before more items_end = items_end
   items_before more (items_key s e) = items_key (spells_before more s) (items_before more e)
   items_before more (items_value s e) = items_value (spells_before more s) (items_before more e)
   items_before more (items_entry s v e) = items_entry (spells_before more s) (spells_before more v) (items_before more e)
 
+  -- for the fields of a struct
   pub members_before : (more : List Kind) {calls rest : List Kind} {fs : Fields} → Members calls fs rest → Members (calls ++ more) fs (rest ++ more)
   members_before more members_end = members_end
   members_before more (members_more s e) = members_more (spells_before more s) (members_before more e)
@@ -75,6 +78,7 @@ fits_call f q = record {
   viable = (q.viable.0, λ rest. f _ rest (q.viable.1 rest));
 }
 
+-- a script and then another can be made to read as R
 viable_then : {P Q R : List Kind → List Kind → Type 0} (a b : Script) (o : Option (List ℕ)) → stop_of a ≡ o
     → ((calls mid rest : List Kind) → P calls mid → Q mid rest → R calls rest) → Fits P a → Fits Q b
     → (more : List Event) × ((rest : List Kind) → R (kinds (calls_of (and_then a b)) ++ (kinds more ++ rest)) rest)

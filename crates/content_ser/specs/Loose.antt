@@ -71,10 +71,12 @@ abbrev mutual
   loose_payload (tree.many ts) = tree.many (loose_each ts)
   loose_payload (tree.named fs) = tree.named (loose_fields fs)
 
+  -- one by one
   pub loose_each : Trees → Trees
   loose_each tree.no_trees = tree.no_trees
   loose_each (tree.tree_then t ts) = tree.tree_then (loose t) (loose_each ts)
 
+  -- of each pair, key and then value
   pub loose_pairs : Pairs → Pairs
   loose_pairs tree.no_pairs = tree.no_pairs
   loose_pairs (tree.pair_then k t ps) = tree.pair_then (loose k) (loose t) (loose_pairs ps)

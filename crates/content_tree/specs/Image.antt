@@ -61,20 +61,24 @@ abbrev mutual
   image (tree.enumeration n i v p) = enumeration n.content v.content (image_payload p)
   image (tree.tuple ts) = tuple (image_each ts)
 
+  -- in what a struct or a variant holds
   pub image_payload : Payload → Content
   image_payload tree.no_payload = no_content
   image_payload (tree.one t) = one (image t)
   image_payload (tree.many ts) = many (image_each ts)
   image_payload (tree.named fs) = named (image_fields fs)
 
+  -- one by one
   pub image_each : Trees → Images
   image_each tree.no_trees = no_images
   image_each (tree.tree_then t ts) = image_then (image t) (image_each ts)
 
+  -- of each pair, key and then value
   pub image_pairs : Pairs → Entries
   image_pairs tree.no_pairs = no_entries
   image_pairs (tree.pair_then k t ps) = entry_then (image k) (image t) (image_pairs ps)
 
+  -- of each field, key and then value
   pub image_fields : Fields → Members
   image_fields tree.no_fields = no_members
   image_fields (tree.field_then k t fs) = member_then k.content (image t) (image_fields fs)

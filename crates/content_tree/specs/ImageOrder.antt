@@ -63,6 +63,7 @@ abbrev mutual
   image_cmp (identifier a) (identifier b) = bytes_cmp a b
   image_cmp a b = nat_cmp (image_rank a) (image_rank b)
 
+  -- what is held: by its case, and then from left to right
   pub content_cmp : Content → Content → Ordering
   content_cmp no_content no_content = Equal
   content_cmp (one a) (one b) = image_cmp a b
@@ -77,6 +78,7 @@ abbrev mutual
   images_cmp (image_then i is) no_images = Greater
   images_cmp (image_then i is) (image_then j js) = ordering_then (image_cmp i j) (images_cmp is js)
 
+  -- pairs: key and then value
   pub entries_cmp : Entries → Entries → Ordering
   entries_cmp no_entries no_entries = Equal
   entries_cmp no_entries (entry_then l j fs) = Less
@@ -84,6 +86,7 @@ abbrev mutual
   entries_cmp (entry_then k i es) (entry_then l j fs) =
       ordering_then (image_cmp k l) (ordering_then (image_cmp i j) (entries_cmp es fs))
 
+  -- fields: key and then value
   pub members_cmp : Members → Members → Ordering
   members_cmp no_members no_members = Equal
   members_cmp no_members (member_then l j ns) = Less

@@ -84,6 +84,7 @@ abbrev mutual
   tree_cmp (tuple a) (tuple b) = trees_cmp a b
   tree_cmp a b = nat_cmp (tree_rank a) (tree_rank b)
 
+  -- what is held: by its case, and then from left to right
   pub payload_cmp : Payload → Payload → Ordering
   payload_cmp no_payload no_payload = Equal
   payload_cmp (one a) (one b) = tree_cmp a b
@@ -98,6 +99,7 @@ abbrev mutual
   trees_cmp (tree_then t ts) no_trees = Greater
   trees_cmp (tree_then t ts) (tree_then u us) = ordering_then (tree_cmp t u) (trees_cmp ts us)
 
+  -- pairs: key and then value
   pub pairs_cmp : Pairs → Pairs → Ordering
   pairs_cmp no_pairs no_pairs = Equal
   pairs_cmp no_pairs (pair_then l u qs) = Less
@@ -105,6 +107,7 @@ abbrev mutual
   pairs_cmp (pair_then k t ps) (pair_then l u qs) =
       ordering_then (tree_cmp k l) (ordering_then (tree_cmp t u) (pairs_cmp ps qs))
 
+  -- fields: key and then value
   pub fields_cmp : Fields → Fields → Ordering
   fields_cmp no_fields no_fields = Equal
   fields_cmp no_fields (field_then l u gs) = Less

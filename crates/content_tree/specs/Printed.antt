@@ -51,20 +51,24 @@ abbrev mutual
   printed (tuple is) = codes "(" ++ (printed_list [] is ++ codes ")")
   printed (identifier t) = t
 
+  -- in what a struct or a variant holds
   pub printed_content : Content → List ℕ
   printed_content no_content = []
   printed_content (one i) = codes "(" ++ (printed i ++ codes ")")
   printed_content (many is) = codes "(" ++ (printed_list [] is ++ codes ")")
   printed_content (named ms) = codes " { " ++ (printed_members [] ms ++ codes " }")
 
+  -- one by one
   pub printed_list : List ℕ → Images → List ℕ
   printed_list lead no_images = []
   printed_list lead (image_then i is) = lead ++ (printed i ++ printed_list (codes ", ") is)
 
+  -- of each pair, key and then value
   pub printed_entries : List ℕ → Entries → List ℕ
   printed_entries lead no_entries = []
   printed_entries lead (entry_then k v es) = lead ++ (printed k ++ (codes ": " ++ (printed v ++ printed_entries (codes ", ") es)))
 
+  -- of each field, key and then value
   pub printed_members : List ℕ → Members → List ℕ
   printed_members lead no_members = []
   printed_members lead (member_then k v ms) = lead ++ (k ++ (codes ": " ++ (printed v ++ printed_members (codes ", ") ms)))

@@ -30,6 +30,7 @@ abbrev mutual
   pub ranked_cmp : Ranked → Ranked → Ordering
   ranked_cmp (ranked l rs) (ranked m ss) = ordering_then (label_cmp l m) (children_cmp rs ss)
 
+  -- from left to right, a proper beginning first
   pub children_cmp : Children → Children → Ordering
   children_cmp no_children no_children = Equal
   children_cmp no_children (child_then s ss) = Less

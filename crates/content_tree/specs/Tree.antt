@@ -59,20 +59,24 @@ abbrev mutual
   at_texts f g (enumeration n i v p) = enumeration (g n) i (g v) (at_texts_payload f g p)
   at_texts f g (tuple ts) = tuple (at_texts_each f g ts)
 
+  -- in what a struct or a variant holds
   pub at_texts_payload : (f g : Text → Text) → Payload → Payload
   at_texts_payload f g no_payload = no_payload
   at_texts_payload f g (one t) = one (at_texts f g t)
   at_texts_payload f g (many ts) = many (at_texts_each f g ts)
   at_texts_payload f g (named fs) = named (at_texts_fields f g fs)
 
+  -- one by one
   pub at_texts_each : (f g : Text → Text) → Trees → Trees
   at_texts_each f g no_trees = no_trees
   at_texts_each f g (tree_then t ts) = tree_then (at_texts f g t) (at_texts_each f g ts)
 
+  -- of each pair, key and then value
   pub at_texts_pairs : (f g : Text → Text) → Pairs → Pairs
   at_texts_pairs f g no_pairs = no_pairs
   at_texts_pairs f g (pair_then k t ps) = pair_then (at_texts f g k) (at_texts f g t) (at_texts_pairs f g ps)
 
+  -- of each field, key and then value
   pub at_texts_fields : (f g : Text → Text) → Fields → Fields
   at_texts_fields f g no_fields = no_fields
   at_texts_fields f g (field_then k t fs) = field_then (g k) (at_texts f g t) (at_texts_fields f g fs)

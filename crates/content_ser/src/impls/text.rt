@@ -1,10 +1,9 @@
 //! Booleans, characters, texts and the unit, each by its call.
 #![tactic(auto, using(crate::proofs::Sending::sending))]
 
-ghost use Rattle.std.specs.Prelude.{string_bytes};
+ghost use Rattle.std.specs.Prelude.{refl, string_bytes};
 ghost use Rattle.content_ser.specs.Event.{boolean, character, text, unit};
 ghost use Rattle.content_ser.specs.Scripts.{only};
-ghost use Rattle.std.specs.Prelude.{refl};
 ghost use Rattle.content_ser.specs.Lawfulness.{leaf_lawful};
 
 use crate::serialize::Serialize;

@@ -1,5 +1,6 @@
 //! Calls are copied as they are and compared by contents.
 
+use crate::laws::equal_by_contents;
 use content_ser::Call;
 use content_tree::{CowBytes, CowStr, Number};
 use std::test::Fail;
@@ -31,15 +32,33 @@ fn owned_bytes_are_copied_owned(rt: HostRuntime) -> Result<(), Fail> {
 }
 
 #[test]
-fn names_indices_and_lengths_are_copied(rt: HostRuntime) -> Result<(), Fail> {
+fn every_call_is_copied(rt: HostRuntime) -> Result<(), Fail> {
     let calls = [
         Call::Bool(true),
         Call::Number(Number::I64(-9)),
-        Call::Seq(Some(2)),
-        Call::Field("key"),
+        Call::Char('c'),
+        Call::Str(CowStr::Borrowed("text")),
+        Call::Bytes(CowBytes::Borrowed(b"bytes")),
+        Call::Unit,
+        Call::NoneCall,
+        Call::SomeCall,
+        Call::UnitStruct("U"),
         Call::UnitVariant("E", 1, "V"),
+        Call::NewtypeStruct("N"),
+        Call::NewtypeVariant("E", 2, "N"),
+        Call::Seq(Some(2)),
+        Call::Tuple(3),
         Call::TupleStruct("S", 3),
+        Call::TupleVariant("E", 3, "T", 5),
+        Call::Map(Some(6)),
+        Call::Struct("S", 7),
         Call::StructVariant("E", 2, "W", 4),
+        Call::Element,
+        Call::TupleField,
+        Call::Field("key"),
+        Call::Key,
+        Call::Value,
+        Call::Entry,
         Call::End,
     ];
     for call in &calls {
@@ -56,6 +75,9 @@ fn contents_count(rt: HostRuntime) -> Result<(), Fail> {
     assert!(rt; Call::Number(Number::U8(1)) != Call::Number(Number::I8(1)));
     assert!(rt; Call::Number(Number::U8(1)) != Call::Number(Number::U8(2)));
     assert!(rt; Call::Bool(true) != Call::Bool(false));
+    let owned = Call::Str(CowStr::Owned(String::from_str(rt.alloc(), "a")?));
+    assert!(rt; equal_by_contents(&owned, &Call::Str(CowStr::Borrowed("a"))));
+    assert!(rt; !equal_by_contents(&Call::Key, &Call::Value));
     Ok(())
 }
 

@@ -1,0 +1,16 @@
+-- A script that tells whether the serialiser is for people to read.
+use Rattle.std.proofs.Common.{◌≡◌, Bool, subst}
+use Rattle.content_ser.specs.Event.{boolean}
+use Rattle.content_ser.specs.Lawful.{Seen, Step, Refuses, Answer, Takes, Sends, call_then, done}
+use Rattle.content_ser.proofs.Sending.{took_only}
+
+-- the flag that was read is sent
+pub told_flag : {S : Type 0} {step : Step S} {refuses : Refuses S} {old new : Seen S} {flag : Bool} {r : Answer}
+    → flag ≡ old.readable → Takes step refuses old (boolean flag) r new → Sends step old (λ h. call_then (boolean h) done) r new
+told_flag {step} {refuses} {old} {new} {r} e t =
+    let sent = took_only (subst (λ b. Takes step refuses old (boolean b) r new) e t) in
+    record {
+      readable = sent.readable;
+      when_failed = sent.when_failed;
+      otherwise = sent.otherwise;
+    }

@@ -1,0 +1,36 @@
+//! A type that sends whether the serialiser is for people to read.
+
+ghost use Rattle.content_ser.specs.Event.{boolean};
+ghost use Rattle.content_ser.specs.Lawful.{call_then, done};
+ghost use Rattle.content_ser.specs.Lawfulness.{leaf_lawful};
+ghost use Rattle.std.specs.Prelude.{refl};
+
+use crate::ser::{self, Serialize};
+use crate::{Result as Answer, Serializer, Value};
+use std::alloc::Global;
+use std::test::Fail;
+
+/// What sends whether the serialiser is for people to read.
+struct ForPeople;
+
+impl Serialize for ForPeople {
+    ghost script = { λ x readable. call_then (boolean readable) done };
+
+    ghost lawful = { λ x readable. leaf_lawful refl };
+
+    #[tactic(auto, using(crate::proofs::Telling::told_flag))]
+    fn serialize<S: ser::Serializer>(&self, _alloc: Global, serializer: &mut S) -> Answer<()> {
+        let readable = serializer.is_human_readable();
+        serializer.serialize_bool(readable)
+    }
+}
+
+#[test]
+fn a_type_learns_whether_it_is_for_people(rt: HostRuntime) -> Result<(), Fail> {
+    let alloc = rt.alloc();
+    let plain = Serializer::new();
+    let readable = plain.human_readable();
+    assert!(rt; plain.serialize(alloc, &ForPeople)? == Value::Bool(false));
+    assert!(rt; readable.serialize(alloc, &ForPeople)? == Value::Bool(true));
+    Ok(())
+}
