@@ -10,7 +10,7 @@ use crate::cow::{CowBytes, CowStr};
 use crate::number::Number;
 use crate::value::NamedValue;
 
-/// It takes no memory.
+/// The unit. It takes no memory.
 impl<'a, 'n> From<()> for NamedValue<'a, 'n> {
     ghost from_gives = { λ _unit value. tree_of value ≡ tree.unit };
 
@@ -19,7 +19,7 @@ impl<'a, 'n> From<()> for NamedValue<'a, 'n> {
     }
 }
 
-/// It takes no memory.
+/// A boolean. It takes no memory.
 impl<'a, 'n> From<bool> for NamedValue<'a, 'n> {
     ghost from_gives = { λ boolean value. tree_of value ≡ tree.boolean boolean };
 
@@ -28,7 +28,7 @@ impl<'a, 'n> From<bool> for NamedValue<'a, 'n> {
     }
 }
 
-/// It takes no memory.
+/// A whole number. It takes no memory.
 impl<'a, 'n> From<Number> for NamedValue<'a, 'n> {
     ghost from_gives = { λ number value. tree_of value ≡ tree.number number };
 
@@ -37,7 +37,7 @@ impl<'a, 'n> From<Number> for NamedValue<'a, 'n> {
     }
 }
 
-/// It takes no memory.
+/// A signed number of 8 bits, with that kind. It takes no memory.
 impl<'a, 'n> From<i8> for NamedValue<'a, 'n> {
     ghost from_gives = { λ number value. tree_of value ≡ tree.number (Number.I8 number) };
 
@@ -46,7 +46,7 @@ impl<'a, 'n> From<i8> for NamedValue<'a, 'n> {
     }
 }
 
-/// It takes no memory.
+/// An unsigned number of 8 bits, with that kind. It takes no memory.
 impl<'a, 'n> From<u8> for NamedValue<'a, 'n> {
     ghost from_gives = { λ number value. tree_of value ≡ tree.number (Number.U8 number) };
 
@@ -55,7 +55,7 @@ impl<'a, 'n> From<u8> for NamedValue<'a, 'n> {
     }
 }
 
-/// It takes no memory.
+/// A signed number of 16 bits, with that kind. It takes no memory.
 impl<'a, 'n> From<i16> for NamedValue<'a, 'n> {
     ghost from_gives = { λ number value. tree_of value ≡ tree.number (Number.I16 number) };
 
@@ -64,7 +64,7 @@ impl<'a, 'n> From<i16> for NamedValue<'a, 'n> {
     }
 }
 
-/// It takes no memory.
+/// An unsigned number of 16 bits, with that kind. It takes no memory.
 impl<'a, 'n> From<u16> for NamedValue<'a, 'n> {
     ghost from_gives = { λ number value. tree_of value ≡ tree.number (Number.U16 number) };
 
@@ -73,7 +73,7 @@ impl<'a, 'n> From<u16> for NamedValue<'a, 'n> {
     }
 }
 
-/// It takes no memory.
+/// A signed number of 32 bits, with that kind. It takes no memory.
 impl<'a, 'n> From<i32> for NamedValue<'a, 'n> {
     ghost from_gives = { λ number value. tree_of value ≡ tree.number (Number.I32 number) };
 
@@ -82,7 +82,7 @@ impl<'a, 'n> From<i32> for NamedValue<'a, 'n> {
     }
 }
 
-/// It takes no memory.
+/// An unsigned number of 32 bits, with that kind. It takes no memory.
 impl<'a, 'n> From<u32> for NamedValue<'a, 'n> {
     ghost from_gives = { λ number value. tree_of value ≡ tree.number (Number.U32 number) };
 
@@ -91,7 +91,7 @@ impl<'a, 'n> From<u32> for NamedValue<'a, 'n> {
     }
 }
 
-/// It takes no memory.
+/// A signed number of 64 bits, with that kind. It takes no memory.
 impl<'a, 'n> From<i64> for NamedValue<'a, 'n> {
     ghost from_gives = { λ number value. tree_of value ≡ tree.number (Number.I64 number) };
 
@@ -100,7 +100,7 @@ impl<'a, 'n> From<i64> for NamedValue<'a, 'n> {
     }
 }
 
-/// It takes no memory.
+/// An unsigned number of 64 bits, with that kind. It takes no memory.
 impl<'a, 'n> From<u64> for NamedValue<'a, 'n> {
     ghost from_gives = { λ number value. tree_of value ≡ tree.number (Number.U64 number) };
 
@@ -109,7 +109,7 @@ impl<'a, 'n> From<u64> for NamedValue<'a, 'n> {
     }
 }
 
-/// It takes no memory.
+/// A signed number of 128 bits, with that kind. It takes no memory.
 impl<'a, 'n> From<i128> for NamedValue<'a, 'n> {
     ghost from_gives = { λ number value. tree_of value ≡ tree.number (Number.I128 number) };
 
@@ -118,7 +118,7 @@ impl<'a, 'n> From<i128> for NamedValue<'a, 'n> {
     }
 }
 
-/// It takes no memory.
+/// An unsigned number of 128 bits, with that kind. It takes no memory.
 impl<'a, 'n> From<u128> for NamedValue<'a, 'n> {
     ghost from_gives = { λ number value. tree_of value ≡ tree.number (Number.U128 number) };
 
@@ -127,7 +127,7 @@ impl<'a, 'n> From<u128> for NamedValue<'a, 'n> {
     }
 }
 
-/// It takes no memory.
+/// A character. It takes no memory.
 impl<'a, 'n> From<char> for NamedValue<'a, 'n> {
     ghost from_gives = { λ character value. tree_of value ≡ tree.character character };
 
@@ -136,7 +136,7 @@ impl<'a, 'n> From<char> for NamedValue<'a, 'n> {
     }
 }
 
-/// It takes no memory.
+/// A text, borrowed or owned as it was. It takes no memory.
 impl<'a, 'n> From<CowStr<'a>> for NamedValue<'a, 'n> {
     ghost from_gives = { λ text value. tree_of value ≡ tree.text (text_of text) };
 
@@ -145,7 +145,7 @@ impl<'a, 'n> From<CowStr<'a>> for NamedValue<'a, 'n> {
     }
 }
 
-/// It takes no memory.
+/// A text, borrowed. It takes no memory.
 impl<'a, 'n> From<&'a str> for NamedValue<'a, 'n> {
     ghost from_gives = { λ text value. tree_of value ≡ tree.text (borrowed_text text.now) };
 
@@ -154,7 +154,7 @@ impl<'a, 'n> From<&'a str> for NamedValue<'a, 'n> {
     }
 }
 
-/// It takes no memory.
+/// A text, borrowed. It takes no memory.
 impl<'a, 'n> From<&'a String> for NamedValue<'a, 'n> {
     ghost from_gives = { λ text value. tree_of value ≡ tree.text (borrowed_text (string_bytes text.now)) };
 
@@ -163,7 +163,7 @@ impl<'a, 'n> From<&'a String> for NamedValue<'a, 'n> {
     }
 }
 
-/// It takes no memory.
+/// A text, owned. It takes no memory.
 impl<'a, 'n> From<String> for NamedValue<'a, 'n> {
     ghost from_gives = { λ text value. tree_of value ≡ tree.text (owned_text (string_bytes text)) };
 
@@ -172,7 +172,7 @@ impl<'a, 'n> From<String> for NamedValue<'a, 'n> {
     }
 }
 
-/// It takes no memory.
+/// An array of bytes, borrowed; no sequence of numbers. It takes no memory.
 impl<'a, 'n> From<&'a [u8]> for NamedValue<'a, 'n> {
     ghost from_gives = { λ bytes value. tree_of value ≡ tree.octets (borrowed_text bytes.now) };
 
@@ -181,7 +181,7 @@ impl<'a, 'n> From<&'a [u8]> for NamedValue<'a, 'n> {
     }
 }
 
-/// It takes no memory.
+/// An array of bytes, borrowed; no sequence of numbers. It takes no memory.
 impl<'a, 'n> From<&'a Vec<u8>> for NamedValue<'a, 'n> {
     ghost from_gives = { λ bytes value. tree_of value ≡ tree.octets (borrowed_text bytes.now.items) };
 
@@ -190,7 +190,7 @@ impl<'a, 'n> From<&'a Vec<u8>> for NamedValue<'a, 'n> {
     }
 }
 
-/// It takes no memory.
+/// An array of bytes, owned; no sequence of numbers. It takes no memory.
 impl<'a, 'n> From<Vec<u8>> for NamedValue<'a, 'n> {
     ghost from_gives = { λ bytes value. tree_of value ≡ tree.octets (owned_text bytes.items) };
 

@@ -27,7 +27,7 @@ pub enum Number {
     U128(u128),
 }
 
-/// It takes no memory.
+/// A signed number of 8 bits, with that kind. It takes no memory.
 impl From<i8> for Number {
     ghost from_gives = { λ from number. number ≡ Number.I8 from };
 
@@ -36,7 +36,7 @@ impl From<i8> for Number {
     }
 }
 
-/// It takes no memory.
+/// An unsigned number of 8 bits, with that kind. It takes no memory.
 impl From<u8> for Number {
     ghost from_gives = { λ from number. number ≡ Number.U8 from };
 
@@ -45,7 +45,7 @@ impl From<u8> for Number {
     }
 }
 
-/// It takes no memory.
+/// A signed number of 16 bits, with that kind. It takes no memory.
 impl From<i16> for Number {
     ghost from_gives = { λ from number. number ≡ Number.I16 from };
 
@@ -54,7 +54,7 @@ impl From<i16> for Number {
     }
 }
 
-/// It takes no memory.
+/// An unsigned number of 16 bits, with that kind. It takes no memory.
 impl From<u16> for Number {
     ghost from_gives = { λ from number. number ≡ Number.U16 from };
 
@@ -63,7 +63,7 @@ impl From<u16> for Number {
     }
 }
 
-/// It takes no memory.
+/// A signed number of 32 bits, with that kind. It takes no memory.
 impl From<i32> for Number {
     ghost from_gives = { λ from number. number ≡ Number.I32 from };
 
@@ -72,7 +72,7 @@ impl From<i32> for Number {
     }
 }
 
-/// It takes no memory.
+/// An unsigned number of 32 bits, with that kind. It takes no memory.
 impl From<u32> for Number {
     ghost from_gives = { λ from number. number ≡ Number.U32 from };
 
@@ -81,7 +81,7 @@ impl From<u32> for Number {
     }
 }
 
-/// It takes no memory.
+/// A signed number of 64 bits, with that kind. It takes no memory.
 impl From<i64> for Number {
     ghost from_gives = { λ from number. number ≡ Number.I64 from };
 
@@ -90,7 +90,7 @@ impl From<i64> for Number {
     }
 }
 
-/// It takes no memory.
+/// An unsigned number of 64 bits, with that kind. It takes no memory.
 impl From<u64> for Number {
     ghost from_gives = { λ from number. number ≡ Number.U64 from };
 
@@ -99,7 +99,7 @@ impl From<u64> for Number {
     }
 }
 
-/// It takes no memory.
+/// A signed number of 128 bits, with that kind. It takes no memory.
 impl From<i128> for Number {
     ghost from_gives = { λ from number. number ≡ Number.I128 from };
 
@@ -108,7 +108,7 @@ impl From<i128> for Number {
     }
 }
 
-/// It takes no memory.
+/// An unsigned number of 128 bits, with that kind. It takes no memory.
 impl From<u128> for Number {
     ghost from_gives = { λ from number. number ≡ Number.U128 from };
 

@@ -1,6 +1,6 @@
 //! Copies keep each case.
 use super::every_case::{data, enumeration, is_alike, plain_value, structure};
-use crate::{CowBytes, DataType, Error, Expected, Found, FoundData, Value};
+use content_tree::{CowBytes, DataType, Error, Expected, Found, FoundData, Value};
 use std::test::Fail;
 
 #[test]

@@ -1,7 +1,7 @@
 //! What structs and variants send whose names aren't all static.
 use super::trees::{one_field, owned, owned_variant, sends, stops, structure, variant};
-use crate::ser::Call;
-use crate::{CowBytes, CowStr, Data, Number, Value};
+use content_ser::Call;
+use content_tree::{CowBytes, CowStr, Data, Number, Value};
 use std::test::Fail;
 
 #[test]

@@ -5,8 +5,9 @@ ghost use Rattle.content_ser.specs.Lawful.{call_then, done};
 ghost use Rattle.content_ser.specs.Lawfulness.{leaf_lawful};
 ghost use Rattle.std.specs.Prelude.{refl};
 
-use crate::ser::{self, Serialize};
-use crate::{Result as Answer, Serializer, Value};
+use content_build::Serializer;
+use content_ser::Serialize;
+use content_tree::{Result as Answer, Value};
 use std::alloc::Global;
 use std::test::Fail;
 
@@ -19,7 +20,11 @@ impl Serialize for ForPeople {
     ghost lawful = { λ x readable. leaf_lawful refl };
 
     #[tactic(auto, using(crate::proofs::Telling::told_flag))]
-    fn serialize<S: ser::Serializer>(&self, _alloc: Global, serializer: &mut S) -> Answer<()> {
+    fn serialize<S: content_ser::Serializer>(
+        &self,
+        _alloc: Global,
+        serializer: &mut S,
+    ) -> Answer<()> {
         let readable = serializer.is_human_readable();
         serializer.serialize_bool(readable)
     }

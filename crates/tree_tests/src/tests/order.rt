@@ -1,7 +1,7 @@
 //! Equality and order of values, images, expectations and errors.
 
-use crate::laws::{equal_images, equal_values};
-use crate::{
+use content_tree::laws::{equal_images, equal_values};
+use content_tree::{
     CowBytes, CowStr, Data, DataType, Enum, Error, ErrorKind, Expected, Found, FoundData, Number,
     Struct, Value,
 };

@@ -1,6 +1,6 @@
 //! Images of values, and errors that show them.
 
-use crate::{
+use content_tree::{
     CowBytes, CowStr, Data, Enum, Error, ErrorKind, Expected, Found, Number, Struct, Unexpected,
     Value,
 };

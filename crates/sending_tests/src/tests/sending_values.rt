@@ -1,8 +1,9 @@
 //! What values, structs and variants send.
 
 use super::trees::{sends, structure, variant};
-use crate::ser::{Call, Recorder, Serialize};
-use crate::{CowStr, Data, Enum, Struct, Value};
+use content_build::Recorder;
+use content_ser::{Call, Serialize};
+use content_tree::{CowStr, Data, Enum, Struct, Value};
 use std::test::Fail;
 
 #[test]

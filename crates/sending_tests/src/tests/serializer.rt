@@ -1,7 +1,8 @@
 //! What a serialiser of whole values makes.
 use super::trees::{becomes, one_pair};
-use crate::ser::Call;
-use crate::{CowBytes, CowStr, Number, Serializer, Value};
+use content_build::Serializer;
+use content_ser::Call;
+use content_tree::{CowBytes, CowStr, Number, Value};
 use std::cmp::Ordering;
 use std::collections::BTreeMap;
 use std::test::Fail;

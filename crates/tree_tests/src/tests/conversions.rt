@@ -1,6 +1,6 @@
 //! Calls of texts and bytes, `From`, and values that own their texts.
 use super::every_case::{bytes, data, enumeration, is_alike, plain_value, structure, text};
-use crate::{CowStr, DataType, Number, Value};
+use content_tree::{CowStr, DataType, Number, Value};
 use std::test::Fail;
 
 #[test]

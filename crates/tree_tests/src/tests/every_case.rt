@@ -1,5 +1,5 @@
 //! Samples of every case.
-use crate::{CowBytes, CowStr, Data, DataType, Enum, Number, Result, Struct, Value};
+use content_tree::{CowBytes, CowStr, Data, DataType, Enum, Number, Result, Struct, Value};
 use std::alloc::Global;
 use std::fmt::Debug;
 

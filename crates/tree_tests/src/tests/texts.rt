@@ -1,6 +1,6 @@
 //! What images, expectations and errors print.
 
-use crate::{DataType, Error, ErrorKind, Expected, Found, FoundData, Number};
+use content_tree::{DataType, Error, ErrorKind, Expected, Found, FoundData, Number};
 use std::alloc::{AllocError, Global};
 use std::fmt::Display;
 use std::test::Fail;

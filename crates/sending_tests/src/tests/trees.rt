@@ -1,7 +1,7 @@
 //! Trees for tests, and what they send.
-use super::every_case::is_alike;
-use crate::ser::{Call, Recorder, Serialize, from_calls};
-use crate::{CowStr, Data, Enum, Error, ErrorKind, Result, Serializer, Struct, Value};
+use content_build::{Recorder, Serializer, from_calls};
+use content_ser::{Call, Serialize};
+use content_tree::{CowStr, Data, Enum, Error, ErrorKind, Result, Struct, Value};
 use std::alloc::Global;
 
 /// A name or a key that isn't static.
@@ -57,6 +57,13 @@ pub fn one_pair(
     value: Value<'static>,
 ) -> Result<Value<'static>> {
     Ok(Value::Map(vec![in alloc; (key, value)]?))
+}
+
+/// Whether both are written alike by `{:?}`, which tells borrowed from owned.
+fn is_alike(alloc: Global, left: &Value<'_>, right: &Value<'_>) -> Result<bool> {
+    let left = format!(in alloc; "{left:?}")?;
+    let right = format!(in alloc; "{right:?}")?;
+    Ok(left == right)
 }
 
 /// Whether the value is serialised to the tree that these calls spell, its texts and bytes owned and
