@@ -10,7 +10,7 @@ ghost use Rattle.content_build.specs.Builder.{seen_of, refuses, RefusesExactly, 
 use crate::frames::Frames;
 use crate::kind::Kind;
 use content_ser::{Call, Serializer};
-use content_tree::{CowBytes, CowStr, Number, Result, Value};
+use content_tree::{Result, Value};
 use std::alloc::Global;
 
 /// A serialiser that builds the tree that its calls spell.
@@ -23,10 +23,10 @@ use std::alloc::Global;
 /// out of place is an error is ours.
 ///
 /// Nothing in the tree is lent, so the lifetime is free: [`from_calls`](crate::from_calls) gives
-/// a value at any. As a [`Serializer`] the builder has the static one.
+/// a value at any.
 ///
 /// ```rust
-/// let mut builder: Builder<'static> = Builder::new(alloc, false);
+/// let mut builder = Builder::new(alloc, false);
 /// builder.serialize_seq(None)?;
 /// builder.serialize_element()?;
 /// builder.serialize_bool(true)?;
@@ -80,7 +80,7 @@ impl<'v> Builder<'v> {
     }
 }
 
-impl Serializer for Builder<'static> {
+impl<'v> Serializer for Builder<'v> {
     ghost State = { Partial };
 
     ghost seen = { seen_of };
@@ -89,166 +89,8 @@ impl Serializer for Builder<'static> {
 
     ghost refuses = { refuses };
 
-    fn serialize_bool(&mut self, v: bool) -> Result<()> {
-        self.take(&Call::Bool(v))
-    }
-
-    fn serialize_i8(&mut self, v: i8) -> Result<()> {
-        self.take(&Call::Number(Number::I8(v)))
-    }
-
-    fn serialize_u8(&mut self, v: u8) -> Result<()> {
-        self.take(&Call::Number(Number::U8(v)))
-    }
-
-    fn serialize_i16(&mut self, v: i16) -> Result<()> {
-        self.take(&Call::Number(Number::I16(v)))
-    }
-
-    fn serialize_u16(&mut self, v: u16) -> Result<()> {
-        self.take(&Call::Number(Number::U16(v)))
-    }
-
-    fn serialize_i32(&mut self, v: i32) -> Result<()> {
-        self.take(&Call::Number(Number::I32(v)))
-    }
-
-    fn serialize_u32(&mut self, v: u32) -> Result<()> {
-        self.take(&Call::Number(Number::U32(v)))
-    }
-
-    fn serialize_i64(&mut self, v: i64) -> Result<()> {
-        self.take(&Call::Number(Number::I64(v)))
-    }
-
-    fn serialize_u64(&mut self, v: u64) -> Result<()> {
-        self.take(&Call::Number(Number::U64(v)))
-    }
-
-    fn serialize_i128(&mut self, v: i128) -> Result<()> {
-        self.take(&Call::Number(Number::I128(v)))
-    }
-
-    fn serialize_u128(&mut self, v: u128) -> Result<()> {
-        self.take(&Call::Number(Number::U128(v)))
-    }
-
-    fn serialize_char(&mut self, v: char) -> Result<()> {
-        self.take(&Call::Char(v))
-    }
-
-    fn serialize_str(&mut self, v: &str) -> Result<()> {
-        self.take(&Call::Str(CowStr::Borrowed(v)))
-    }
-
-    fn serialize_bytes(&mut self, v: &[u8]) -> Result<()> {
-        self.take(&Call::Bytes(CowBytes::Borrowed(v)))
-    }
-
-    fn serialize_unit(&mut self) -> Result<()> {
-        self.take(&Call::Unit)
-    }
-
-    fn serialize_none(&mut self) -> Result<()> {
-        self.take(&Call::NoneCall)
-    }
-
-    fn serialize_some(&mut self) -> Result<()> {
-        self.take(&Call::SomeCall)
-    }
-
-    fn serialize_unit_struct(&mut self, name: &'static str) -> Result<()> {
-        self.take(&Call::UnitStruct(name))
-    }
-
-    fn serialize_unit_variant(
-        &mut self,
-        name: &'static str,
-        variant_index: u32,
-        variant: &'static str,
-    ) -> Result<()> {
-        self.take(&Call::UnitVariant(name, variant_index, variant))
-    }
-
-    fn serialize_newtype_struct(&mut self, name: &'static str) -> Result<()> {
-        self.take(&Call::NewtypeStruct(name))
-    }
-
-    fn serialize_newtype_variant(
-        &mut self,
-        name: &'static str,
-        variant_index: u32,
-        variant: &'static str,
-    ) -> Result<()> {
-        self.take(&Call::NewtypeVariant(name, variant_index, variant))
-    }
-
-    fn serialize_seq(&mut self, len: Option<usize>) -> Result<()> {
-        self.take(&Call::Seq(len))
-    }
-
-    fn serialize_tuple(&mut self, len: usize) -> Result<()> {
-        self.take(&Call::Tuple(len))
-    }
-
-    fn serialize_tuple_struct(&mut self, name: &'static str, len: usize) -> Result<()> {
-        self.take(&Call::TupleStruct(name, len))
-    }
-
-    fn serialize_tuple_variant(
-        &mut self,
-        name: &'static str,
-        variant_index: u32,
-        variant: &'static str,
-        len: usize,
-    ) -> Result<()> {
-        self.take(&Call::TupleVariant(name, variant_index, variant, len))
-    }
-
-    fn serialize_map(&mut self, len: Option<usize>) -> Result<()> {
-        self.take(&Call::Map(len))
-    }
-
-    fn serialize_struct(&mut self, name: &'static str, len: usize) -> Result<()> {
-        self.take(&Call::Struct(name, len))
-    }
-
-    fn serialize_struct_variant(
-        &mut self,
-        name: &'static str,
-        variant_index: u32,
-        variant: &'static str,
-        len: usize,
-    ) -> Result<()> {
-        self.take(&Call::StructVariant(name, variant_index, variant, len))
-    }
-
-    fn serialize_element(&mut self) -> Result<()> {
-        self.take(&Call::Element)
-    }
-
-    fn serialize_tuple_field(&mut self) -> Result<()> {
-        self.take(&Call::TupleField)
-    }
-
-    fn serialize_field(&mut self, key: &'static str) -> Result<()> {
-        self.take(&Call::Field(key))
-    }
-
-    fn serialize_key(&mut self) -> Result<()> {
-        self.take(&Call::Key)
-    }
-
-    fn serialize_value(&mut self) -> Result<()> {
-        self.take(&Call::Value)
-    }
-
-    fn serialize_entry(&mut self) -> Result<()> {
-        self.take(&Call::Entry)
-    }
-
-    fn end(&mut self) -> Result<()> {
-        self.take(&Call::End)
+    fn call(&mut self, call: Call<'_>) -> Result<()> {
+        self.take(&call)
     }
 
     #[tactic(auto, unfolding(crate::specs::Builder::seen_of))]

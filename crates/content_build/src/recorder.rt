@@ -7,9 +7,8 @@ ghost use Rattle.content_ser.specs.Lawful.{Seen, Takes};
 ghost use Rattle.content_build.specs.Recorder.{recorded, keeps};
 
 use content_ser::{Call, Serializer};
-use content_tree::{CowBytes, CowStr, Error, ErrorKind, Number, Result};
+use content_tree::{Error, ErrorKind, Result};
 use std::alloc::Global;
-use std::fmt::Display;
 use std::marker::Model;
 
 /// A list of the calls that it took, in order.
@@ -104,184 +103,14 @@ impl Serializer for Recorder {
 
     ghost refuses = { keeps };
 
-    fn serialize_bool(&mut self, v: bool) -> Result<()> {
-        self.take(Call::Bool(v))
-    }
-
-    fn serialize_i8(&mut self, v: i8) -> Result<()> {
-        self.take(Call::Number(Number::I8(v)))
-    }
-
-    fn serialize_u8(&mut self, v: u8) -> Result<()> {
-        self.take(Call::Number(Number::U8(v)))
-    }
-
-    fn serialize_i16(&mut self, v: i16) -> Result<()> {
-        self.take(Call::Number(Number::I16(v)))
-    }
-
-    fn serialize_u16(&mut self, v: u16) -> Result<()> {
-        self.take(Call::Number(Number::U16(v)))
-    }
-
-    fn serialize_i32(&mut self, v: i32) -> Result<()> {
-        self.take(Call::Number(Number::I32(v)))
-    }
-
-    fn serialize_u32(&mut self, v: u32) -> Result<()> {
-        self.take(Call::Number(Number::U32(v)))
-    }
-
-    fn serialize_i64(&mut self, v: i64) -> Result<()> {
-        self.take(Call::Number(Number::I64(v)))
-    }
-
-    fn serialize_u64(&mut self, v: u64) -> Result<()> {
-        self.take(Call::Number(Number::U64(v)))
-    }
-
-    fn serialize_i128(&mut self, v: i128) -> Result<()> {
-        self.take(Call::Number(Number::I128(v)))
-    }
-
-    fn serialize_u128(&mut self, v: u128) -> Result<()> {
-        self.take(Call::Number(Number::U128(v)))
-    }
-
-    fn serialize_char(&mut self, v: char) -> Result<()> {
-        self.take(Call::Char(v))
-    }
-
-    fn serialize_str(&mut self, v: &str) -> Result<()> {
+    fn call(&mut self, call: Call<'_>) -> Result<()> {
         if self.failed {
             return Err(Error::from(ErrorKind::Failed));
         }
-        match String::from_str(self.alloc, v) {
-            Ok(text) => self.take(Call::Str(CowStr::Owned(text))),
-            Err(refused) => Err(self.fail(Error::from(refused))),
+        match call.into_owned(self.alloc) {
+            Ok(owned) => self.take(owned),
+            Err(refused) => Err(self.fail(refused)),
         }
-    }
-
-    // The printed text is moved, not copied.
-    fn collect_str<T: Display>(&mut self, alloc: Global, value: &T) -> Result<()> {
-        let text = format!(in alloc; "{value}")?;
-        self.take(Call::Str(CowStr::Owned(text)))
-    }
-
-    fn serialize_bytes(&mut self, v: &[u8]) -> Result<()> {
-        if self.failed {
-            return Err(Error::from(ErrorKind::Failed));
-        }
-        match v.to_vec(self.alloc) {
-            Ok(bytes) => self.take(Call::Bytes(CowBytes::Owned(bytes))),
-            Err(refused) => Err(self.fail(Error::from(refused))),
-        }
-    }
-
-    fn serialize_unit(&mut self) -> Result<()> {
-        self.take(Call::Unit)
-    }
-
-    fn serialize_none(&mut self) -> Result<()> {
-        self.take(Call::NoneCall)
-    }
-
-    fn serialize_some(&mut self) -> Result<()> {
-        self.take(Call::SomeCall)
-    }
-
-    fn serialize_unit_struct(&mut self, name: &'static str) -> Result<()> {
-        self.take(Call::UnitStruct(name))
-    }
-
-    fn serialize_unit_variant(
-        &mut self,
-        name: &'static str,
-        variant_index: u32,
-        variant: &'static str,
-    ) -> Result<()> {
-        self.take(Call::UnitVariant(name, variant_index, variant))
-    }
-
-    fn serialize_newtype_struct(&mut self, name: &'static str) -> Result<()> {
-        self.take(Call::NewtypeStruct(name))
-    }
-
-    fn serialize_newtype_variant(
-        &mut self,
-        name: &'static str,
-        variant_index: u32,
-        variant: &'static str,
-    ) -> Result<()> {
-        self.take(Call::NewtypeVariant(name, variant_index, variant))
-    }
-
-    fn serialize_seq(&mut self, len: Option<usize>) -> Result<()> {
-        self.take(Call::Seq(len))
-    }
-
-    fn serialize_tuple(&mut self, len: usize) -> Result<()> {
-        self.take(Call::Tuple(len))
-    }
-
-    fn serialize_tuple_struct(&mut self, name: &'static str, len: usize) -> Result<()> {
-        self.take(Call::TupleStruct(name, len))
-    }
-
-    fn serialize_tuple_variant(
-        &mut self,
-        name: &'static str,
-        variant_index: u32,
-        variant: &'static str,
-        len: usize,
-    ) -> Result<()> {
-        self.take(Call::TupleVariant(name, variant_index, variant, len))
-    }
-
-    fn serialize_map(&mut self, len: Option<usize>) -> Result<()> {
-        self.take(Call::Map(len))
-    }
-
-    fn serialize_struct(&mut self, name: &'static str, len: usize) -> Result<()> {
-        self.take(Call::Struct(name, len))
-    }
-
-    fn serialize_struct_variant(
-        &mut self,
-        name: &'static str,
-        variant_index: u32,
-        variant: &'static str,
-        len: usize,
-    ) -> Result<()> {
-        self.take(Call::StructVariant(name, variant_index, variant, len))
-    }
-
-    fn serialize_element(&mut self) -> Result<()> {
-        self.take(Call::Element)
-    }
-
-    fn serialize_tuple_field(&mut self) -> Result<()> {
-        self.take(Call::TupleField)
-    }
-
-    fn serialize_field(&mut self, key: &'static str) -> Result<()> {
-        self.take(Call::Field(key))
-    }
-
-    fn serialize_key(&mut self) -> Result<()> {
-        self.take(Call::Key)
-    }
-
-    fn serialize_value(&mut self) -> Result<()> {
-        self.take(Call::Value)
-    }
-
-    fn serialize_entry(&mut self) -> Result<()> {
-        self.take(Call::Entry)
-    }
-
-    fn end(&mut self) -> Result<()> {
-        self.take(Call::End)
     }
 
     fn is_human_readable(&self) -> bool {

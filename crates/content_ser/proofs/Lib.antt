@@ -8,3 +8,4 @@ pub mod Twice
 pub mod Naming
 mod DerivedEquality
 pub mod Equality
+pub mod Listed

@@ -15,3 +15,4 @@ pub mod Heads
 pub mod Places
 pub mod Canonical
 pub mod StaticNames
+pub mod Replay

@@ -2,7 +2,7 @@
 
 ghost use Rattle.std.specs.Prelude.{◌≡◌, true, IfOk, IfErr, IfSome, IsOk};
 ghost use Rattle.content_tree.specs.Kind.{IsOutOfMemory};
-ghost use Rattle.content_ser.specs.Call.{event_of, text_part};
+ghost use Rattle.content_ser.specs.Call.{event_of, text_part, IsOwned};
 
 use content_tree::{CowBytes, CowStr, Number, Result};
 use std::alloc::Global;
@@ -128,5 +128,89 @@ impl<'a> Call<'a> {
             Call::End => Call::End,
         };
         Ok(copy)
+    }
+
+    /// The same call with its text or bytes lent. It takes no memory.
+    pub fn lend(&self) -> Call<'_>
+        ensures { event_of result ≡ event_of self.now }
+    {
+        match self {
+            Call::Bool(b) => Call::Bool(*b),
+            Call::Number(n) => Call::Number(*n),
+            Call::Char(c) => Call::Char(*c),
+            Call::Str(text) => Call::Str(CowStr::Borrowed(text.as_str())),
+            Call::Bytes(bytes) => Call::Bytes(CowBytes::Borrowed(bytes.as_bytes())),
+            Call::Unit => Call::Unit,
+            Call::NoneCall => Call::NoneCall,
+            Call::SomeCall => Call::SomeCall,
+            Call::UnitStruct(name) => Call::UnitStruct(name),
+            Call::UnitVariant(name, index, variant) => Call::UnitVariant(name, *index, variant),
+            Call::NewtypeStruct(name) => Call::NewtypeStruct(name),
+            Call::NewtypeVariant(name, index, variant) => Call::NewtypeVariant(
+                name, *index, variant,
+            ),
+            Call::Seq(hint) => Call::Seq(*hint),
+            Call::Tuple(len) => Call::Tuple(*len),
+            Call::TupleStruct(name, len) => Call::TupleStruct(name, *len),
+            Call::TupleVariant(name, index, variant, len) => Call::TupleVariant(
+                name, *index, variant, *len,
+            ),
+            Call::Map(hint) => Call::Map(*hint),
+            Call::Struct(name, len) => Call::Struct(name, *len),
+            Call::StructVariant(name, index, variant, len) => Call::StructVariant(
+                name, *index, variant, *len,
+            ),
+            Call::Element => Call::Element,
+            Call::TupleField => Call::TupleField,
+            Call::Field(key) => Call::Field(key),
+            Call::Key => Call::Key,
+            Call::Value => Call::Value,
+            Call::Entry => Call::Entry,
+            Call::End => Call::End,
+        }
+    }
+
+    /// The same call with its text or bytes owned. Owned ones are moved, borrowed ones copied; where
+    /// that copy is refused: an error of kind `OutOfMemory`.
+    pub fn into_owned(self, alloc: Global) -> Result<Call<'static>>
+        ensures value { IfOk result (λ call. event_of call ≡ event_of self.entry) }
+        ensures owned { IfOk result IsOwned }
+        ensures memory { IfErr result (λ e. IsOutOfMemory e) }
+    {
+        let owned = match self {
+            Call::Bool(b) => Call::Bool(b),
+            Call::Number(n) => Call::Number(n),
+            Call::Char(c) => Call::Char(c),
+            Call::Str(text) => Call::Str(CowStr::Owned(text.into_owned(alloc)?)),
+            Call::Bytes(bytes) => Call::Bytes(CowBytes::Owned(bytes.into_owned(alloc)?)),
+            Call::Unit => Call::Unit,
+            Call::NoneCall => Call::NoneCall,
+            Call::SomeCall => Call::SomeCall,
+            Call::UnitStruct(name) => Call::UnitStruct(name),
+            Call::UnitVariant(name, index, variant) => Call::UnitVariant(name, index, variant),
+            Call::NewtypeStruct(name) => Call::NewtypeStruct(name),
+            Call::NewtypeVariant(name, index, variant) => Call::NewtypeVariant(
+                name, index, variant,
+            ),
+            Call::Seq(hint) => Call::Seq(hint),
+            Call::Tuple(len) => Call::Tuple(len),
+            Call::TupleStruct(name, len) => Call::TupleStruct(name, len),
+            Call::TupleVariant(name, index, variant, len) => Call::TupleVariant(
+                name, index, variant, len,
+            ),
+            Call::Map(hint) => Call::Map(hint),
+            Call::Struct(name, len) => Call::Struct(name, len),
+            Call::StructVariant(name, index, variant, len) => Call::StructVariant(
+                name, index, variant, len,
+            ),
+            Call::Element => Call::Element,
+            Call::TupleField => Call::TupleField,
+            Call::Field(key) => Call::Field(key),
+            Call::Key => Call::Key,
+            Call::Value => Call::Value,
+            Call::Entry => Call::Entry,
+            Call::End => Call::End,
+        };
+        Ok(owned)
     }
 }

@@ -5,11 +5,13 @@ mod call;
 mod impls;
 pub mod laws;
 mod loose_form;
+mod replaying;
 mod send;
 mod serialize;
 mod serializer;
 
 pub use call::Call;
 pub use loose_form::{loose_once, script_spells};
+pub use replaying::replay;
 pub use serialize::Serialize;
 pub use serializer::Serializer;

@@ -3,9 +3,11 @@
 ghost use Rattle.std.specs.Prelude.{◌≡◌, Some};
 ghost use Rattle.content_tree.specs.declared.number.Number.TheVariants as num;
 ghost use Rattle.content_ser.specs.Event.{boolean, number, character, text, octets, unit, none, some, unit_struct, unit_variant, newtype_struct, newtype_variant, seq, tuple, tuple_struct, tuple_variant, map, structure, struct_variant, element, tuple_field, field, key, value, entry, end as end_};
+ghost use Rattle.content_ser.specs.Call.{event_of};
 ghost use Rattle.content_ser.specs.Lawful.{Collects, Refuses, Seen, Step, Takes};
 
-use content_tree::Result;
+use crate::call::Call;
+use content_tree::{CowBytes, CowStr, Number, Result};
 use std::alloc::Global;
 use std::fmt::Display;
 
@@ -34,177 +36,286 @@ pub trait Serializer {
     /// With which error a call is refused, and what state is kept.
     ghost refuses: { Refuses State };
 
+    /// Makes this call. The others are each one of it.
+    fn call(&mut self, call: Call<'_>) -> Result<()>
+        ensures { Takes step refuses (seen self.old) (event_of call.entry) result (seen self.new) };
+
     /// A boolean.
-    fn serialize_bool(&mut self, v: bool) -> Result<()>
-        ensures { Takes step refuses (seen self.old) (boolean v) result (seen self.new) };
+    final fn serialize_bool(&mut self, v: bool) -> Result<()>
+        ensures { Takes step refuses (seen self.old) (boolean v) result (seen self.new) }
+    {
+        self.call(Call::Bool(v))
+    }
 
     /// A signed number of 8 bits.
-    fn serialize_i8(&mut self, v: i8) -> Result<()>
-        ensures { Takes step refuses (seen self.old) (number (num.I8 v)) result (seen self.new) };
+    final fn serialize_i8(&mut self, v: i8) -> Result<()>
+        ensures { Takes step refuses (seen self.old) (number (num.I8 v)) result (seen self.new) }
+    {
+        self.call(Call::Number(Number::I8(v)))
+    }
 
     /// An unsigned number of 8 bits.
-    fn serialize_u8(&mut self, v: u8) -> Result<()>
-        ensures { Takes step refuses (seen self.old) (number (num.U8 v)) result (seen self.new) };
+    final fn serialize_u8(&mut self, v: u8) -> Result<()>
+        ensures { Takes step refuses (seen self.old) (number (num.U8 v)) result (seen self.new) }
+    {
+        self.call(Call::Number(Number::U8(v)))
+    }
 
     /// A signed number of 16 bits.
-    fn serialize_i16(&mut self, v: i16) -> Result<()>
-        ensures { Takes step refuses (seen self.old) (number (num.I16 v)) result (seen self.new) };
+    final fn serialize_i16(&mut self, v: i16) -> Result<()>
+        ensures { Takes step refuses (seen self.old) (number (num.I16 v)) result (seen self.new) }
+    {
+        self.call(Call::Number(Number::I16(v)))
+    }
 
     /// An unsigned number of 16 bits.
-    fn serialize_u16(&mut self, v: u16) -> Result<()>
-        ensures { Takes step refuses (seen self.old) (number (num.U16 v)) result (seen self.new) };
+    final fn serialize_u16(&mut self, v: u16) -> Result<()>
+        ensures { Takes step refuses (seen self.old) (number (num.U16 v)) result (seen self.new) }
+    {
+        self.call(Call::Number(Number::U16(v)))
+    }
 
     /// A signed number of 32 bits.
-    fn serialize_i32(&mut self, v: i32) -> Result<()>
-        ensures { Takes step refuses (seen self.old) (number (num.I32 v)) result (seen self.new) };
+    final fn serialize_i32(&mut self, v: i32) -> Result<()>
+        ensures { Takes step refuses (seen self.old) (number (num.I32 v)) result (seen self.new) }
+    {
+        self.call(Call::Number(Number::I32(v)))
+    }
 
     /// An unsigned number of 32 bits.
-    fn serialize_u32(&mut self, v: u32) -> Result<()>
-        ensures { Takes step refuses (seen self.old) (number (num.U32 v)) result (seen self.new) };
+    final fn serialize_u32(&mut self, v: u32) -> Result<()>
+        ensures { Takes step refuses (seen self.old) (number (num.U32 v)) result (seen self.new) }
+    {
+        self.call(Call::Number(Number::U32(v)))
+    }
 
     /// A signed number of 64 bits.
-    fn serialize_i64(&mut self, v: i64) -> Result<()>
-        ensures { Takes step refuses (seen self.old) (number (num.I64 v)) result (seen self.new) };
+    final fn serialize_i64(&mut self, v: i64) -> Result<()>
+        ensures { Takes step refuses (seen self.old) (number (num.I64 v)) result (seen self.new) }
+    {
+        self.call(Call::Number(Number::I64(v)))
+    }
 
     /// An unsigned number of 64 bits.
-    fn serialize_u64(&mut self, v: u64) -> Result<()>
-        ensures { Takes step refuses (seen self.old) (number (num.U64 v)) result (seen self.new) };
+    final fn serialize_u64(&mut self, v: u64) -> Result<()>
+        ensures { Takes step refuses (seen self.old) (number (num.U64 v)) result (seen self.new) }
+    {
+        self.call(Call::Number(Number::U64(v)))
+    }
 
     /// A signed number of 128 bits.
-    fn serialize_i128(&mut self, v: i128) -> Result<()>
-        ensures { Takes step refuses (seen self.old) (number (num.I128 v)) result (seen self.new) };
+    final fn serialize_i128(&mut self, v: i128) -> Result<()>
+        ensures { Takes step refuses (seen self.old) (number (num.I128 v)) result (seen self.new) }
+    {
+        self.call(Call::Number(Number::I128(v)))
+    }
 
     /// An unsigned number of 128 bits.
-    fn serialize_u128(&mut self, v: u128) -> Result<()>
-        ensures { Takes step refuses (seen self.old) (number (num.U128 v)) result (seen self.new) };
+    final fn serialize_u128(&mut self, v: u128) -> Result<()>
+        ensures { Takes step refuses (seen self.old) (number (num.U128 v)) result (seen self.new) }
+    {
+        self.call(Call::Number(Number::U128(v)))
+    }
 
     /// A character.
-    fn serialize_char(&mut self, v: char) -> Result<()>
-        ensures { Takes step refuses (seen self.old) (character v) result (seen self.new) };
+    final fn serialize_char(&mut self, v: char) -> Result<()>
+        ensures { Takes step refuses (seen self.old) (character v) result (seen self.new) }
+    {
+        self.call(Call::Char(v))
+    }
 
     /// A text.
-    fn serialize_str(&mut self, v: &str) -> Result<()>
-        ensures { Takes step refuses (seen self.old) (text v.now) result (seen self.new) };
+    final fn serialize_str(&mut self, v: &str) -> Result<()>
+        ensures { Takes step refuses (seen self.old) (text v.now) result (seen self.new) }
+    {
+        self.call(Call::Str(CowStr::Borrowed(v)))
+    }
 
     /// An array of bytes.
-    fn serialize_bytes(&mut self, v: &[u8]) -> Result<()>
-        ensures { Takes step refuses (seen self.old) (octets v.now) result (seen self.new) };
+    final fn serialize_bytes(&mut self, v: &[u8]) -> Result<()>
+        ensures { Takes step refuses (seen self.old) (octets v.now) result (seen self.new) }
+    {
+        self.call(Call::Bytes(CowBytes::Borrowed(v)))
+    }
 
     /// The unit, `()`.
-    fn serialize_unit(&mut self) -> Result<()>
-        ensures { Takes step refuses (seen self.old) unit result (seen self.new) };
+    final fn serialize_unit(&mut self) -> Result<()>
+        ensures { Takes step refuses (seen self.old) unit result (seen self.new) }
+    {
+        self.call(Call::Unit)
+    }
 
     /// An absent optional value.
-    fn serialize_none(&mut self) -> Result<()>
-        ensures { Takes step refuses (seen self.old) none result (seen self.new) };
+    final fn serialize_none(&mut self) -> Result<()>
+        ensures { Takes step refuses (seen self.old) none result (seen self.new) }
+    {
+        self.call(Call::NoneCall)
+    }
 
     /// A present optional value, whose calls follow.
-    fn serialize_some(&mut self) -> Result<()>
-        ensures { Takes step refuses (seen self.old) some result (seen self.new) };
+    final fn serialize_some(&mut self) -> Result<()>
+        ensures { Takes step refuses (seen self.old) some result (seen self.new) }
+    {
+        self.call(Call::SomeCall)
+    }
 
     /// A struct that holds nothing.
-    fn serialize_unit_struct(&mut self, name: &'static str) -> Result<()>
-        ensures { Takes step refuses (seen self.old) (unit_struct name.now) result (seen self.new) };
+    final fn serialize_unit_struct(&mut self, name: &'static str) -> Result<()>
+        ensures { Takes step refuses (seen self.old) (unit_struct name.now) result (seen self.new) }
+    {
+        self.call(Call::UnitStruct(name))
+    }
 
     /// A variant that holds nothing.
-    fn serialize_unit_variant(
+    final fn serialize_unit_variant(
         &mut self,
         name: &'static str,
         variant_index: u32,
         variant: &'static str,
     ) -> Result<()>
-        ensures { Takes step refuses (seen self.old) (unit_variant name.now variant_index variant.now) result (seen self.new) };
+        ensures { Takes step refuses (seen self.old) (unit_variant name.now variant_index variant.now) result (seen self.new) }
+    {
+        self.call(Call::UnitVariant(name, variant_index, variant))
+    }
 
     /// A struct around one value, whose calls follow.
-    fn serialize_newtype_struct(&mut self, name: &'static str) -> Result<()>
-        ensures { Takes step refuses (seen self.old) (newtype_struct name.now) result (seen self.new) };
+    final fn serialize_newtype_struct(&mut self, name: &'static str) -> Result<()>
+        ensures { Takes step refuses (seen self.old) (newtype_struct name.now) result (seen self.new) }
+    {
+        self.call(Call::NewtypeStruct(name))
+    }
 
     /// A variant around one value, whose calls follow.
-    fn serialize_newtype_variant(
+    final fn serialize_newtype_variant(
         &mut self,
         name: &'static str,
         variant_index: u32,
         variant: &'static str,
     ) -> Result<()>
-        ensures { Takes step refuses (seen self.old) (newtype_variant name.now variant_index variant.now) result (seen self.new) };
+        ensures { Takes step refuses (seen self.old) (newtype_variant name.now variant_index variant.now) result (seen self.new) }
+    {
+        self.call(Call::NewtypeVariant(name, variant_index, variant))
+    }
 
     /// Opens a sequence; no answer rests on the hint.
-    fn serialize_seq(&mut self, len: Option<usize>) -> Result<()>
-        ensures { Takes step refuses (seen self.old) (seq len) result (seen self.new) };
+    final fn serialize_seq(&mut self, len: Option<usize>) -> Result<()>
+        ensures { Takes step refuses (seen self.old) (seq len) result (seen self.new) }
+    {
+        self.call(Call::Seq(len))
+    }
 
     /// Opens a tuple; no answer rests on the length.
-    fn serialize_tuple(&mut self, len: usize) -> Result<()>
-        ensures { Takes step refuses (seen self.old) (tuple len) result (seen self.new) };
+    final fn serialize_tuple(&mut self, len: usize) -> Result<()>
+        ensures { Takes step refuses (seen self.old) (tuple len) result (seen self.new) }
+    {
+        self.call(Call::Tuple(len))
+    }
 
     /// Opens a struct of values by place.
-    fn serialize_tuple_struct(&mut self, name: &'static str, len: usize) -> Result<()>
-        ensures { Takes step refuses (seen self.old) (tuple_struct name.now len) result (seen self.new) };
+    final fn serialize_tuple_struct(&mut self, name: &'static str, len: usize) -> Result<()>
+        ensures { Takes step refuses (seen self.old) (tuple_struct name.now len) result (seen self.new) }
+    {
+        self.call(Call::TupleStruct(name, len))
+    }
 
     /// Opens a variant of values by place.
-    fn serialize_tuple_variant(
+    final fn serialize_tuple_variant(
         &mut self,
         name: &'static str,
         variant_index: u32,
         variant: &'static str,
         len: usize,
     ) -> Result<()>
-        ensures { Takes step refuses (seen self.old) (tuple_variant name.now variant_index variant.now len) result (seen self.new) };
+        ensures { Takes step refuses (seen self.old) (tuple_variant name.now variant_index variant.now len) result (seen self.new) }
+    {
+        self.call(Call::TupleVariant(name, variant_index, variant, len))
+    }
 
     /// Opens a map; no answer rests on the hint.
-    fn serialize_map(&mut self, len: Option<usize>) -> Result<()>
-        ensures { Takes step refuses (seen self.old) (map len) result (seen self.new) };
+    final fn serialize_map(&mut self, len: Option<usize>) -> Result<()>
+        ensures { Takes step refuses (seen self.old) (map len) result (seen self.new) }
+    {
+        self.call(Call::Map(len))
+    }
 
     /// Opens a struct of values by key.
-    fn serialize_struct(&mut self, name: &'static str, len: usize) -> Result<()>
-        ensures { Takes step refuses (seen self.old) (structure name.now len) result (seen self.new) };
+    final fn serialize_struct(&mut self, name: &'static str, len: usize) -> Result<()>
+        ensures { Takes step refuses (seen self.old) (structure name.now len) result (seen self.new) }
+    {
+        self.call(Call::Struct(name, len))
+    }
 
     /// Opens a variant of values by key.
-    fn serialize_struct_variant(
+    final fn serialize_struct_variant(
         &mut self,
         name: &'static str,
         variant_index: u32,
         variant: &'static str,
         len: usize,
     ) -> Result<()>
-        ensures { Takes step refuses (seen self.old) (struct_variant name.now variant_index variant.now len) result (seen self.new) };
+        ensures { Takes step refuses (seen self.old) (struct_variant name.now variant_index variant.now len) result (seen self.new) }
+    {
+        self.call(Call::StructVariant(name, variant_index, variant, len))
+    }
 
     /// Announces an item of a sequence or a tuple.
-    fn serialize_element(&mut self) -> Result<()>
-        ensures { Takes step refuses (seen self.old) element result (seen self.new) };
+    final fn serialize_element(&mut self) -> Result<()>
+        ensures { Takes step refuses (seen self.old) element result (seen self.new) }
+    {
+        self.call(Call::Element)
+    }
 
     /// Announces an item of a tuple struct or a tuple variant.
-    fn serialize_tuple_field(&mut self) -> Result<()>
-        ensures { Takes step refuses (seen self.old) tuple_field result (seen self.new) };
+    final fn serialize_tuple_field(&mut self) -> Result<()>
+        ensures { Takes step refuses (seen self.old) tuple_field result (seen self.new) }
+    {
+        self.call(Call::TupleField)
+    }
 
     /// Announces a field of a struct or a struct variant.
-    fn serialize_field(&mut self, key: &'static str) -> Result<()>
-        ensures { Takes step refuses (seen self.old) (field key.now) result (seen self.new) };
+    final fn serialize_field(&mut self, key: &'static str) -> Result<()>
+        ensures { Takes step refuses (seen self.old) (field key.now) result (seen self.new) }
+    {
+        self.call(Call::Field(key))
+    }
 
     /// Announces a key of a map.
-    fn serialize_key(&mut self) -> Result<()>
-        ensures { Takes step refuses (seen self.old) key result (seen self.new) };
+    final fn serialize_key(&mut self) -> Result<()>
+        ensures { Takes step refuses (seen self.old) key result (seen self.new) }
+    {
+        self.call(Call::Key)
+    }
 
     /// Announces a value of a map.
-    fn serialize_value(&mut self) -> Result<()>
-        ensures { Takes step refuses (seen self.old) value result (seen self.new) };
+    final fn serialize_value(&mut self) -> Result<()>
+        ensures { Takes step refuses (seen self.old) value result (seen self.new) }
+    {
+        self.call(Call::Value)
+    }
 
     /// Announces a pair of a map: its key and then its value.
-    fn serialize_entry(&mut self) -> Result<()>
-        ensures { Takes step refuses (seen self.old) entry result (seen self.new) };
+    final fn serialize_entry(&mut self) -> Result<()>
+        ensures { Takes step refuses (seen self.old) entry result (seen self.new) }
+    {
+        self.call(Call::Entry)
+    }
 
     /// Closes what was opened last.
-    fn end(&mut self) -> Result<()>
-        ensures { Takes step refuses (seen self.old) end_ result (seen self.new) };
+    final fn end(&mut self) -> Result<()>
+        ensures { Takes step refuses (seen self.old) end_ result (seen self.new) }
+    {
+        self.call(Call::End)
+    }
 
     /// The text that the value prints, as [`serialize_str`](Serializer::serialize_str) takes it.
     ///
     /// It prints first: where memory for that is refused it makes no call, answers `OutOfMemory`
     /// and changes nothing, whatever the state.
-    fn collect_str<T: Display>(&mut self, alloc: Global, value: &T) -> Result<()>
+    final fn collect_str<T: Display>(&mut self, alloc: Global, value: &T) -> Result<()>
         ensures { Collects step refuses (seen self.old) (T.output value.now) result (seen self.new) }
     {
         let text = format!(in alloc; "{value}")?;
-        self.serialize_str(text.as_str())
+        self.call(Call::Str(CowStr::Owned(text)))
     }
 
     /// Whether the calls are for people to read; a type may send itself in another form then.

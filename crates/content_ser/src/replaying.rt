@@ -1,0 +1,24 @@
+//! A list of calls, made on any serialiser.
+#![tactic(auto, using(crate::proofs::Sending::sending))]
+
+ghost use Rattle.content_ser.specs.Call.{events_of};
+ghost use Rattle.content_ser.specs.Lawful.{Sends};
+ghost use Rattle.content_ser.specs.Replay.{calls_script};
+
+use crate::call::Call;
+use crate::serializer::Serializer;
+use content_tree::{Error, ErrorKind, Result};
+
+/// Makes the calls, one after another, up to the first that is refused. A serialiser that has failed
+/// before refuses them all.
+pub fn replay<S: Serializer>(calls: &[Call<'_>], serializer: &mut S) -> Result<()>
+    ensures { Sends S.step (S.seen serializer.old) (λ readable. calls_script (events_of calls.now)) result (S.seen serializer.new) }
+{
+    if serializer.is_failed() {
+        return Err(Error::from(ErrorKind::Failed));
+    }
+    for made in calls {
+        serializer.call(made.lend())?;
+    }
+    Ok(())
+}
