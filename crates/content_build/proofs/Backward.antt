@@ -5,7 +5,8 @@ use Rattle.content_tree.specs.Tree.{Tree, Trees, no_trees, tree_then, Pairs, no_
 use Rattle.content_tree.specs.Text.{static_name}
 use Rattle.content_ser.specs.Kind as kind
 use Rattle.content_ser.specs.Event.{Event}
-use Rattle.content_ser.specs.Kind.{Kind, kinds, leaf, wrap, open_row, open_map, open_record, finish, Wrap, wrapped, Row, mark, row_tree, Record, record_tree, Mark}
+use Rattle.content_ser.specs.Kind.{Kind, kinds, leaf, wrap, open_row, open_map, open_record, finish, Wrap, wrapped, Row, mark, row_tree, record_tree, Mark}
+use Rattle.content_ser.specs.Head.{Head}
 use Rattle.content_ser.specs.Spells as spells
 use Rattle.content_ser.specs.Spells.{Spells, Elements, Items, Members, Item, pairs, value_among, spells_leaf, spells_wrap, spells_row, spells_map, spells_record, elements_end, elements_more, items_end, items_key, items_value, items_entry, members_end, members_more}
 use Rattle.content_build.specs.Partial.{Partial, Place, Compound, due, between, done, in_row, in_map, in_record, child, element, entry_key, entry_value, field_value, fill, step_kind, run, step, next_item, fresh, push_tree, push_pair, push_field, set_last}

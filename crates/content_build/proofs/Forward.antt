@@ -4,7 +4,8 @@ use Rattle.content_tree.specs.Tree as tree
 use Rattle.content_tree.specs.Tree.{Tree, Trees, no_trees, tree_then, Pairs, no_pairs, pair_then, Fields, no_fields, field_then}
 use Rattle.content_tree.specs.Text.{Text, static_name}
 use Rattle.content_ser.specs.Kind as kind
-use Rattle.content_ser.specs.Kind.{Kind, kinds, leaf, wrap, open_row, open_map, open_record, finish, Wrap, wrapped, Row, mark, row_tree, Record, record_tree, Mark}
+use Rattle.content_ser.specs.Kind.{Kind, kinds, leaf, wrap, open_row, open_map, open_record, finish, Wrap, wrapped, Row, mark, row_tree, record_tree, Mark}
+use Rattle.content_ser.specs.Head.{Head}
 use Rattle.content_ser.specs.Spells as spells
 use Rattle.content_ser.specs.Spells.{Spells, Elements, Items, Members, Item, pairs, value_among, spells_leaf, spells_wrap, spells_row, spells_map, spells_record, elements_end, elements_more, items_end, items_key, items_value, items_entry, members_end, members_more}
 use Rattle.content_build.specs.Partial.{Partial, Place, due, between, in_row, in_map, in_record, child, element, entry_key, entry_value, field_value, fill, step_kind, next_item, push_tree, push_pair, push_field, set_last}
@@ -87,7 +88,7 @@ mutual
   run-spells (spells_wrap {w = w} s) ps = run-spells s (child w ∷ ps)
   run-spells (spells_row {r = r} es) ps = run-elements es r refl no_trees ps
   run-spells {rest = rest} (spells_map {items = items} is) ps = run-items is no_pairs ps ∙ ap (λ prs. run_kinds (fill ps (tree.map prs)) rest) (after-none items)
-  run-spells (spells_record {r = r} fs) ps = run-fields fs r no_fields ps
+  run-spells (spells_record {h = h} fs) ps = run-fields fs h no_fields ps
 
   pub run-elements : {m : Mark} {calls rest : List Kind} {ts : Trees} → Elements m calls ts rest → (r : Row) → m ≡ mark r → (front : Trees) (ps : List Place) → run_kinds (between (in_row r front) ps) calls ≡ run_kinds (fill ps (row_tree r (append_trees front ts))) rest
   run-elements {rest = rest} elements_end r e front ps = ap (λ us. run_kinds (fill ps (row_tree r us)) rest) (sym (append_trees-nil front))
@@ -102,7 +103,7 @@ mutual
   run-items (items_entry {k = k} {v = v} sk sv is) front ps =
       run-spells sk (entry_key front ∷ ps) ∙ (run-spells sv (entry_value front k ∷ ps) ∙ run-items is (push_pair front k v) ps)
 
-  pub run-fields : {calls rest : List Kind} {fs : Fields} → Members calls fs rest → (r : Record) (front : Fields) (ps : List Place) → run_kinds (between (in_record r front) ps) calls ≡ run_kinds (fill ps (record_tree r (append_fields front fs))) rest
+  pub run-fields : {calls rest : List Kind} {fs : Fields} → Members calls fs rest → (r : Head) (front : Fields) (ps : List Place) → run_kinds (between (in_record r front) ps) calls ≡ run_kinds (fill ps (record_tree r (append_fields front fs))) rest
   run-fields {rest = rest} members_end r front ps = ap (λ us. run_kinds (fill ps (record_tree r us)) rest) (sym (append_fields-nil front))
   run-fields {rest = rest} (members_more {k = k} {t = t} {fs = fs} s more) r front ps =
       run-spells s (field_value r front k ∷ ps) ∙ (run-fields more r (push_field front (static_name k) t) ps ∙ ap (λ us. run_kinds (fill ps (record_tree r us)) rest) (append_fields-push front (static_name k) t fs))

@@ -1,9 +1,10 @@
 -- The partial tree that a builder's private parts stand for.
 use Rattle.std.specs.Prelude.{List, Option, Some, None, map, reverse}
 use Rattle.content_tree.specs.Value.{tree_of, trees_view, pairs_view, fields_view}
+use Rattle.content_ser.specs.Head.{head_of}
 use Rattle.content_build.specs.Partial as partial
 use Rattle.content_build.specs.Partial.{Partial}
-use Rattle.content_build.specs.Kinds.{wrap_view, row_view, record_view}
+use Rattle.content_build.specs.Kinds.{wrap_view, row_view}
 use Rattle.content_build.specs.declared.places.Place.{Place}
 use Rattle.content_build.specs.declared.places.Place.TheVariants as place
 use Rattle.content_build.specs.declared.places.Compound.{Compound}
@@ -20,13 +21,13 @@ place_view (place.Key pairs) = partial.key (pairs_view pairs.items)
 place_view (place.Value pairs) = partial.value (pairs_view pairs.items)
 place_view (place.EntryKey pairs) = partial.entry_key (pairs_view pairs.items)
 place_view (place.EntryValue pairs k) = partial.entry_value (pairs_view pairs.items) (tree_of k)
-place_view (place.Field r fields k) = partial.field_value (record_view r) (fields_view fields.items) k.now
+place_view (place.Field h fields k) = partial.field_value (head_of h) (fields_view fields.items) k.now
 
 -- an opened compound
 abbrev pub compound_view : Compound → partial.Compound
 compound_view (compound.Row r items) = partial.in_row (row_view r) (trees_view items.items)
 compound_view (compound.Map pairs) = partial.in_map (pairs_view pairs.items)
-compound_view (compound.Record r fields) = partial.in_record (record_view r) (fields_view fields.items)
+compound_view (compound.Record h fields) = partial.in_record (head_of h) (fields_view fields.items)
 
 -- the places from the innermost to the outermost: the last first
 abbrev pub places_view : List Place → List partial.Place

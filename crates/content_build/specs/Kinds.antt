@@ -1,7 +1,8 @@
 -- What the builder's private words for calls stand for.
-use Rattle.content_tree.specs.Text.{static_name, owned_text}
+use Rattle.content_tree.specs.Text.{owned_text}
 use Rattle.content_tree.specs.Tree as tree
 use Rattle.content_tree.specs.Tree.{Tree}
+use Rattle.content_ser.specs.Head.{head_of, headed}
 use Rattle.content_ser.specs.Kind as kind
 use Rattle.content_build.specs.declared.kind.Leaf.{Leaf}
 use Rattle.content_build.specs.declared.kind.Leaf.TheVariants as leaf
@@ -13,8 +14,6 @@ use Rattle.content_build.specs.declared.parts.Wrap.{Wrap}
 use Rattle.content_build.specs.declared.parts.Wrap.TheVariants as wrap
 use Rattle.content_build.specs.declared.parts.Row.{Row}
 use Rattle.content_build.specs.declared.parts.Row.TheVariants as row
-use Rattle.content_build.specs.declared.parts.Record.{Record}
-use Rattle.content_build.specs.declared.parts.Record.TheVariants as rec
 
 -- the tree of a call whose tree is whole
 abbrev pub leaf_tree : Leaf → Tree
@@ -25,26 +24,18 @@ leaf_tree (leaf.Char c) = tree.character c
 leaf_tree (leaf.Text t) = tree.text (owned_text t.now)
 leaf_tree (leaf.Bytes t) = tree.octets (owned_text t.now)
 leaf_tree leaf.Absent = tree.absent
-leaf_tree (leaf.UnitStruct n) = tree.structure (static_name n.now) tree.no_payload
-leaf_tree (leaf.UnitVariant n i v) = tree.enumeration (static_name n.now) i (static_name v.now) tree.no_payload
+leaf_tree (leaf.Head h) = headed (head_of h) tree.no_payload
 
 -- what stands around one child
 abbrev pub wrap_view : Wrap → kind.Wrap
 wrap_view wrap.Present = kind.in_some
-wrap_view (wrap.Struct n) = kind.in_struct n.now
-wrap_view (wrap.Variant n i v) = kind.in_variant n.now i v.now
+wrap_view (wrap.Head h) = kind.in_head (head_of h)
 
 -- what holds items by place
 abbrev pub row_view : Row → kind.Row
 row_view row.Seq = kind.row_seq
 row_view row.Tuple = kind.row_tuple
-row_view (row.Struct n) = kind.row_struct n.now
-row_view (row.Variant n i v) = kind.row_variant n.now i v.now
-
--- what holds items by key
-abbrev pub record_view : Record → kind.Record
-record_view (rec.Struct n) = kind.record_struct n.now
-record_view (rec.Variant n i v) = kind.record_variant n.now i v.now
+row_view (row.Head h) = kind.row_head (head_of h)
 
 -- a call that announces an item
 abbrev pub item_view : Item → kind.Kind
@@ -61,6 +52,6 @@ kind_view (call.Leaf l) = kind.leaf (leaf_tree l)
 kind_view (call.Wrap w) = kind.wrap (wrap_view w)
 kind_view (call.Row r) = kind.open_row (row_view r)
 kind_view call.Map = kind.open_map
-kind_view (call.Record r) = kind.open_record (record_view r)
+kind_view (call.Record h) = kind.open_record (head_of h)
 kind_view (call.Item i) = item_view i
 kind_view call.End = kind.finish

@@ -4,8 +4,9 @@ use Rattle.content_tree.specs.Text.{Text, static_name}
 use Rattle.content_tree.specs.Tree as tree
 use Rattle.content_tree.specs.Tree.{Tree, Trees, no_trees, tree_then, Pairs, no_pairs, pair_then, Fields, no_fields, field_then}
 use Rattle.content_ser.specs.Event.{Event}
+use Rattle.content_ser.specs.Head.{Head}
 use Rattle.content_ser.specs.Kind as kind
-use Rattle.content_ser.specs.Kind.{Kind, leaf, wrap, open_row, open_map, open_record, finish, Wrap, wrapped, Row, mark, row_tree, Record, record_tree, Mark}
+use Rattle.content_ser.specs.Kind.{Kind, leaf, wrap, open_row, open_map, open_record, finish, Wrap, wrapped, Row, mark, row_tree, record_tree, Mark}
 use Rattle.content_ser.specs.Lawful as lawful
 
 -- one tree more, at the end
@@ -37,13 +38,13 @@ pub data Place : Type 0 where
   value : Pairs → Place
   entry_key : Pairs → Place
   entry_value : Pairs → Tree → Place
-  field_value : Record → Fields → List ℕ → Place
+  field_value : Head → Fields → List ℕ → Place
 
 -- an opened compound in which no place waits
 pub data Compound : Type 0 where
   in_row : Row → Trees → Compound
   in_map : Pairs → Compound
-  in_record : Record → Fields → Compound
+  in_record : Head → Fields → Compound
 
 -- a partial tree: its waiting places, from the innermost to the outermost, and what is due
 pub data Partial : Type 0 where

@@ -40,7 +40,7 @@ fn begin<'v>(alloc: Global, waiting: &mut Vec<Place<'v>>, call: Kind<'_>) -> Res
         }
         Kind::Row(row) => Ok(Focus::Between(Compound::Row(row, Vec::new(alloc)))),
         Kind::Map => Ok(Focus::Between(Compound::Map(Vec::new(alloc)))),
-        Kind::Record(record) => Ok(Focus::Between(Compound::Record(record, Vec::new(alloc)))),
+        Kind::Record(head) => Ok(Focus::Between(Compound::Record(head, Vec::new(alloc)))),
         Kind::Item(_) => Err(ErrorKind::Misplaced.into()),
         Kind::End => Err(ErrorKind::Misplaced.into()),
     }

@@ -6,8 +6,8 @@ ghost use Rattle.content_ser.specs.Call.{event_of};
 ghost use Rattle.content_ser.specs.Kind.{kind};
 ghost use Rattle.content_build.specs.Kinds.{kind_view, leaf_tree};
 
-use crate::parts::{Record, Row, Wrap, enumeration, structure};
-use content_ser::Call;
+use crate::parts::{Row, Wrap, under};
+use content_ser::{Call, Head};
 use content_tree::{CowBytes, CowStr, NamedData, NamedValue, Number, Value};
 use std::alloc::{AllocError, Global};
 
@@ -21,8 +21,7 @@ pub(crate) enum Leaf<'a> {
     Text(&'a str),
     Bytes(&'a [u8]),
     Absent,
-    UnitStruct(&'static str),
-    UnitVariant(&'static str, u32, &'static str),
+    Head(Head),
 }
 
 /// A call that announces an item.
@@ -43,7 +42,7 @@ pub(crate) enum Kind<'a> {
     Wrap(Wrap),
     Row(Row),
     Map,
-    Record(Record),
+    Record(Head),
     Item(Item),
     End,
 }
@@ -62,25 +61,25 @@ impl<'b> Kind<'b> {
             Call::Unit => Kind::Leaf(Leaf::Unit),
             Call::NoneCall => Kind::Leaf(Leaf::Absent),
             Call::SomeCall => Kind::Wrap(Wrap::Present),
-            Call::UnitStruct(name) => Kind::Leaf(Leaf::UnitStruct(*name)),
-            Call::UnitVariant(name, index, variant) => Kind::Leaf(Leaf::UnitVariant(
-                *name, *index, *variant,
-            )),
-            Call::NewtypeStruct(name) => Kind::Wrap(Wrap::Struct(*name)),
-            Call::NewtypeVariant(name, index, variant) => Kind::Wrap(Wrap::Variant(
-                *name, *index, *variant,
-            )),
+            Call::UnitStruct(name) => Kind::Leaf(Leaf::Head(Head::Struct(*name))),
+            Call::UnitVariant(name, index, variant) => {
+                Kind::Leaf(Leaf::Head(Head::Variant(*name, *index, *variant)))
+            }
+            Call::NewtypeStruct(name) => Kind::Wrap(Wrap::Head(Head::Struct(*name))),
+            Call::NewtypeVariant(name, index, variant) => {
+                Kind::Wrap(Wrap::Head(Head::Variant(*name, *index, *variant)))
+            }
             Call::Seq(_) => Kind::Row(Row::Seq),
             Call::Tuple(_) => Kind::Row(Row::Tuple),
-            Call::TupleStruct(name, _) => Kind::Row(Row::Struct(*name)),
-            Call::TupleVariant(name, index, variant, _) => Kind::Row(Row::Variant(
-                *name, *index, *variant,
-            )),
+            Call::TupleStruct(name, _) => Kind::Row(Row::Head(Head::Struct(*name))),
+            Call::TupleVariant(name, index, variant, _) => {
+                Kind::Row(Row::Head(Head::Variant(*name, *index, *variant)))
+            }
             Call::Map(_) => Kind::Map,
-            Call::Struct(name, _) => Kind::Record(Record::Struct(*name)),
-            Call::StructVariant(name, index, variant, _) => Kind::Record(Record::Variant(
-                *name, *index, *variant,
-            )),
+            Call::Struct(name, _) => Kind::Record(Head::Struct(*name)),
+            Call::StructVariant(name, index, variant, _) => {
+                Kind::Record(Head::Variant(*name, *index, *variant))
+            }
             Call::Element => Kind::Item(Item::Element),
             Call::TupleField => Kind::Item(Item::TupleField),
             Call::Field(key) => Kind::Item(Item::Field(*key)),
@@ -107,14 +106,7 @@ impl<'a> Leaf<'a> {
             )?))),
             Leaf::Bytes(bytes) => Ok(NamedValue::Bytes(CowBytes::Owned(bytes.to_vec(alloc)?))),
             Leaf::Absent => Ok(NamedValue::Option(None)),
-            Leaf::UnitStruct(name) => structure(alloc, name, NamedData::Unit),
-            Leaf::UnitVariant(name, index, variant) => enumeration(
-                alloc,
-                name,
-                index,
-                variant,
-                NamedData::Unit,
-            ),
+            Leaf::Head(head) => under(alloc, head, NamedData::Unit),
         }
     }
 }

@@ -9,8 +9,9 @@ ghost use Rattle.content_build.specs.Kinds.{item_view};
 ghost use Rattle.content_build.specs.Frames.{compound_view, place_view, places_view, focus_view};
 
 use crate::kind::Item;
-use crate::parts::{Record, Row, Wrap};
-use content_tree::{CowStr, NamedValue, Value};
+use crate::parts::{Row, Wrap, under};
+use content_ser::Head;
+use content_tree::{CowStr, NamedData, NamedValue, Value};
 use std::alloc::{AllocError, Global};
 
 /// A place that waits for a tree, with what is finished around it.
@@ -22,7 +23,7 @@ pub(crate) enum Place<'v> {
     Value(Vec<(Value<'v>, Value<'v>)>),
     EntryKey(Vec<(Value<'v>, Value<'v>)>),
     EntryValue(Vec<(Value<'v>, Value<'v>)>, Value<'v>),
-    Field(Record, Vec<(CowStr<'static>, Value<'v>)>, &'static str),
+    Field(Head, Vec<(CowStr<'static>, Value<'v>)>, &'static str),
 }
 
 /// An opened compound in which no place waits.
@@ -30,7 +31,7 @@ pub(crate) enum Place<'v> {
 pub(crate) enum Compound<'v> {
     Row(Row, Vec<Value<'v>>),
     Map(Vec<(Value<'v>, Value<'v>)>),
-    Record(Record, Vec<(CowStr<'static>, Value<'v>)>),
+    Record(Head, Vec<(CowStr<'static>, Value<'v>)>),
 }
 
 /// What is due.
@@ -92,9 +93,9 @@ pub(crate) fn fill<'v>(
                 pairs.push((key, value))?;
                 return Ok(Focus::Between(Compound::Map(pairs)));
             }
-            Place::Field(record, mut fields, key) => {
+            Place::Field(head, mut fields, key) => {
                 fields.push((CowStr::Borrowed(key), value))?;
-                return Ok(Focus::Between(Compound::Record(record, fields)));
+                return Ok(Focus::Between(Compound::Record(head, fields)));
             }
         }
     }
@@ -108,7 +109,7 @@ pub(crate) fn close<'v>(alloc: Global, opened: Compound<'v>) -> Result<Value<'v>
     match opened {
         Compound::Row(row, items) => row.with(alloc, items),
         Compound::Map(pairs) => Ok(NamedValue::Map(pairs)),
-        Compound::Record(record, fields) => record.with(alloc, fields),
+        Compound::Record(head, fields) => under(alloc, head, NamedData::Struct { fields }),
     }
 }
 
@@ -121,14 +122,12 @@ pub(crate) fn place_for<'v>(opened: Compound<'v>, item: Item) -> Option<Place<'v
             Item::Element => match row {
                 Row::Seq => Some(Place::Element(Row::Seq, items)),
                 Row::Tuple => Some(Place::Element(Row::Tuple, items)),
-                Row::Struct(_) => None,
-                Row::Variant(_, _, _) => None,
+                Row::Head(_) => None,
             },
             Item::TupleField => match row {
                 Row::Seq => None,
                 Row::Tuple => None,
-                Row::Struct(_) => Some(Place::Element(row, items)),
-                Row::Variant(_, _, _) => Some(Place::Element(row, items)),
+                Row::Head(_) => Some(Place::Element(row, items)),
             },
             Item::Field(_) | Item::Key | Item::Value | Item::Entry => None,
         },
@@ -138,8 +137,8 @@ pub(crate) fn place_for<'v>(opened: Compound<'v>, item: Item) -> Option<Place<'v
             Item::Entry => Some(Place::EntryKey(pairs)),
             Item::Element | Item::TupleField | Item::Field(_) => None,
         },
-        Compound::Record(record, fields) => match item {
-            Item::Field(key) => Some(Place::Field(record, fields, key)),
+        Compound::Record(head, fields) => match item {
+            Item::Field(key) => Some(Place::Field(head, fields, key)),
             Item::Element | Item::TupleField | Item::Key | Item::Value | Item::Entry => None,
         },
     }

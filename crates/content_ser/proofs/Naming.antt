@@ -10,7 +10,8 @@ use Rattle.content_ser.specs.Lawful.{Script, done, stop_with, call_then, stop_of
 use Rattle.content_ser.specs.Loose.{Entry, sorted, text_pairs, loose, loose_struct, loose_variant, loose_payload, loose_each, loose_pairs, loose_entries, loose_fields, keyed}
 use Rattle.content_ser.specs.ScriptLaws.{no_stop_first, no_stop_second, stop_of_both}
 use Rattle.content_ser.specs.StaticNames.{IsStatic, IsAny, EachPayloadName, EachItemName, EachPairName, EachFieldName, HasStaticNames, HasStaticKeys}
-use Rattle.content_ser.specs.TreeScript.{Head, of_struct, of_variant, key_script, script_of, script_of_payload, script_of_each, script_of_pairs, script_of_fields, owned_key_text}
+use Rattle.content_ser.specs.Head.{Head, of_struct, of_variant}
+use Rattle.content_ser.specs.TreeScript.{key_script, script_of, script_of_payload, script_of_each, script_of_pairs, script_of_fields, owned_key_text}
 use Rattle.content_ser.proofs.Sorting.{EachHeld, sorted_held}
 
 both : (a b : Bool) → (a && b) ≡ true → (a ≡ true) × (b ≡ true)

@@ -12,7 +12,8 @@ use Rattle.content_ser.specs.Kind.{Kind, Mark, kinds, leaf}
 use Rattle.content_ser.specs.Lawful.{Script, done, stop_with, call_then, calls_of, stop_of, and_then}
 use Rattle.content_ser.specs.ScriptLaws.{calls_of_both, no_stop_first, no_stop_second}
 use Rattle.content_ser.specs.Spells.{Spells, SpellsWhole, spells_leaf, spells_wrap, spells_row, spells_map, spells_record, Elements, elements_end, elements_more, Item, entry, Items, items_end, items_entry, Members, members_end, members_more, pairs, value_among}
-use Rattle.content_ser.specs.TreeScript.{of_struct, of_variant, script_of, script_of_payload, script_of_each, script_of_pairs, script_of_fields, owned_key_text}
+use Rattle.content_ser.specs.Head.{of_struct, of_variant}
+use Rattle.content_ser.specs.TreeScript.{script_of, script_of_payload, script_of_each, script_of_pairs, script_of_fields, owned_key_text}
 
 -- without a stop, the calls read as P before any rest
 abbrev pub Reads : (List Kind → List Kind → Type 0) → Script → Type 0

@@ -1,29 +1,27 @@
 -- The table of calls: what each call is in a list.
 use Rattle.std.specs.Prelude.{ℕ, List, map}
-use Rattle.content_tree.specs.Text.{owned_text, static_name}
+use Rattle.content_tree.specs.Text.{owned_text}
 use Rattle.content_tree.specs.Tree as tree
 use Rattle.content_tree.specs.Tree.{Tree, Trees, Fields}
 use Rattle.content_ser.specs.Event as event
 use Rattle.content_ser.specs.Event.{Event}
+use Rattle.content_ser.specs.Head.{Head, of_struct, of_variant, headed}
 
 -- what stands around one child
 pub data Wrap : Type 0 where
   in_some : Wrap
-  in_struct : List ℕ → Wrap
-  in_variant : List ℕ → ℕ → List ℕ → Wrap
+  in_head : Head → Wrap
 
 -- the tree around a child
 abbrev pub wrapped : Wrap → Tree → Tree
 wrapped in_some t = tree.present t
-wrapped (in_struct n) t = tree.structure (static_name n) (tree.one t)
-wrapped (in_variant n i v) t = tree.enumeration (static_name n) i (static_name v) (tree.one t)
+wrapped (in_head h) t = headed h (tree.one t)
 
 -- what holds items by place
 pub data Row : Type 0 where
   row_seq : Row
   row_tuple : Row
-  row_struct : List ℕ → Row
-  row_variant : List ℕ → ℕ → List ℕ → Row
+  row_head : Head → Row
 
 -- by which call an item is announced
 pub data Mark : Type 0 where
@@ -34,25 +32,17 @@ pub data Mark : Type 0 where
 abbrev pub mark : Row → Mark
 mark row_seq = element
 mark row_tuple = element
-mark (row_struct n) = tuple_field
-mark (row_variant n i v) = tuple_field
+mark (row_head h) = tuple_field
 
 -- the tree of a row with these items
 abbrev pub row_tree : Row → Trees → Tree
 row_tree row_seq ts = tree.seq ts
 row_tree row_tuple ts = tree.tuple ts
-row_tree (row_struct n) ts = tree.structure (static_name n) (tree.many ts)
-row_tree (row_variant n i v) ts = tree.enumeration (static_name n) i (static_name v) (tree.many ts)
+row_tree (row_head h) ts = headed h (tree.many ts)
 
--- what holds items by key
-pub data Record : Type 0 where
-  record_struct : List ℕ → Record
-  record_variant : List ℕ → ℕ → List ℕ → Record
-
--- the tree of a record with these fields
-abbrev pub record_tree : Record → Fields → Tree
-record_tree (record_struct n) fs = tree.structure (static_name n) (tree.named fs)
-record_tree (record_variant n i v) fs = tree.enumeration (static_name n) i (static_name v) (tree.named fs)
+-- the tree of a head that holds these fields
+abbrev pub record_tree : Head → Fields → Tree
+record_tree h fs = headed h (tree.named fs)
 
 -- what a call is in a list: hints and lengths are not in it
 pub data Kind : Type 0 where
@@ -60,7 +50,7 @@ pub data Kind : Type 0 where
   wrap : Wrap → Kind
   open_row : Row → Kind
   open_map : Kind
-  open_record : Record → Kind
+  open_record : Head → Kind
   item : Mark → Kind
   field : List ℕ → Kind
   key : Kind
@@ -78,17 +68,17 @@ kind (event.octets t) = leaf (tree.octets (owned_text t))
 kind event.unit = leaf tree.unit
 kind event.none = leaf tree.absent
 kind event.some = wrap in_some
-kind (event.unit_struct n) = leaf (tree.structure (static_name n) tree.no_payload)
-kind (event.unit_variant n i v) = leaf (tree.enumeration (static_name n) i (static_name v) tree.no_payload)
-kind (event.newtype_struct n) = wrap (in_struct n)
-kind (event.newtype_variant n i v) = wrap (in_variant n i v)
+kind (event.unit_struct n) = leaf (headed (of_struct n) tree.no_payload)
+kind (event.unit_variant n i v) = leaf (headed (of_variant n i v) tree.no_payload)
+kind (event.newtype_struct n) = wrap (in_head (of_struct n))
+kind (event.newtype_variant n i v) = wrap (in_head (of_variant n i v))
 kind (event.seq hint) = open_row row_seq
 kind (event.tuple len) = open_row row_tuple
-kind (event.tuple_struct n len) = open_row (row_struct n)
-kind (event.tuple_variant n i v len) = open_row (row_variant n i v)
+kind (event.tuple_struct n len) = open_row (row_head (of_struct n))
+kind (event.tuple_variant n i v len) = open_row (row_head (of_variant n i v))
 kind (event.map hint) = open_map
-kind (event.structure n len) = open_record (record_struct n)
-kind (event.struct_variant n i v len) = open_record (record_variant n i v)
+kind (event.structure n len) = open_record (of_struct n)
+kind (event.struct_variant n i v len) = open_record (of_variant n i v)
 kind event.element = item element
 kind event.tuple_field = item tuple_field
 kind (event.field k) = field k

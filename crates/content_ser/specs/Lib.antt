@@ -1,5 +1,6 @@
 pub mod Event
 pub mod Call
+pub mod Head
 pub mod Kind
 pub mod Spells
 pub mod Laws
@@ -11,7 +12,6 @@ pub mod Lawfulness
 pub mod Loose
 pub mod TreeScript
 pub mod TreeLaw
-pub mod Heads
 pub mod Places
 pub mod Canonical
 pub mod StaticNames

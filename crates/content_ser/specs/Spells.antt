@@ -4,8 +4,9 @@ use Rattle.content_tree.specs.Text.{static_name}
 use Rattle.content_tree.specs.Tree as tree
 use Rattle.content_tree.specs.Tree.{Tree, Trees, no_trees, tree_then, Pairs, no_pairs, pair_then, Fields, no_fields, field_then}
 use Rattle.content_ser.specs.Event.{Event}
+use Rattle.content_ser.specs.Head.{Head}
 use Rattle.content_ser.specs.Kind as kind
-use Rattle.content_ser.specs.Kind.{Kind, kinds, leaf, wrap, open_row, open_map, open_record, finish, Wrap, wrapped, Row, mark, row_tree, Record, record_tree, Mark}
+use Rattle.content_ser.specs.Kind.{Kind, kinds, leaf, wrap, open_row, open_map, open_record, finish, Wrap, wrapped, Row, mark, row_tree, record_tree, Mark}
 
 -- an item of an opened map
 pub data Item : Type 0 where
@@ -34,7 +35,7 @@ mutual
     spells_wrap : {w : Wrap} {calls rest : List Kind} {t : Tree} → Spells calls t rest → Spells (wrap w ∷ calls) (wrapped w t) rest
     spells_row : {r : Row} {calls rest : List Kind} {ts : Trees} → Elements (mark r) calls ts rest → Spells (open_row r ∷ calls) (row_tree r ts) rest
     spells_map : {calls rest : List Kind} {items : List Item} → Items calls items rest → Spells (open_map ∷ calls) (tree.map (pairs items)) rest
-    spells_record : {r : Record} {calls rest : List Kind} {fs : Fields} → Members calls fs rest → Spells (open_record r ∷ calls) (record_tree r fs) rest
+    spells_record : {h : Head} {calls rest : List Kind} {fs : Fields} → Members calls fs rest → Spells (open_record h ∷ calls) (record_tree h fs) rest
 
   -- items after this mark, and the end
   pub data Elements : Mark → List Kind → Trees → List Kind → Type 0 where

@@ -11,7 +11,8 @@ use Rattle.content_ser.specs.Spells.{spells_wrap, spells_row, spells_map, spells
 use Rattle.content_ser.specs.Lawful.{Script, done, stop_with, call_then, and_then, IsLawful}
 use Rattle.content_ser.specs.Fits.{ATree, ARow, AMap, ARecord, Fits, fits_only, fits_call, fits_then, lawful_from_fits, fits_from_lawful}
 use Rattle.content_ser.specs.Lawfulness.{leaf_lawful, entry_fits}
-use Rattle.content_ser.specs.TreeScript.{Head, of_struct, of_variant, owned_key_text, script_of, script_of_payload, script_of_each, script_of_pairs, script_of_fields}
+use Rattle.content_ser.specs.Head.{Head, of_struct, of_variant}
+use Rattle.content_ser.specs.TreeScript.{owned_key_text, script_of, script_of_payload, script_of_each, script_of_pairs, script_of_fields}
 
 -- one call that is a whole tree
 leaf_fits : {c : Event} {t : Tree} → kind.kind c ≡ leaf t → Fits ATree (call_then c done)

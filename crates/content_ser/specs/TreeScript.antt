@@ -6,6 +6,7 @@ use Rattle.content_tree.specs.Tree.{Tree, Payload, Trees, Pairs, Fields}
 use Rattle.content_tree.specs.Printed.{quoted}
 use Rattle.content_ser.specs.Event as event
 use Rattle.content_ser.specs.Event.{Event}
+use Rattle.content_ser.specs.Head.{Head, of_struct, of_variant}
 use Rattle.content_ser.specs.Lawful.{Script, done, stop_with, call_then, and_then}
 use Rattle.content_ser.specs.Loose.{loose}
 
@@ -20,11 +21,6 @@ key_script k = if k.borrowed then call_then (event.field k.content) done else st
 -- the calls that open a map of one entry, up to its text key
 abbrev pub single_head : Text → Script
 single_head k = call_then (event.map (Some 1)) (call_then event.entry (call_then (event.text k.content) done))
-
--- static names of a struct or of a variant
-pub data Head : Type 0 where
-  of_struct : List ℕ → Head
-  of_variant : List ℕ → ℕ → List ℕ → Head
 
 -- its call where nothing is held
 abbrev pub unit_call : Head → Event

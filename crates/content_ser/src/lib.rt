@@ -2,6 +2,7 @@
 #![tactic(auto)]
 
 mod call;
+mod head;
 mod impls;
 pub mod laws;
 mod loose_form;
@@ -11,6 +12,7 @@ mod serialize;
 mod serializer;
 
 pub use call::Call;
+pub use head::Head;
 pub use loose_form::{loose_once, script_spells};
 pub use replaying::replay;
 pub use serialize::Serialize;

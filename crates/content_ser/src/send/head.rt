@@ -1,21 +1,13 @@
-//! The calls that name a struct or a variant.
+//! The calls of a head.
 #![tactic(auto)]
 
-ghost use Rattle.content_ser.specs.Heads.{head_of};
+ghost use Rattle.content_ser.specs.Head.{head_of};
 ghost use Rattle.content_ser.specs.Lawful.{Takes};
 ghost use Rattle.content_ser.specs.TreeScript.{newtype_call, struct_call, tuple_call, unit_call};
 
+use crate::head::Head;
 use crate::serializer::Serializer;
 use content_tree::Result;
-
-/// The static names of a struct, or of a variant with its index.
-#[derive(Clone, Copy)]
-pub enum Head {
-    /// The name of a struct.
-    Struct(&'static str),
-    /// The name of an enum, the index of the variant, and its name.
-    Variant(&'static str, u32, &'static str),
-}
 
 /// The call of a head that holds nothing.
 pub fn call_unit<S: Serializer>(head: Head, serializer: &mut S) -> Result<()>

@@ -5,12 +5,13 @@ ghost use Rattle.content_tree.specs.Text.{text_of};
 ghost use Rattle.content_tree.specs.Tree.{map, seq};
 ghost use Rattle.content_tree.specs.Value.{enum_tree, fields_view, held_view, pairs_view, payload_of, struct_tree, tree_of, trees_view};
 ghost use Rattle.content_ser.specs.Event.{element, tuple_field};
-ghost use Rattle.content_ser.specs.Heads.{head_of};
+ghost use Rattle.content_ser.specs.Head.{head_of};
 ghost use Rattle.content_ser.specs.Lawful.{Sends};
 ghost use Rattle.content_ser.specs.Loose.{keyed, loose_each, loose_entries, loose_fields, loose_pairs, loose_payload, loose_struct, loose_variant, sorted, text_pairs};
 ghost use Rattle.content_ser.specs.TreeScript.{script_of, script_of_each, script_of_fields, script_of_pairs, script_of_payload, sent_tree, single_head};
 
-use crate::send::head::{Head, call_newtype, call_struct, call_tuple, call_unit};
+use crate::head::Head;
+use crate::send::head::{call_newtype, call_struct, call_tuple, call_unit};
 use crate::send::key::send_key;
 use crate::send::places::last_places;
 use crate::serialize::Serialize;

@@ -2,7 +2,7 @@ use Rattle.std.proofs.Common.{◌≡◌, ◌<◌, [], length, drop, map, Some, �
 use Rattle.std.proofs.lemmas.List.{drop_all}
 use Rattle.content_tree.proofs.Views.{tree_of-Unit, tree_of-Bool, tree_of-Number, tree_of-Char, tree_of-String, tree_of-Bytes, tree_of-Map, tree_of-Tuple, payload_of-Unit, payload_of-NewType, payload_of-Tuple, payload_of-Struct}
 use Rattle.content_ser.specs.Event as event
-use Rattle.content_ser.specs.Heads.{head_of}
+use Rattle.content_ser.specs.Head.{head_of}
 use Rattle.content_ser.specs.Loose.{sorted}
 use Rattle.content_ser.specs.Places.{entry_of}
 use Rattle.content_ser.specs.TreeScript as names
