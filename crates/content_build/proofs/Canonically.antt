@@ -6,7 +6,7 @@ use Rattle.content_ser.specs.Lawful.{calls_of}
 use Rattle.content_ser.specs.TreeScript.{sent_tree}
 use Rattle.content_ser.proofs.Canonically.{canonical_spelled, canonical_or_stops}
 use Rattle.content_build.specs.Canonical.{CanonicalBuilt, CanonicalStopped}
-use Rattle.content_build.proofs.Laws.{one_tree}
+use Rattle.content_build.proofs.Agreement.{one_tree}
 
 pub canonical_built : CanonicalBuilt
 canonical_built t readable v (none, spelled) =

@@ -3,7 +3,7 @@ use Rattle.std.proofs.Common.{◌≡◌, Bool, true, false, List, [], ◌∷◌,
 use Rattle.content_tree.specs.Kind.{kind_of}
 use Rattle.content_tree.specs.declared.error.Error.{Error}
 use Rattle.content_ser.specs.Event.{Event}
-use Rattle.content_ser.specs.Lawful.{Seen, Answer, Takes, Refused, Script, done, stop_with, call_then, calls_of, run, Sent, SentInVain, Sends}
+use Rattle.content_ser.specs.Lawful.{Seen, Answer, Takes, Refused, Script, done, stop_with, call_then, calls_of, run, Sent, SentInVain}
 use Rattle.content_build.specs.Recorder.{recorded, keeps, cause, Records, Lists, SentIsListed}
 
 -- a recorder, by its parts
@@ -34,7 +34,7 @@ records old new c (Err x) t = by_failed old.failed refl
   where
     by_failed : (b : Bool) → old.failed ≡ b → Records old c (Err x) new
     by_failed true e =
-        let (failed, why, same) = t.when_failed e in
+        let (failed, (why, same)) = t.when_failed e in
         (why ∙ ap cause (sym e), made_of new old.state true old.readable same failed t.readable)
     by_failed false e =
         let (failed, refused) = t.otherwise e in

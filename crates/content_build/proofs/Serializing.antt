@@ -9,7 +9,7 @@ use Rattle.content_ser.specs.Spells.{SpellsWhole, IsViable}
 use Rattle.content_build.specs.Partial.{Partial, done, fresh, run, step}
 use Rattle.content_build.specs.Builder.{refuses, Finishes}
 use Rattle.content_build.specs.Serializer.{Serialized}
-use Rattle.content_build.proofs.Laws.{run_from_whole, never_viable}
+use Rattle.content_build.proofs.Agreement.{run_from_whole, never_viable}
 use Rattle.content_build.proofs.Headline.{beginning}
 
 -- no call of viable calls is out of place

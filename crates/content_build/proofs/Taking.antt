@@ -5,7 +5,7 @@ use Rattle.content_ser.specs.Lawful.{Seen, Answer, Takes}
 use Rattle.content_build.specs.Partial.{Partial, step}
 use Rattle.content_build.specs.Taken.{Moves}
 use Rattle.content_build.specs.Builder.{has_failed, or_fresh, refuses, IsCause, StepsAreExact}
-use Rattle.content_build.proofs.Laws.{one_more, never_viable, still_viable, viable_from_run}
+use Rattle.content_build.proofs.Agreement.{one_more, never_viable, still_viable, viable_from_run}
 
 -- a serialiser at this partial tree, or failed
 abbrev pub standing : Option Partial → Bool → Seen Partial

@@ -80,9 +80,7 @@ impl<'v> Serializer for Builder<'v> {
     /// bytes, items and boxes.
     fn call(&mut self, call: Call<'_>) -> Result<()>
         // one step of the partial tree
-        ensures taken {
-            Takes step refuses (seen_of self.old) (event_of call.entry) result (seen_of self.new)
-        }
+        ensures taken { Takes step refuses (seen_of self.old) (event_of call.entry) result (seen_of self.new) }
         // it is taken, or refused for memory, only where some whole list begins with the calls so
         // far and this one, and refused as out of place only where none does
         ensures exact { AnswersExactly (seen_of self.old) (event_of call.entry) result }
