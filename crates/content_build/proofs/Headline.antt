@@ -19,7 +19,7 @@ use Rattle.content_build.specs.Builder.{refuses, Finishes}
 use Rattle.content_build.specs.Partial.{Partial, due, between, done, step, run, fresh}
 use Rattle.content_build.specs.declared.calls_error.CallsError.{CallsError}
 use Rattle.content_build.proofs.Backward.{whole_from_run}
-use Rattle.content_build.proofs.Laws.{run_from_whole, run-append, viable_from_run, run_from_viable, one_tree}
+use Rattle.content_build.proofs.Agreement.{run_from_whole, run-append, viable_from_run, run_from_viable, one_tree}
 
 pub length-events : (calls : List Call) → length (events_of calls) ≡ length calls
 length-events [] = refl

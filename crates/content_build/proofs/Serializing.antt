@@ -1,27 +1,33 @@
 -- What is serialised to a new builder.
-use Rattle.std.proofs.Common.{◌≡◌, Bool, false, List, Some, None, Result, Ok, Err, IsErrAnd, refl, sym, subst, ◌∙◌, inl, inr, ⊎_elim}
+use Rattle.std.proofs.Common.{◌≡◌, Bool, false, List, [], ◌∷◌, ◌++◌, Some, None, Result, Ok, Err, IsErrAnd, refl, sym, subst, ◌∙◌, inl, inr, ⊎_elim, append_assoc}
+use Rattle.content_tree.specs.Kind.{IsOutOfMemory}
 use Rattle.content_tree.specs.declared.error.Error.{Error}
 use Rattle.content_tree.specs.declared.value.NamedValue.{NamedValue}
 use Rattle.content_ser.specs.Event.{Event}
-use Rattle.content_ser.specs.Lawful.{Script, Seen, Sends, calls_of, stop_of, Sent, RunsOut, Stopped, IsLawful}
+use Rattle.content_ser.specs.Lawful.{Script, Seen, Sends, calls_of, stop_of, Sent, Halted, Stopped, IsLawful}
 use Rattle.content_ser.specs.Spells.{SpellsWhole, IsViable}
 use Rattle.content_build.specs.Partial.{Partial, done, fresh, run, step}
-use Rattle.content_build.specs.Builder.{Finishes}
+use Rattle.content_build.specs.Builder.{refuses, Finishes}
 use Rattle.content_build.specs.Serializer.{Serialized}
-use Rattle.content_build.proofs.Laws.{run_from_whole, run_from_viable}
+use Rattle.content_build.proofs.Agreement.{run_from_whole, never_viable}
 use Rattle.content_build.proofs.Headline.{beginning}
 
--- no beginning of viable calls has no run
-never_out : (calls : List Event) → IsViable calls → RunsOut step fresh calls → ⊥
-never_out calls viable (made, rest, split, none) =
-    let some = run_from_viable made (beginning made rest (subst IsViable (sym split) viable)) in
-    let x : Some some.0 ≡ None = sym some.1 ∙ none in cc
+-- no call of viable calls is out of place
+never_misplaced : (calls made rest : List Event) (c : Event) (mid : Partial) → IsViable calls → made ++ c ∷ rest ≡ calls
+    → run fresh made ≡ Some mid → step mid c ≡ None → ⊥
+never_misplaced calls made rest c mid viable split ran none =
+    never_viable made c mid ran none (beginning (made ++ c ∷ []) rest (subst IsViable (sym (append_assoc made (c ∷ []) rest ∙ split)) viable))
+
+-- a refused call of viable calls was refused for memory
+only_memory : (calls : List Event) (e : Error) (new : Partial) → IsViable calls → Halted step refuses fresh calls e new → IsOutOfMemory e
+only_memory calls e new viable (made, c, rest, mid, split, ran, refused) =
+    ⊎_elim (λ misplaced. absurd (never_misplaced calls made rest c mid viable split ran misplaced.0)) (λ memory. memory.1) refused
 
 -- a refused script
-pub refused : (sc : Script) (e : Error) (failed : Bool) (new : Partial) → IsLawful sc → Sent step fresh sc (Err e) failed new → Serialized sc (Err e)
+pub refused : (sc : Script) (e : Error) (failed : Bool) (new : Partial) → IsLawful sc → Sent step refuses fresh sc (Err e) failed new → Serialized sc (Err e)
 refused sc e failed new lawful sent =
     ⊎_elim
-    (λ f. ⊎_elim (λ m. inl m) (λ out. absurd (never_out (calls_of sc) lawful.viable out)) f.1)
+    (λ f. inl (only_memory (calls_of sc) e new lawful.viable f.1))
     (λ k. ⊎_elim (λ (s : Stopped step fresh sc e new). inr (s.0, s.1, s.2)) (λ m. inl m.0) k.1)
     sent
 
@@ -44,15 +50,15 @@ exit sc (Err x) e is s = subst (λ y. Serialized sc (Err y)) (sym is) s
 
 -- a script that a new builder refused, or that stopped
 pub sent_err : (sc : Bool → Script) (readable : Bool) (old new : Seen Partial) (e : Error) (r : Result NamedValue Error) → ((b : Bool) → IsLawful (sc b))
-    → old ≡ record { state = fresh; failed = false; readable = readable } → Sends step old sc (Err e) new → IsErrAnd r (λ x. x ≡ e) → Serialized (sc readable) r
+    → old ≡ record { state = fresh; failed = false; readable = readable } → Sends step refuses old sc (Err e) new → IsErrAnd r (λ x. x ≡ e) → Serialized (sc readable) r
 sent_err sc readable old new e r lawful is sent same =
-    let s = subst (λ o. Sends step o sc (Err e) new) is sent in
+    let s = subst (λ o. Sends step refuses o sc (Err e) new) is sent in
     exit (sc readable) r e same (refused (sc readable) e new.failed new.state (lawful readable) (s.otherwise refl))
 
 -- a script that a new builder took whole
 pub sent_ok : (sc : Bool → Script) (readable : Bool) (old new : Seen Partial) (u : Unit {0}) (r : Result NamedValue Error) → ((b : Bool) → IsLawful (sc b))
-    → old ≡ record { state = fresh; failed = false; readable = readable } → Sends step old sc (Ok u) new → Finishes new.failed new.state r → Serialized (sc readable) r
+    → old ≡ record { state = fresh; failed = false; readable = readable } → Sends step refuses old sc (Ok u) new → Finishes new.failed new.state r → Serialized (sc readable) r
 sent_ok sc readable old new u r lawful is sent f =
-    let s = subst (λ o. Sends step o sc (Ok u) new) is sent in
+    let s = subst (λ o. Sends step refuses o sc (Ok u) new) is sent in
     let t = s.otherwise refl in
     finished (sc readable) new.state r (lawful readable) t.0 t.2 (subst (λ b. Finishes b new.state r) t.1 f)

@@ -1,12 +1,11 @@
--- From the answer of a call in a partial tree to what the trait says of it, and to the place of refusal.
-use Rattle.std.proofs.Common.{◌≡◌, Bool, List, Option, Some, None, Ok, Err, refl, sym, subst, ◌∙◌, IsSome, option_and_then, inl, inr}
-use Rattle.content_tree.specs.declared.error.ErrorKind.TheVariants.{Misplaced, OutOfMemory}
+-- From the answer of a call in a partial tree to what the trait says of it, and from that to which calls are viable.
+use Rattle.std.proofs.Common.{◌≡◌, Bool, [], ◌∷◌, ◌++◌, Option, Some, None, Ok, Err, refl, sym, subst, ◌∙◌, IsSome, option_and_then, inl, inr, ⊎_elim}
 use Rattle.content_ser.specs.Event.{Event}
 use Rattle.content_ser.specs.Lawful.{Seen, Answer, Takes}
-use Rattle.content_build.specs.Partial.{Partial, step, run, fresh}
+use Rattle.content_build.specs.Partial.{Partial, step}
 use Rattle.content_build.specs.Taken.{Moves}
-use Rattle.content_build.specs.Builder.{has_failed, or_fresh, refuses, RefusedExactly, RefusesExactly}
-use Rattle.content_build.proofs.Laws.{refused_exactly}
+use Rattle.content_build.specs.Builder.{has_failed, or_fresh, refuses, IsCause, StepsAreExact}
+use Rattle.content_build.proofs.Agreement.{one_more, never_viable, still_viable, viable_from_run}
 
 -- a serialiser at this partial tree, or failed
 abbrev pub standing : Option Partial → Bool → Seen Partial
@@ -29,16 +28,11 @@ pub taken : (old : Option Partial) (h : Bool) (c : Event) (r : Answer) (new : Op
     → Moves old (option_and_then (λ s. step s c) old) r new → Takes step refuses (standing old h) c r (standing new h)
 taken old h c r new m = took old h c r new (option_and_then (λ s. step s c) old) refl m
 
-exactly : (s : Partial) (c : Event) (r : Answer) (new : Option Partial) (calls : List Event) → run fresh calls ≡ Some s → (o : Option Partial) → step s c ≡ o
-    → Moves (Some s) o r new → RefusedExactly calls c r
-exactly s c (Ok u) new calls run None e m = absurd m
-exactly s c (Err x) new calls run None e m =
-    let never = (refused_exactly calls c s run).0 e in ((λ k. never, λ n. m.0), λ v. absurd (never v))
-exactly s c (Ok u) new calls run (Some n) e m = ((λ k. absurd k, λ never. let y : Some n ≡ None = sym e ∙ (refused_exactly calls c s run).1 never in cc), λ v. tt)
-exactly s c (Err x) new calls run (Some n) e m =
-    ((λ k. let y : Misplaced ≡ OutOfMemory = sym k ∙ m.0 in cc, λ never. let y : Some n ≡ None = sym e ∙ (refused_exactly calls c s run).1 never in cc), λ v. m.0)
-
-pub refuses_exactly : (old : Option Partial) (h : Bool) (c : Event) (r : Answer) (new : Option Partial)
-    → Moves old (option_and_then (λ s. step s c) old) r new → RefusesExactly (standing old h) c r
-refuses_exactly None h c r new m f calls run = cc
-refuses_exactly (Some s) h c r new m f calls run = exactly s c r new calls run (step s c) refl m
+-- what the step of the partial tree says of a call is exact
+pub steps_are_exact : StepsAreExact
+steps_are_exact old new c (Ok u) t fine calls ran = viable_from_run (calls ++ c ∷ []) new.state (one_more calls c old.state ran ∙ (t.otherwise fine).1)
+steps_are_exact old new c (Err e) t fine calls ran =
+    ⊎_elim
+    (λ misplaced. subst (IsCause (calls ++ c ∷ [])) (sym misplaced.1) (never_viable calls c old.state ran misplaced.0))
+    (λ memory. subst (IsCause (calls ++ c ∷ [])) (sym memory.1) (still_viable calls c old.state ran memory.0))
+    (t.otherwise fine).1

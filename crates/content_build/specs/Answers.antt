@@ -1,6 +1,8 @@
 -- What a list of calls is answered.
-use Rattle.std.specs.Prelude.{◌≡◌, ◌⊎◌, ℕ, ◌+◌, ◌<◌, List, length, take, Result, Ok, Err}
+use Rattle.std.specs.Prelude.{◌≡◌, ◌⊎◌, Bool, true, ℕ, ◌+◌, ◌<◌, List, length, take, Result, Ok, Err}
 use Rattle.content_tree.specs.Kind.{kind_of}
+use Rattle.content_tree.specs.contracts.error.ErrorPartialEq.TheImpl as error_eq
+use Rattle.content_tree.specs.declared.error.Error.{Error}
 use Rattle.content_tree.specs.Tree.{Tree}
 use Rattle.content_tree.specs.Value.{tree_of}
 use Rattle.content_tree.specs.declared.error.ErrorKind.{ErrorKind}
@@ -33,3 +35,11 @@ IfTaken (Err e) t = kind_of e.error ≡ OutOfMemory
 abbrev pub IfRefused : Result NamedValue CallsError → ErrorKind → ℕ → Type 0
 IfRefused (Ok v) cause at = ⊥
 IfRefused (Err e) cause at = ((kind_of e.error ≡ cause) × (e.at ≡ at)) ⊎ (kind_of e.error ≡ OutOfMemory)
+
+-- what `==` of errors answers
+abbrev pub is_same : Error → Error → Bool
+is_same = error_eq.ghosts.eq
+
+-- of one place, and of errors that are equal
+abbrev pub SameRefusal : CallsError → CallsError → Type 0
+SameRefusal a b = (a.at ≡ b.at) × (is_same a.error b.error ≡ true)

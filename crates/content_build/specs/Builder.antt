@@ -1,14 +1,15 @@
 -- What contracts see of a `Builder`.
-use Rattle.std.specs.Prelude.{◌≡◌, ◌↔◌, Bool, true, false, List, [], ◌∷◌, ◌++◌, Option, Some, None, Result, Ok, Err, IsErrAnd, IfErr}
+use Rattle.std.specs.Prelude.{◌≡◌, Bool, true, false, List, [], ◌∷◌, ◌++◌, Option, Some, None, Result, Ok, Err, IsErrAnd}
 use Rattle.content_tree.specs.Kind.{kind_of, IsOutOfMemory}
 use Rattle.content_tree.specs.Value.{tree_of}
 use Rattle.content_tree.specs.declared.error.Error.{Error}
-use Rattle.content_tree.specs.declared.error.ErrorKind.TheVariants.{Misplaced, Failed, Unfinished}
+use Rattle.content_tree.specs.declared.error.ErrorKind.{ErrorKind}
+use Rattle.content_tree.specs.declared.error.ErrorKind.TheVariants.{Unexpected, Custom, OutOfMemory, Misplaced, Failed, Unfinished}
 use Rattle.content_tree.specs.declared.value.NamedValue.{NamedValue}
 use Rattle.content_ser.specs.Event.{Event}
-use Rattle.content_ser.specs.Lawful.{Seen, Refuses, Answer, after_failure, out_of_place, no_memory}
+use Rattle.content_ser.specs.Lawful.{Seen, Refuses, Answer, Takes, after_failure, out_of_place, no_memory}
 use Rattle.content_ser.specs.Spells.{IsViable}
-use Rattle.content_build.specs.Partial.{Partial, due, between, done, fresh, run}
+use Rattle.content_build.specs.Partial.{Partial, due, between, done, fresh, run, step}
 use Rattle.content_build.specs.Frames.{partial_tree}
 use Rattle.content_build.specs.declared.builder.Builder.{Builder}
 
@@ -32,14 +33,27 @@ refuses after_failure old e new = kind_of e ≡ Failed
 refuses out_of_place old e new = kind_of e ≡ Misplaced
 refuses no_memory old e new = IsOutOfMemory e
 
--- refused as out of place, exactly if no whole list begins with these calls and this one; else only for memory
-abbrev pub RefusedExactly : List Event → Event → Answer → Type 0
-RefusedExactly calls c r =
-    (IsErrAnd r (λ e. kind_of e ≡ Misplaced) ↔ (¬ IsViable (calls ++ c ∷ []))) × (IsViable (calls ++ c ∷ []) → IfErr r (λ e. IsOutOfMemory e))
+-- why the last of these calls may be refused
+abbrev pub IsCause : List Event → ErrorKind → Type 0
+IsCause calls Misplaced = ¬ IsViable calls
+IsCause calls OutOfMemory = IsViable calls
+IsCause calls Failed = ⊥
+IsCause calls Unfinished = ⊥
+IsCause calls (Unexpected found expected) = ⊥
+IsCause calls (Custom message) = ⊥
 
--- the call is refused exactly, after any calls that lead from the fresh state to this one
-abbrev pub RefusesExactly : Seen Partial → Event → Answer → Type 0
-RefusesExactly old c r = old.failed ≡ false → (calls : List Event) → run fresh calls ≡ Some old.state → RefusedExactly calls c r
+-- what the last of these calls is answered
+abbrev pub IsExact : List Event → Answer → Type 0
+IsExact calls (Ok u) = IsViable calls
+IsExact calls (Err e) = IsCause calls (kind_of e)
+
+-- a call on a builder that has not failed, after any calls that lead from the fresh state to its own
+abbrev pub AnswersExactly : Seen Partial → Event → Answer → Type 0
+AnswersExactly old c r = old.failed ≡ false → (calls : List Event) → run fresh calls ≡ Some old.state → IsExact (calls ++ c ∷ []) r
+
+-- what the step of the partial tree says of a call is exact
+abbrev pub StepsAreExact : Type 0
+StepsAreExact = (old new : Seen Partial) (c : Event) (r : Answer) → Takes step refuses old c r new → AnswersExactly old c r
 
 -- what finishing answers where the builder has failed or not, at this state
 abbrev pub Finishes : Bool → Partial → Result NamedValue Error → Type 0

@@ -5,7 +5,7 @@ use Rattle.content_tree.specs.Tree.{Tree, owned}
 use Rattle.content_tree.specs.Value.{tree_of}
 use Rattle.content_tree.specs.declared.error.Error.{Error}
 use Rattle.content_tree.specs.declared.value.NamedValue.{NamedValue}
-use Rattle.content_ser.specs.StaticNames.{IsCanonical}
+use Rattle.content_ser.specs.Canonical.{IsCanonical}
 use Rattle.content_ser.specs.TreeScript.{sent_tree}
 use Rattle.content_build.specs.Serializer.{Serialized}
 

@@ -5,7 +5,7 @@ ghost use Rattle.content_tree.specs.Kind.{IsOutOfMemory};
 ghost use Rattle.content_ser.specs.Call.{event_of};
 ghost use Rattle.content_ser.specs.Lawful.{Takes};
 ghost use Rattle.content_build.specs.Partial.{Partial, fresh, step};
-ghost use Rattle.content_build.specs.Builder.{seen_of, refuses, RefusesExactly, Finishes};
+ghost use Rattle.content_build.specs.Builder.{seen_of, refuses, AnswersExactly, Finishes};
 
 use crate::frames::Frames;
 use crate::kind::Kind;
@@ -52,20 +52,6 @@ impl<'v> Builder<'v> {
         }
     }
 
-    /// Makes the call that a [`Call`] says.
-    ///
-    /// Errors: `Misplaced` where no whole list begins with the calls so far and this one,
-    /// `OutOfMemory` where a growth was refused, `Failed` after either. Memory is taken for texts,
-    /// bytes, items and boxes.
-    pub fn take(&mut self, call: &Call<'_>) -> Result<()>
-        // one step of the partial tree
-        ensures taken { Takes step refuses (seen_of self.old) (event_of call.now) result (seen_of self.new) }
-        // just a call after which no whole list can follow is out of place, and every other is taken, memory aside
-        ensures exact { RefusesExactly (seen_of self.old) (event_of call.now) result }
-    {
-        self.frames.take(Kind::of(call))
-    }
-
     /// The tree that the calls spell. Its texts and bytes are owned and its names static.
     ///
     /// It answers `Failed` where the builder has failed, and `Unfinished` where the calls spell no
@@ -89,8 +75,17 @@ impl<'v> Serializer for Builder<'v> {
 
     ghost refuses = { refuses };
 
-    fn call(&mut self, call: Call<'_>) -> Result<()> {
-        self.take(&call)
+    /// Errors: `Misplaced` where no whole list begins with the calls so far and this one,
+    /// `OutOfMemory` where an allocation failed, `Failed` after either. Memory is taken for texts,
+    /// bytes, items and boxes.
+    fn call(&mut self, call: Call<'_>) -> Result<()>
+        // one step of the partial tree
+        ensures taken { Takes step refuses (seen_of self.old) (event_of call.entry) result (seen_of self.new) }
+        // it is taken, or refused for memory, only where some whole list begins with the calls so
+        // far and this one, and refused as out of place only where none does
+        ensures exact { AnswersExactly (seen_of self.old) (event_of call.entry) result }
+    {
+        self.frames.take(Kind::of(&call))
     }
 
     #[tactic(auto, unfolding(crate::specs::Builder::seen_of))]

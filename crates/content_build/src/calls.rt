@@ -19,7 +19,7 @@ fn build<'v>(alloc: Global, calls: &[Call<'_>]) -> Result<Value<'v>, CallsError>
 {
     let mut builder = Builder::new(alloc, false);
     for (at, call) in calls.iter().enumerate() {
-        match builder.take(call) {
+        match builder.call(call.lend()) {
             Ok(()) => {}
             Err(error) => return Err(CallsError { at, error }),
         }

@@ -7,6 +7,7 @@ mod calls_error;
 mod canonical;
 mod frames;
 mod kind;
+pub mod laws;
 mod parts;
 mod places;
 mod recorder;

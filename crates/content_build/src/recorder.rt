@@ -4,7 +4,7 @@ ghost use Rattle.std.specs.Prelude.{◌≡◌, true, false, All, List, []};
 ghost use Rattle.content_ser.specs.Event.{Event};
 ghost use Rattle.content_ser.specs.Call.{event_of, events_of, IsOwned};
 ghost use Rattle.content_ser.specs.Lawful.{Seen, Takes};
-ghost use Rattle.content_build.specs.Recorder.{recorded, keeps};
+ghost use Rattle.content_build.specs.Recorder.{recorded, keeps, Records};
 
 use content_ser::{Call, Serializer};
 use content_tree::{Error, ErrorKind, Result};
@@ -103,7 +103,14 @@ impl Serializer for Recorder {
 
     ghost refuses = { keeps };
 
-    fn call(&mut self, call: Call<'_>) -> Result<()> {
+    /// An owned text or owned bytes are moved, borrowed ones copied; else memory is taken for the
+    /// list's growth alone. Errors: `OutOfMemory` where an allocation failed, `Failed` after that.
+    fn call(&mut self, call: Call<'_>) -> Result<()>
+        // one step of the list
+        ensures taken { Takes recorded keeps self.old (event_of call.entry) result self.new }
+        // the call stands at the list's end, or the list is kept and the recorder has failed for good
+        ensures exact { Records self.old (event_of call.entry) result self.new }
+    {
         if self.failed {
             return Err(Error::from(ErrorKind::Failed));
         }

@@ -6,6 +6,7 @@ pub mod Spelling
 pub mod Sorting
 pub mod Twice
 pub mod Naming
+pub mod Canonically
 mod DerivedEquality
 pub mod Equality
 pub mod Listed

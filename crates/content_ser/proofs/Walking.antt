@@ -6,7 +6,7 @@ use Rattle.content_tree.specs.Value.{tree_of, trees_view, pairs_view, fields_vie
 use Rattle.content_tree.specs.declared.cow.CowStr.{CowStr}
 use Rattle.content_tree.specs.declared.error.Error.{Error}
 use Rattle.content_tree.specs.declared.value.NamedValue.{NamedValue, size-NamedValue}
-use Rattle.content_ser.specs.Lawful.{Seen, Step, Answer, stop_with, IsCustom, Sends}
+use Rattle.content_ser.specs.Lawful.{Seen, Step, Refuses, Answer, stop_with, IsCustom, Sends}
 use Rattle.content_ser.specs.Loose.{Entry, loose_each, loose_pairs, loose_fields, loose_entries, keyed, text_pairs}
 use Rattle.content_ser.specs.Places.{entry_of, StandsFor}
 use Rattle.content_ser.specs.TreeScript.{count, count_pairs, count_fields, script_of, script_of_pairs, sent_tree}
@@ -54,22 +54,22 @@ stands_none fs [] (e ∷ es) is h = absurd h
 stands_none fs (p ∷ ps) es is h = absurd (cc is)
 
 -- a stop before the first call
-pub stopped : {S : Type 0} {step : Step S} {old : Seen S} (message : List ℕ) {x : Error} → IsCustom message x → Sends step old (λ h. stop_with message) (Err x) old
-stopped {S} {step} {old} message is = record {
+pub stopped : {S : Type 0} {step : Step S} {refuses : Refuses S} {old : Seen S} (message : List ℕ) {x : Error} → IsCustom message x → Sends step refuses old (λ h. stop_with message) (Err x) old
+stopped {S} {step} {refuses} {old} message is = record {
   readable = refl;
-  when_failed = λ h. h;
+  when_failed = λ h. (h, (inl is, refl));
   otherwise = λ h. inr (h, inl (message, refl, is, refl));
 }
 
 -- what is sent for one entry and then the others ends what is sent for all of them
-pub entries_end : {S : Type 0} {step : Step S} {old new : Seen S} {r : Answer} (es : List Entry) (e : Entry) (rest : List Entry) → es ≡ e ∷ rest
-    → Sends step old (λ h. script_of_pairs (text_pairs (e ∷ rest))) r new → Sends step old (λ h. script_of_pairs (text_pairs es)) r new
-entries_end {S} {step} {old} {new} {r} es e rest is sent = subst (λ ys. Sends step old (λ h. script_of_pairs (text_pairs ys)) r new) (sym is) sent
+pub entries_end : {S : Type 0} {step : Step S} {refuses : Refuses S} {old new : Seen S} {r : Answer} (es : List Entry) (e : Entry) (rest : List Entry) → es ≡ e ∷ rest
+    → Sends step refuses old (λ h. script_of_pairs (text_pairs (e ∷ rest))) r new → Sends step refuses old (λ h. script_of_pairs (text_pairs es)) r new
+entries_end {S} {step} {refuses} {old} {new} {r} es e rest is sent = subst (λ ys. Sends step refuses old (λ h. script_of_pairs (text_pairs ys)) r new) (sym is) sent
 
 -- what is sent for a field's value is what is sent for its entry
-pub sent_value : {S : Type 0} {step : Step S} {old new : Seen S} {r : Answer} (f : CowStr × NamedValue) (e : Entry) → entry_of f ≡ e
-    → Sends step old (sent_tree (tree_of f.1)) r new → Sends step old (λ h. script_of e.1) r new
-sent_value {S} {step} {old} {new} {r} f e same sent = subst (λ (d : Entry). Sends step old (λ h. script_of d.1) r new) same sent
+pub sent_value : {S : Type 0} {step : Step S} {refuses : Refuses S} {old new : Seen S} {r : Answer} (f : CowStr × NamedValue) (e : Entry) → entry_of f ≡ e
+    → Sends step refuses old (sent_tree (tree_of f.1)) r new → Sends step refuses old (λ h. script_of e.1) r new
+sent_value {S} {step} {refuses} {old} {new} {r} f e same sent = subst (λ (d : Entry). Sends step refuses old (λ h. script_of d.1) r new) same sent
 
 -- a field's value is less deep than the fields
 pub field_below : {depth : CowStr × NamedValue → ℕ} {t : ℕ} (fs : List (CowStr × NamedValue)) (i : ℕ) (x : CowStr × NamedValue)

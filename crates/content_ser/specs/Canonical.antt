@@ -1,11 +1,16 @@
--- What the script of a tree says of the tree.
-use Rattle.std.specs.Prelude.{◌≡◌, None}
+-- The canonical form of a tree, and what the script of a tree says of it.
+use Rattle.std.specs.Prelude.{◌≡◌, ◌⊎◌, Bool, None, IsSome}
 use Rattle.content_tree.specs.Text.{Text, static_name, to_owned}
-use Rattle.content_tree.specs.Tree.{Tree, at_texts}
+use Rattle.content_tree.specs.Tree.{Tree, at_texts, owned}
 use Rattle.content_ser.specs.Lawful.{calls_of, stop_of}
 use Rattle.content_ser.specs.Loose.{loose}
 use Rattle.content_ser.specs.Spells.{SpellsWhole}
-use Rattle.content_ser.specs.TreeScript.{script_of}
+use Rattle.content_ser.specs.StaticNames.{HasStaticKeys}
+use Rattle.content_ser.specs.TreeScript.{script_of, sent_tree}
+
+-- the canonical form of a tree: its loose form, where that has no owned field key
+abbrev pub IsCanonical : Tree → Tree → Type 0
+IsCanonical t c = (c ≡ loose t) × HasStaticKeys c
 
 -- the same content, static
 abbrev pub to_static : Text → Text
@@ -22,3 +27,15 @@ ScriptSpells = (t : Tree) → stop_of (script_of t) ≡ None → SpellsWhole (ca
 -- the loose form of a loose form is itself
 abbrev pub LooseOnce : Type 0
 LooseOnce = (t : Tree) → loose (loose t) ≡ loose t
+
+-- where a tree has a canonical form, its script has no stop and its calls spell that form,
+-- its texts and byte values owned
+abbrev pub CanonicalSpelled : Type 0
+CanonicalSpelled = (t c : Tree) (readable : Bool) → IsCanonical t c
+    → (stop_of (sent_tree t readable) ≡ None) × SpellsWhole (calls_of (sent_tree t readable)) (owned c)
+
+-- a tree has a canonical form, or it has none and its script stops
+abbrev pub CanonicalOrStops : Type 0
+CanonicalOrStops = (t : Tree) (readable : Bool)
+    → ((c : Tree) × IsCanonical t c)
+    ⊎ (((c : Tree) → ¬ IsCanonical t c) × IsSome (stop_of (sent_tree t readable)))

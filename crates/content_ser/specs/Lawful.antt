@@ -35,11 +35,16 @@ abbrev pub run : {S : Type 0} → Step S → S → List Event → Option S
 run step s [] = Some s
 run step s (c ∷ cs) = option_and_then (λ next. run step next cs) (step s c)
 
+-- this call in this state is refused with this error, and this state is kept
+abbrev pub Refused : {S : Type 0} → Step S → Refuses S → S → Event → Error → S → Type 0
+Refused step refuses old c e new =
+    ((step old c ≡ None) × refuses out_of_place old e new)
+    ⊎ (IsSome (step old c) × IsOutOfMemory e × refuses no_memory old e new)
+
 -- one call on a serialiser that has not failed
 abbrev pub Took : {S : Type 0} → Step S → Refuses S → S → Event → Answer → Bool → S → Type 0
 Took step refuses old c (Ok u) failed new = (failed ≡ false) × (step old c ≡ Some new)
-Took step refuses old c (Err e) failed new =
-    (failed ≡ true) × (((step old c ≡ None) × refuses out_of_place old e new) ⊎ (IsSome (step old c) × IsOutOfMemory e × refuses no_memory old e new))
+Took step refuses old c (Err e) failed new = (failed ≡ true) × Refused step refuses old c e new
 
 -- one call: the answer and the state after it
 pub record Takes {S : Type 0} (step : Step S) (refuses : Refuses S) (old : Seen S) (c : Event) (r : Answer) (new : Seen S) : Type 0 where
@@ -85,9 +90,11 @@ pub record IsLawful (sc : Script) : Type 0 where
 abbrev pub IsCustom : List ℕ → Error → Type 0
 IsCustom message e = (t : _) × (kind_of e ≡ Custom t) × (string_bytes t ≡ message)
 
--- some beginning of the calls has no run
-abbrev pub RunsOut : {S : Type 0} → Step S → S → List Event → Type 0
-RunsOut step old cs = (made rest : List Event) × (made ++ rest ≡ cs) × (run step old made ≡ None)
+-- a beginning of the calls is taken, and the call after it is refused
+abbrev pub Halted : {S : Type 0} → Step S → Refuses S → S → List Event → Error → S → Type 0
+Halted {S} step refuses old cs e new =
+    (made : List Event) × (c : Event) × (rest : List Event) × (mid : S)
+    × (made ++ c ∷ rest ≡ cs) × (run step old made ≡ Some mid) × Refused step refuses mid c e new
 
 -- some beginning of the calls runs to this state
 abbrev pub RunsTo : {S : Type 0} → Step S → S → List Event → S → Type 0
@@ -98,14 +105,23 @@ abbrev pub Stopped : {S : Type 0} → Step S → S → Script → Error → S �
 Stopped step old sc e new = (message : List ℕ) × (stop_of sc ≡ Some message) × IsCustom message e × (run step old (calls_of sc) ≡ Some new)
 
 -- a script sent to a serialiser that has not failed
-abbrev pub Sent : {S : Type 0} → Step S → S → Script → Answer → Bool → S → Type 0
-Sent step old sc (Ok u) failed new = (stop_of sc ≡ None) × (failed ≡ false) × (run step old (calls_of sc) ≡ Some new)
-Sent step old sc (Err e) failed new =
-    ((failed ≡ true) × (IsOutOfMemory e ⊎ RunsOut step old (calls_of sc)))
+abbrev pub Sent : {S : Type 0} → Step S → Refuses S → S → Script → Answer → Bool → S → Type 0
+Sent step refuses old sc (Ok u) failed new = (stop_of sc ≡ None) × (failed ≡ false) × (run step old (calls_of sc) ≡ Some new)
+Sent step refuses old sc (Err e) failed new =
+    ((failed ≡ true) × Halted step refuses old (calls_of sc) e new)
     ⊎ ((failed ≡ false) × (Stopped step old sc e new ⊎ (IsOutOfMemory e × RunsTo step old (calls_of sc) new)))
 
+-- a script sent to a serialiser that has failed before: its first call is refused, or none is made
+abbrev pub SentInVain : {S : Type 0} → Refuses S → S → Script → Answer → S → Type 0
+SentInVain refuses old done (Ok u) new = new ≡ old
+SentInVain refuses old (stop_with message) (Ok u) new = ⊥
+SentInVain refuses old (call_then c sc) (Ok u) new = ⊥
+SentInVain refuses old done (Err e) new = IsOutOfMemory e × (new ≡ old)
+SentInVain refuses old (stop_with message) (Err e) new = (IsCustom message e ⊎ IsOutOfMemory e) × (new ≡ old)
+SentInVain refuses old (call_then c sc) (Err e) new = refuses after_failure old e new ⊎ (IsOutOfMemory e × (new ≡ old))
+
 -- a script, which may turn on whether the serialiser is for people to read, sent to a serialiser
-pub record Sends {S : Type 0} (step : Step S) (old : Seen S) (sc : Bool → Script) (r : Answer) (new : Seen S) : Type 0 where
+pub record Sends {S : Type 0} (step : Step S) (refuses : Refuses S) (old : Seen S) (sc : Bool → Script) (r : Answer) (new : Seen S) : Type 0 where
   pub readable : new.readable ≡ old.readable
-  pub when_failed : old.failed ≡ true → IsErrAnd r (λ e. new.failed ≡ true)
-  pub otherwise : old.failed ≡ false → Sent step old.state (sc old.readable) r new.failed new.state
+  pub when_failed : old.failed ≡ true → (new.failed ≡ true) × SentInVain refuses old.state (sc old.readable) r new.state
+  pub otherwise : old.failed ≡ false → Sent step refuses old.state (sc old.readable) r new.failed new.state

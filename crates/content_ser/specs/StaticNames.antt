@@ -1,9 +1,8 @@
--- Which names in a tree are static, and the canonical form of a tree.
+-- Which names in a tree are static.
 use Rattle.std.specs.Prelude.{◌≡◌, true}
 use Rattle.content_tree.specs.Text.{Text}
 use Rattle.content_tree.specs.Tree as tree
 use Rattle.content_tree.specs.Tree.{Tree, Payload, Trees, Pairs, Fields}
-use Rattle.content_ser.specs.Loose.{loose}
 
 -- a static name, variant or key
 abbrev pub IsStatic : Text → Type 0
@@ -59,7 +58,3 @@ HasStaticNames = EachName IsStatic IsAny
 -- each field key is static
 abbrev pub HasStaticKeys : Tree → Type 0
 HasStaticKeys = EachName IsAny IsStatic
-
--- the canonical form of a tree: its loose form, where that has no owned field key
-abbrev pub IsCanonical : Tree → Tree → Type 0
-IsCanonical t c = (c ≡ loose t) × HasStaticKeys c

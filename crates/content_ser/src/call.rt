@@ -1,6 +1,6 @@
 //! Serialiser calls as data.
 
-ghost use Rattle.std.specs.Prelude.{◌≡◌, true, IfOk, IfErr, IfSome, IsOk};
+ghost use Rattle.std.specs.Prelude.{◌≡◌, true, Ok, IfOk, IfErr, IfSome, IsOk};
 ghost use Rattle.content_tree.specs.Kind.{IsOutOfMemory};
 ghost use Rattle.content_ser.specs.Call.{event_of, text_part, IsOwned};
 
@@ -170,11 +170,12 @@ impl<'a> Call<'a> {
         }
     }
 
-    /// The same call with its text or bytes owned. Owned ones are moved, borrowed ones copied; where
-    /// that copy is refused: an error of kind `OutOfMemory`.
+    /// The same call with its text or bytes owned. Owned ones are moved, without memory, and borrowed
+    /// ones copied; where that allocation fails: an error of kind `OutOfMemory`.
     pub fn into_owned(self, alloc: Global) -> Result<Call<'static>>
         ensures value { IfOk result (λ call. event_of call ≡ event_of self.entry) }
         ensures owned { IfOk result IsOwned }
+        ensures moved { IsOwned self.entry → result ≡ Ok self.entry }
         ensures memory { IfErr result (λ e. IsOutOfMemory e) }
     {
         let owned = match self {

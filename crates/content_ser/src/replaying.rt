@@ -7,16 +7,14 @@ ghost use Rattle.content_ser.specs.Replay.{calls_script};
 
 use crate::call::Call;
 use crate::serializer::Serializer;
-use content_tree::{Error, ErrorKind, Result};
+use content_tree::Result;
 
 /// Makes the calls, one after another, up to the first that is refused. A serialiser that has failed
-/// before refuses them all.
+/// before refuses the first. It takes no memory but what the serialiser takes.
 pub fn replay<S: Serializer>(calls: &[Call<'_>], serializer: &mut S) -> Result<()>
-    ensures { Sends S.step (S.seen serializer.old) (λ readable. calls_script (events_of calls.now)) result (S.seen serializer.new) }
+    ensures { Sends S.step S.refuses (S.seen serializer.old)
+        (λ readable. calls_script (events_of calls.now)) result (S.seen serializer.new) }
 {
-    if serializer.is_failed() {
-        return Err(Error::from(ErrorKind::Failed));
-    }
     for made in calls {
         serializer.call(made.lend())?;
     }

@@ -21,7 +21,8 @@ pub trait Serialize {
     /// serialiser refused one of them, or that all were made and the script stops (`Custom` with
     /// its text), or that memory was refused. A serialiser that has failed before refuses them all.
     fn serialize<S: Serializer>(&self, alloc: Global, serializer: &mut S) -> Result<()>
-        ensures { Sends S.step (S.seen serializer.old) (script self.now) result (S.seen serializer.new) };
+        ensures { Sends S.step S.refuses (S.seen serializer.old)
+            (script self.now) result (S.seen serializer.new) };
 
     /// Without a stop the calls spell a tree; with a stop some calls can follow that make them spell one.
     ghost lawful: { (x : Self) (readable : Bool) → IsLawful (script x readable) };

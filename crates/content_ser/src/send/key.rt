@@ -24,7 +24,8 @@ pub fn send_key<S: Serializer>(
     alloc: Global,
     serializer: &mut S,
 ) -> Result<()>
-    ensures { Sends S.step (S.seen serializer.old) (λ readable. key_script (text_of key.now)) result (S.seen serializer.new) }
+    ensures { Sends S.step S.refuses (S.seen serializer.old)
+        (λ readable. key_script (text_of key.now)) result (S.seen serializer.new) }
 {
     match key {
         CowStr::Borrowed(key) => serializer.serialize_field(key),

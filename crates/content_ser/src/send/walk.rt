@@ -22,7 +22,8 @@ use std::alloc::Global;
 /// Sends a value: each node by its call, its children in order, structs and variants by their names.
 #[cycle(send)]
 pub fn send<S: Serializer>(value: &Value<'_>, alloc: Global, serializer: &mut S) -> Result<()>
-    ensures { Sends S.step (S.seen serializer.old) (sent_tree (tree_of value.now)) result (S.seen serializer.new) }
+    ensures { Sends S.step S.refuses (S.seen serializer.old)
+        (sent_tree (tree_of value.now)) result (S.seen serializer.new) }
 {
     match value {
         Value::Unit => serializer.serialize_unit(),
@@ -53,7 +54,8 @@ fn send_held<S: Serializer>(
     alloc: Global,
     serializer: &mut S,
 ) -> Result<()>
-    ensures { Sends S.step (S.seen serializer.old) (sent_tree (held_view held.now)) result (S.seen serializer.new) }
+    ensures { Sends S.step S.refuses (S.seen serializer.old)
+        (sent_tree (held_view held.now)) result (S.seen serializer.new) }
 {
     match held {
         None => serializer.serialize_none(),
@@ -67,7 +69,9 @@ fn send_held<S: Serializer>(
 // A sequence.
 #[cycle(send)]
 fn send_seq<S: Serializer>(items: &Vec<Value<'_>>, alloc: Global, serializer: &mut S) -> Result<()>
-    ensures { Sends S.step (S.seen serializer.old) (λ readable. script_of (seq (loose_each (trees_view items.now.items)))) result (S.seen serializer.new) }
+    ensures { Sends S.step S.refuses (S.seen serializer.old)
+        (λ readable. script_of (seq (loose_each (trees_view items.now.items))))
+        result (S.seen serializer.new) }
 {
     serializer.serialize_seq(Some(items.len()))?;
     send_items(items, alloc, serializer)
@@ -80,7 +84,9 @@ fn send_items<S: Serializer>(
     alloc: Global,
     serializer: &mut S,
 ) -> Result<()>
-    ensures { Sends S.step (S.seen serializer.old) (λ readable. script_of_each element (loose_each (trees_view items.now.items))) result (S.seen serializer.new) }
+    ensures { Sends S.step S.refuses (S.seen serializer.old)
+        (λ readable. script_of_each element (loose_each (trees_view items.now.items)))
+        result (S.seen serializer.new) }
 {
     for item in items {
         serializer.serialize_element()?;
@@ -96,7 +102,9 @@ fn send_pairs<S: Serializer>(
     alloc: Global,
     serializer: &mut S,
 ) -> Result<()>
-    ensures { Sends S.step (S.seen serializer.old) (λ readable. script_of_pairs (loose_pairs (pairs_view pairs.now.items))) result (S.seen serializer.new) }
+    ensures { Sends S.step S.refuses (S.seen serializer.old)
+        (λ readable. script_of_pairs (loose_pairs (pairs_view pairs.now.items)))
+        result (S.seen serializer.new) }
 {
     for (key, value) in pairs {
         serializer.serialize_entry()?;
@@ -113,7 +121,8 @@ pub fn send_struct<S: Serializer>(
     alloc: Global,
     serializer: &mut S,
 ) -> Result<()>
-    ensures { Sends S.step (S.seen serializer.old) (sent_tree (struct_tree inner.now)) result (S.seen serializer.new) }
+    ensures { Sends S.step S.refuses (S.seen serializer.old)
+        (sent_tree (struct_tree inner.now)) result (S.seen serializer.new) }
 {
     match &inner.name {
         CowStr::Borrowed(name) => send_named(&inner.data, Head::Struct(name), alloc, serializer),
@@ -124,7 +133,8 @@ pub fn send_struct<S: Serializer>(
 /// Sends a variant: under its names where both are static, else as a text or a map of one entry.
 #[cycle(send)]
 pub fn send_enum<S: Serializer>(inner: &Enum<'_>, alloc: Global, serializer: &mut S) -> Result<()>
-    ensures { Sends S.step (S.seen serializer.old) (sent_tree (enum_tree inner.now)) result (S.seen serializer.new) }
+    ensures { Sends S.step S.refuses (S.seen serializer.old)
+        (sent_tree (enum_tree inner.now)) result (S.seen serializer.new) }
 {
     match &inner.name {
         CowStr::Borrowed(name) => match &inner.variant {
@@ -146,7 +156,9 @@ fn send_named<S: Serializer>(
     alloc: Global,
     serializer: &mut S,
 ) -> Result<()>
-    ensures { Sends S.step (S.seen serializer.old) (λ readable. script_of_payload (head_of head) (loose_payload (payload_of payload.now))) result (S.seen serializer.new) }
+    ensures { Sends S.step S.refuses (S.seen serializer.old)
+        (λ readable. script_of_payload (head_of head) (loose_payload (payload_of payload.now)))
+        result (S.seen serializer.new) }
 {
     match payload {
         Data::Unit => call_unit(head, serializer),
@@ -168,7 +180,9 @@ fn send_named<S: Serializer>(
 // What a struct with an owned name holds.
 #[cycle(send)]
 fn send_unnamed<S: Serializer>(payload: &Data<'_>, alloc: Global, serializer: &mut S) -> Result<()>
-    ensures { Sends S.step (S.seen serializer.old) (λ readable. script_of (loose_struct (payload_of payload.now))) result (S.seen serializer.new) }
+    ensures { Sends S.step S.refuses (S.seen serializer.old)
+        (λ readable. script_of (loose_struct (payload_of payload.now)))
+        result (S.seen serializer.new) }
 {
     match payload {
         Data::Unit => serializer.serialize_unit(),
@@ -189,7 +203,9 @@ fn send_variant<S: Serializer>(
     alloc: Global,
     serializer: &mut S,
 ) -> Result<()>
-    ensures { Sends S.step (S.seen serializer.old) (λ readable. script_of (loose_variant (text_of variant.now) (payload_of payload.now))) result (S.seen serializer.new) }
+    ensures { Sends S.step S.refuses (S.seen serializer.old)
+        (λ readable. script_of (loose_variant (text_of variant.now) (payload_of payload.now)))
+        result (S.seen serializer.new) }
 {
     match payload {
         Data::Unit => serializer.serialize_str(variant.as_str()),
@@ -213,7 +229,8 @@ fn send_variant<S: Serializer>(
 
 // A map of one entry, up to its key.
 fn open_single<S: Serializer>(variant: &CowStr<'static>, serializer: &mut S) -> Result<()>
-    ensures { Sends S.step (S.seen serializer.old) (λ readable. single_head (text_of variant.now)) result (S.seen serializer.new) }
+    ensures { Sends S.step S.refuses (S.seen serializer.old)
+        (λ readable. single_head (text_of variant.now)) result (S.seen serializer.new) }
 {
     serializer.serialize_map(Some(1))?;
     serializer.serialize_entry()?;
@@ -227,7 +244,9 @@ fn send_tuple_fields<S: Serializer>(
     alloc: Global,
     serializer: &mut S,
 ) -> Result<()>
-    ensures { Sends S.step (S.seen serializer.old) (λ readable. script_of_each tuple_field (loose_each (trees_view items.now.items))) result (S.seen serializer.new) }
+    ensures { Sends S.step S.refuses (S.seen serializer.old)
+        (λ readable. script_of_each tuple_field (loose_each (trees_view items.now.items)))
+        result (S.seen serializer.new) }
 {
     for item in items {
         serializer.serialize_tuple_field()?;
@@ -243,7 +262,9 @@ fn send_fields<S: Serializer>(
     alloc: Global,
     serializer: &mut S,
 ) -> Result<()>
-    ensures { Sends S.step (S.seen serializer.old) (λ readable. script_of_fields (loose_fields (fields_view fields.now.items))) result (S.seen serializer.new) }
+    ensures { Sends S.step S.refuses (S.seen serializer.old)
+        (λ readable. script_of_fields (loose_fields (fields_view fields.now.items)))
+        result (S.seen serializer.new) }
 {
     for (key, value) in fields {
         send_key(key, alloc, serializer)?;
@@ -259,7 +280,9 @@ fn send_entries<S: Serializer>(
     alloc: Global,
     serializer: &mut S,
 ) -> Result<()>
-    ensures { Sends S.step (S.seen serializer.old) (λ readable. script_of_pairs (loose_entries (fields_view fields.now.items))) result (S.seen serializer.new) }
+    ensures { Sends S.step S.refuses (S.seen serializer.old)
+        (λ readable. script_of_pairs (loose_entries (fields_view fields.now.items)))
+        result (S.seen serializer.new) }
 {
     for (key, value) in fields {
         serializer.serialize_entry()?;
@@ -276,7 +299,9 @@ fn send_sorted<S: Serializer>(
     alloc: Global,
     serializer: &mut S,
 ) -> Result<()>
-    ensures { Sends S.step (S.seen serializer.old) (λ readable. script_of (map (text_pairs (sorted (keyed (fields_view fields.now.items)))))) result (S.seen serializer.new) }
+    ensures { Sends S.step S.refuses (S.seen serializer.old)
+        (λ readable. script_of (map (text_pairs (sorted (keyed (fields_view fields.now.items))))))
+        result (S.seen serializer.new) }
 {
     let places = last_places(alloc, fields)?;
     serializer.serialize_map(Some(places.len()))?;

@@ -409,7 +409,7 @@ fn a_map_and_a_sequence_call_by_call(rt: HostRuntime) -> Result<(), Fail> {
     );
     let mut builder: Builder<'static> = Builder::new(alloc, false);
     assert!(rt; !builder.is_human_readable());
-    builder.take(&Call::Seq(None))?;
+    builder.call(Call::Seq(None))?;
     builder.serialize_element()?;
     builder.serialize_unit()?;
     builder.serialize_element()?;

@@ -1,4 +1,4 @@
-use Rattle.std.proofs.Common.{Ok, Err, subst}
+use Rattle.std.proofs.Common.{Ok, Err, ap, subst, ◌∙◌}
 use Rattle.content_ser.specs.Call.{event_of, events_of}
 use Rattle.content_ser.specs.Lawful.{Takes}
 use Rattle.content_build.specs.Partial.{step}
@@ -10,17 +10,17 @@ pub returns-in-Err : goal.returns-in-Err
 returns-in-Err c =
     let (standing, run) = c.loop-at.invariant in
     let old = seen_of c.loop-at.builder in
-    let new = seen_of c.take.new.self in
+    let new = seen_of c.call.new.self in
     refused c.args.calls.now c.loop-at.at c.index-calls-at.result old new c.in-Err.error c.loop-at-test.true standing run
-    (subst (λ call. Takes step refuses old (event_of call) (Err c.in-Err.error) new) c.index-calls-at.is c.in-Err.ensures.taken)
+    (subst (λ e. Takes step refuses old e (Err c.in-Err.error) new) (c.lend.ensures ∙ ap event_of c.index-calls-at.is) c.in-Err.ensures.taken)
 
 pub loop-at-preserved : goal.loop-at-preserved
 loop-at-preserved c =
     let (standing, run) = c.loop-at.invariant in
     let old = seen_of c.loop-at.builder in
-    let new = seen_of c.take.new.self in
+    let new = seen_of c.call.new.self in
     onward c.args.calls.now c.loop-at.at c.index-calls-at.result old new c.loop-at-test.true standing run
-    (subst (λ call. Takes step refuses old (event_of call) (Ok tt) new) c.index-calls-at.is c.in-Ok.ensures.taken)
+    (subst (λ e. Takes step refuses old e (Ok tt) new) (c.lend.ensures ∙ ap event_of c.index-calls-at.is) c.in-Ok.ensures.taken)
 
 pub returns-in-Ok-finish : goal.returns-in-Ok-finish
 returns-in-Ok-finish c =

@@ -1,13 +1,12 @@
-use Rattle.std.proofs.Common.{◌≡◌, false, drop}
+use Rattle.std.proofs.Common.{drop}
 use Rattle.content_ser.specs.Call.{events_of}
 use Rattle.content_ser.specs.Lawful.{Answer, Seen, Sends}
 use Rattle.content_ser.specs.Replay.{calls_script}
 use Rattle.content_ser.proofs.replaying.replay.Given as goal
 
--- it has not failed, and whatever ends the rest from here ends the whole from the start
+-- whatever ends the rest from here ends the whole from the start
 abbrev pub invariant-loop-made : goal.invariant-loop-made
 invariant-loop-made g l =
-    ((g.S.Serializer.seen l.serializer).failed ≡ false)
-    × ((r : Answer) (new : Seen g.S.Serializer.State)
-        → Sends g.S.Serializer.step (g.S.Serializer.seen l.serializer) (λ readable. calls_script (events_of (drop l.made-index l.calls))) r new
-        → Sends g.S.Serializer.step (g.S.Serializer.seen l.initial.serializer) (λ readable. calls_script (events_of l.calls)) r new)
+    (r : Answer) (new : Seen g.S.Serializer.State)
+    → Sends g.S.Serializer.step g.S.Serializer.refuses (g.S.Serializer.seen l.serializer) (λ readable. calls_script (events_of (drop l.made-index l.calls))) r new
+    → Sends g.S.Serializer.step g.S.Serializer.refuses (g.S.Serializer.seen l.initial.serializer) (λ readable. calls_script (events_of l.calls)) r new

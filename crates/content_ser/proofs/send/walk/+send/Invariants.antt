@@ -12,37 +12,37 @@ use Rattle.content_ser.proofs.send.walk.+send.Given as goal
 abbrev pub invariant-send_items-loop-item : goal.invariant-send_items-loop-item
 invariant-send_items-loop-item g l =
     (r : Answer) (new : Seen g.S.Serializer.State)
-    → Sends g.S.Serializer.step (g.S.Serializer.seen l.serializer) (λ h. script_of_each element (loose_each (trees_view (drop l.item-index l.item-items)))) r new
-    → Sends g.S.Serializer.step (g.S.Serializer.seen l.initial.serializer) (λ h. script_of_each element (loose_each (trees_view l.item-items))) r new
+    → Sends g.S.Serializer.step g.S.Serializer.refuses (g.S.Serializer.seen l.serializer) (λ h. script_of_each element (loose_each (trees_view (drop l.item-index l.item-items)))) r new
+    → Sends g.S.Serializer.step g.S.Serializer.refuses (g.S.Serializer.seen l.initial.serializer) (λ h. script_of_each element (loose_each (trees_view l.item-items))) r new
 
 abbrev pub invariant-send_tuple_fields-loop-item : goal.invariant-send_tuple_fields-loop-item
 invariant-send_tuple_fields-loop-item g l =
     (r : Answer) (new : Seen g.S.Serializer.State)
-    → Sends g.S.Serializer.step (g.S.Serializer.seen l.serializer) (λ h. script_of_each tuple_field (loose_each (trees_view (drop l.item-index l.item-items)))) r new
-    → Sends g.S.Serializer.step (g.S.Serializer.seen l.initial.serializer) (λ h. script_of_each tuple_field (loose_each (trees_view l.item-items))) r new
+    → Sends g.S.Serializer.step g.S.Serializer.refuses (g.S.Serializer.seen l.serializer) (λ h. script_of_each tuple_field (loose_each (trees_view (drop l.item-index l.item-items)))) r new
+    → Sends g.S.Serializer.step g.S.Serializer.refuses (g.S.Serializer.seen l.initial.serializer) (λ h. script_of_each tuple_field (loose_each (trees_view l.item-items))) r new
 
 abbrev pub invariant-send_pairs-loop-key : goal.invariant-send_pairs-loop-key
 invariant-send_pairs-loop-key g l =
     (r : Answer) (new : Seen g.S.Serializer.State)
-    → Sends g.S.Serializer.step (g.S.Serializer.seen l.serializer) (λ h. script_of_pairs (loose_pairs (pairs_view (drop l.key-index l.key-items)))) r new
-    → Sends g.S.Serializer.step (g.S.Serializer.seen l.initial.serializer) (λ h. script_of_pairs (loose_pairs (pairs_view l.key-items))) r new
+    → Sends g.S.Serializer.step g.S.Serializer.refuses (g.S.Serializer.seen l.serializer) (λ h. script_of_pairs (loose_pairs (pairs_view (drop l.key-index l.key-items)))) r new
+    → Sends g.S.Serializer.step g.S.Serializer.refuses (g.S.Serializer.seen l.initial.serializer) (λ h. script_of_pairs (loose_pairs (pairs_view l.key-items))) r new
 
 abbrev pub invariant-send_fields-loop-key : goal.invariant-send_fields-loop-key
 invariant-send_fields-loop-key g l =
     (r : Answer) (new : Seen g.S.Serializer.State)
-    → Sends g.S.Serializer.step (g.S.Serializer.seen l.serializer) (λ h. script_of_fields (loose_fields (fields_view (drop l.key-index l.key-items)))) r new
-    → Sends g.S.Serializer.step (g.S.Serializer.seen l.initial.serializer) (λ h. script_of_fields (loose_fields (fields_view l.key-items))) r new
+    → Sends g.S.Serializer.step g.S.Serializer.refuses (g.S.Serializer.seen l.serializer) (λ h. script_of_fields (loose_fields (fields_view (drop l.key-index l.key-items)))) r new
+    → Sends g.S.Serializer.step g.S.Serializer.refuses (g.S.Serializer.seen l.initial.serializer) (λ h. script_of_fields (loose_fields (fields_view l.key-items))) r new
 
 abbrev pub invariant-send_entries-loop-key : goal.invariant-send_entries-loop-key
 invariant-send_entries-loop-key g l =
     (r : Answer) (new : Seen g.S.Serializer.State)
-    → Sends g.S.Serializer.step (g.S.Serializer.seen l.serializer) (λ h. script_of_pairs (loose_entries (fields_view (drop l.key-index l.key-items)))) r new
-    → Sends g.S.Serializer.step (g.S.Serializer.seen l.initial.serializer) (λ h. script_of_pairs (loose_entries (fields_view l.key-items))) r new
+    → Sends g.S.Serializer.step g.S.Serializer.refuses (g.S.Serializer.seen l.serializer) (λ h. script_of_pairs (loose_entries (fields_view (drop l.key-index l.key-items)))) r new
+    → Sends g.S.Serializer.step g.S.Serializer.refuses (g.S.Serializer.seen l.initial.serializer) (λ h. script_of_pairs (loose_entries (fields_view l.key-items))) r new
 
 -- the places left stand for the entries left, and whatever ends those ends the whole
 abbrev pub invariant-send_sorted-loop-key : goal.invariant-send_sorted-loop-key
 invariant-send_sorted-loop-key g l =
     (es : List Entry) × StandsFor l.fields.items l.key-iterator es
     × ((r : Answer) (new : Seen g.S.Serializer.State)
-    → Sends g.S.Serializer.step (g.S.Serializer.seen l.serializer) (λ h. script_of_pairs (text_pairs es)) r new
-    → Sends g.S.Serializer.step (g.S.Serializer.seen l.initial.serializer) (λ h. script_of_pairs (text_pairs (sorted (map entry_of l.fields.items)))) r new)
+    → Sends g.S.Serializer.step g.S.Serializer.refuses (g.S.Serializer.seen l.serializer) (λ h. script_of_pairs (text_pairs es)) r new
+    → Sends g.S.Serializer.step g.S.Serializer.refuses (g.S.Serializer.seen l.initial.serializer) (λ h. script_of_pairs (text_pairs (sorted (map entry_of l.fields.items)))) r new)

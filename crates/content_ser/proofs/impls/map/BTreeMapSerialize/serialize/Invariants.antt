@@ -6,5 +6,5 @@ use Rattle.content_ser.proofs.impls.map.BTreeMapSerialize.serialize.Given as goa
 abbrev pub invariant-loop-key : goal.invariant-loop-key
 invariant-loop-key g l =
     (r : Answer) (new : Seen g.S.Serializer.State)
-    → Sends g.S.Serializer.step (g.S.Serializer.seen l.serializer) (entries_script g.K.Serialize.script g.V.Serialize.script l.key-iterator) r new
-    → Sends g.S.Serializer.step (g.S.Serializer.seen l.initial.serializer) (entries_script g.K.Serialize.script g.V.Serialize.script l.self.entries) r new
+    → Sends g.S.Serializer.step g.S.Serializer.refuses (g.S.Serializer.seen l.serializer) (entries_script g.K.Serialize.script g.V.Serialize.script l.key-iterator) r new
+    → Sends g.S.Serializer.step g.S.Serializer.refuses (g.S.Serializer.seen l.initial.serializer) (entries_script g.K.Serialize.script g.V.Serialize.script l.self.entries) r new

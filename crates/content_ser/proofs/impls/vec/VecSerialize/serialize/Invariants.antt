@@ -7,5 +7,5 @@ use Rattle.content_ser.proofs.impls.vec.VecSerialize.serialize.Given as goal
 abbrev pub invariant-loop-item : goal.invariant-loop-item
 invariant-loop-item g l =
     (r : Answer) (new : Seen g.S.Serializer.State)
-    → Sends g.S.Serializer.step (g.S.Serializer.seen l.serializer) (items_script g.T.Serialize.script (drop l.item-index l.item-items)) r new
-    → Sends g.S.Serializer.step (g.S.Serializer.seen l.initial.serializer) (items_script g.T.Serialize.script l.item-items) r new
+    → Sends g.S.Serializer.step g.S.Serializer.refuses (g.S.Serializer.seen l.serializer) (items_script g.T.Serialize.script (drop l.item-index l.item-items)) r new
+    → Sends g.S.Serializer.step g.S.Serializer.refuses (g.S.Serializer.seen l.initial.serializer) (items_script g.T.Serialize.script l.item-items) r new

@@ -3,15 +3,15 @@ use Rattle.content_ser.specs.Call.{event_of}
 use Rattle.content_build.specs.Builder.{seen_of}
 use Rattle.content_build.specs.Frames.{partial_tree}
 use Rattle.content_build.specs.Taken.{Turns}
-use Rattle.content_build.proofs.Taking.{taken, refuses_exactly}
-use Rattle.content_build.proofs.builder.Builder.take.Goals as goal
+use Rattle.content_build.proofs.Taking.{taken, steps_are_exact}
+use Rattle.content_build.proofs.builder.BuilderSerializer.call.Goals as goal
 
 pub returns-clause-taken : goal.returns-clause-taken
 unfolding seen_of
 returns-clause-taken c =
     let old = partial_tree c.args.self.now.frames in
     let new = partial_tree c.take.new.self in
-    taken old c.args.self.now.human_readable (event_of c.args.call.now) c.take.result new
+    taken old c.args.self.now.human_readable (event_of c.args.call) c.take.result new
     (subst (λ k. Turns old k c.take.result new) c.of.ensures c.take.ensures)
 
 pub returns-clause-exact : goal.returns-clause-exact
@@ -19,5 +19,6 @@ unfolding seen_of
 returns-clause-exact c =
     let old = partial_tree c.args.self.now.frames in
     let new = partial_tree c.take.new.self in
-    refuses_exactly old c.args.self.now.human_readable (event_of c.args.call.now) c.take.result new
-    (subst (λ k. Turns old k c.take.result new) c.of.ensures c.take.ensures)
+    steps_are_exact _ _ (event_of c.args.call) c.take.result
+    (taken old c.args.self.now.human_readable (event_of c.args.call) c.take.result new
+    (subst (λ k. Turns old k c.take.result new) c.of.ensures c.take.ensures))

@@ -1,5 +1,5 @@
 -- The machine and the grammar agree.
-use Rattle.std.proofs.Common.{◌≡◌, List, [], ◌∷◌, ◌++◌, Option, Some, None, refl, sym, ap, ◌∙◌, option_and_then, ◌↔◌}
+use Rattle.std.proofs.Common.{◌≡◌, List, [], ◌∷◌, ◌++◌, Option, Some, None, refl, sym, ap, ◌∙◌, option_and_then, IsSome}
 use Rattle.content_tree.specs.Tree as tree
 use Rattle.content_tree.specs.Tree.{Tree, Trees, no_trees, tree_then, Pairs, no_pairs, pair_then, Fields, no_fields, field_then}
 use Rattle.content_ser.specs.Event as event
@@ -89,18 +89,24 @@ pub unique_cut : (calls more : List Event) → IsWhole calls → IsWhole (calls 
 unique_cut calls more (t, a) (u, b) =
     stuck t u more (sym (run-append calls more fresh ∙ ap (λ o. option_and_then (λ n. run n more) o) (run_from_whole calls a)) ∙ run_from_whole (calls ++ more) b)
 
--- a call is refused exactly where no whole list can follow
-pub refused_exactly : (calls : List Event) (call : Event) (s : Partial) → run fresh calls ≡ Some s → (step s call ≡ None) ↔ (¬ IsViable (calls ++ call ∷ []))
-refused_exactly calls call s r =
-    (λ none v. let n = run_from_viable (calls ++ call ∷ []) v in let x : Some n.0 ≡ None = sym n.1 ∙ (one_more ∙ none) in cc, λ not. decided (step s call) refl not)
+-- the run of the calls and one more
+pub one_more : (calls : List Event) (call : Event) (s : Partial) → run fresh calls ≡ Some s → run fresh (calls ++ call ∷ []) ≡ step s call
+one_more calls call s r = run-append calls (call ∷ []) fresh ∙ (ap (λ o. option_and_then (λ n. run n (call ∷ [])) o) r ∙ alone (step s call))
   where
     alone : (o : Option Partial) → option_and_then (λ n. Some n) o ≡ o
     alone None = refl
     alone (Some n) = refl
 
-    one_more : run fresh (calls ++ call ∷ []) ≡ step s call
-    one_more = run-append calls (call ∷ []) fresh ∙ (ap (λ o. option_and_then (λ n. run n (call ∷ [])) o) r ∙ alone (step s call))
+-- where a call has no step, no whole list can follow
+pub never_viable : (calls : List Event) (call : Event) (s : Partial) → run fresh calls ≡ Some s → step s call ≡ None → ¬ IsViable (calls ++ call ∷ [])
+never_viable calls call s r none v =
+    let n = run_from_viable (calls ++ call ∷ []) v in
+    let x : Some n.0 ≡ None = sym n.1 ∙ (one_more calls call s r ∙ none) in cc
 
-    decided : (o : Option Partial) → step s call ≡ o → (IsViable (calls ++ call ∷ []) → ⊥) → o ≡ None
-    decided None e not = refl
-    decided (Some n) e not = absurd (not (viable_from_run (calls ++ call ∷ []) n (one_more ∙ e)))
+-- where a call has a step, some whole list can follow
+pub still_viable : (calls : List Event) (call : Event) (s : Partial) → run fresh calls ≡ Some s → IsSome (step s call) → IsViable (calls ++ call ∷ [])
+still_viable calls call s r some = reached (step s call) refl some
+  where
+    reached : (o : Option Partial) → step s call ≡ o → IsSome o → IsViable (calls ++ call ∷ [])
+    reached None e some = cc
+    reached (Some n) e some = viable_from_run (calls ++ call ∷ []) n (one_more calls call s r ∙ e)

@@ -1,0 +1,49 @@
+//! Laws of the builder, of the recorder, and of what is compared.
+
+ghost use Rattle.std.specs.Prelude.{◌≡◌};
+ghost use Rattle.std.specs.Bool.{Decides};
+ghost use Rattle.std.specs.Ordering.{bool_cmp};
+ghost use Rattle.content_build.specs.Answers.{SameRefusal};
+ghost use Rattle.content_build.specs.Builder.{StepsAreExact};
+ghost use Rattle.content_build.specs.Recorder.{SentIsListed};
+ghost use Rattle.content_build.specs.Serializer.{is_readable};
+
+use crate::calls_error::CallsError;
+use crate::serializer::Serializer;
+use std::cmp::Ordering;
+
+/// Whatever call is made on a [`Builder`](crate::Builder) that has not failed: it is taken, or refused
+/// for memory, only where some whole list begins with the calls so far and this one, and refused as
+/// out of place only where none does.
+pub fn steps_are_exact()
+    ensures { StepsAreExact }
+{}
+
+/// Whatever is sent to a [`Recorder`](crate::Recorder): after `Ok` its list is the old one and then
+/// the calls of the script, after an error the old one and then a beginning of them.
+pub fn sent_is_listed()
+    ensures { SentIsListed }
+{}
+
+/// What `==` of refusals answers: whether their places are the same and their errors are equal. It
+/// takes no memory.
+pub fn equal_refusals(a: &CallsError, b: &CallsError) -> bool
+    ensures { Decides result (SameRefusal a.now b.now) }
+{
+    *a == *b
+}
+
+/// What `==` of serialisers answers: whether their flags are the same. It takes no memory.
+pub fn equal_serializers(a: Serializer, b: Serializer) -> bool
+    ensures { Decides result (is_readable a ≡ is_readable b) }
+{
+    a == b
+}
+
+/// What the order of serialisers answers: that with the flag off is less than that with the flag on.
+/// It takes no memory.
+pub fn order_of_serializers(a: Serializer, b: Serializer) -> Ordering
+    ensures { result ≡ bool_cmp (is_readable a) (is_readable b) }
+{
+    a.cmp(&b)
+}
