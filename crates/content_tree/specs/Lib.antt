@@ -15,3 +15,4 @@ pub mod RankedTree
 pub mod ImageOrder
 pub mod RankedImage
 pub mod ErrorOrder
+pub mod Memory

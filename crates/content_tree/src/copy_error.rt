@@ -1,7 +1,8 @@
 //! Copies of expectations and errors.
-ghost use Rattle.std.specs.Prelude.{◌≡◌, IfOk, IfErr};
+ghost use Rattle.std.specs.Prelude.{◌≡◌, None, IsTrue, IsOk, IfOk, IfErr};
 ghost use Rattle.content_tree.specs.Fault.{expected_view, kind_view, name_view};
 ghost use Rattle.content_tree.specs.Kind.{kind_of, IsOutOfMemory};
+ghost use Rattle.content_tree.specs.Memory.{is_free_expecting, is_free_fault};
 
 use crate::error::{Error, ErrorKind, Result};
 use crate::expected::Expected;
@@ -14,6 +15,7 @@ impl Expected {
     /// refused: an error of kind `OutOfMemory`.
     pub fn try_clone(&self, alloc: Global) -> Result<Expected>
         ensures value { IfOk result (λ copy. expected_view copy ≡ expected_view self.now) }
+        ensures succeeds { IsTrue (is_free_expecting (expected_view self.now)) → IsOk result }
         ensures memory { IfErr result (λ e. IsOutOfMemory e) }
     {
         match self {
@@ -51,6 +53,7 @@ impl Expected {
 
 fn clone_name(alloc: Global, name: &Option<String>) -> Result<Option<String>>
     ensures value { IfOk result (λ copy. name_view copy ≡ name_view name.now) }
+    ensures succeeds { name.now ≡ None → IsOk result }
     ensures memory { IfErr result (λ e. IsOutOfMemory e) }
 {
     match name {
@@ -66,6 +69,7 @@ impl ErrorKind {
     /// refused: an error of kind `OutOfMemory`.
     pub fn try_clone(&self, alloc: Global) -> Result<ErrorKind>
         ensures value { IfOk result (λ copy. kind_view copy ≡ kind_view self.now) }
+        ensures succeeds { IsTrue (is_free_fault (kind_view self.now)) → IsOk result }
         ensures memory { IfErr result (λ e. IsOutOfMemory e) }
     {
         match self {
@@ -91,7 +95,9 @@ impl Error {
     /// It takes memory for owned texts, vectors and boxes, and nothing for the rest; where that is
     /// refused: an error of kind `OutOfMemory`.
     pub fn try_clone(&self, alloc: Global) -> Result<Error>
-        ensures value { IfOk result (λ copy. kind_view (kind_of copy) ≡ kind_view (kind_of self.now)) }
+        ensures value { IfOk result
+            (λ copy. kind_view (kind_of copy) ≡ kind_view (kind_of self.now)) }
+        ensures succeeds { IsTrue (is_free_fault (kind_view (kind_of self.now))) → IsOk result }
         ensures memory { IfErr result (λ e. IsOutOfMemory e) }
     {
         let kind = self.kind().try_clone(alloc)?;

@@ -1,7 +1,8 @@
 //! Copies of images.
-ghost use Rattle.std.specs.Prelude.{◌≡◌, IfOk, IfErr};
+ghost use Rattle.std.specs.Prelude.{◌≡◌, None, IsTrue, IsOk, IfOk, IfErr};
 ghost use Rattle.content_tree.specs.Found.{image_view, content_view, images_view, entries_view, members_view, held_image};
 ghost use Rattle.content_tree.specs.Kind.{IsOutOfMemory};
+ghost use Rattle.content_tree.specs.Memory.{is_free_image, is_free_content};
 
 use crate::error::Result;
 use crate::found::{Found, FoundData};
@@ -15,6 +16,7 @@ impl Found {
     #[cycle(copy_found)]
     pub fn try_clone(&self, alloc: Global) -> Result<Found>
         ensures value { IfOk result (λ copy. image_view copy ≡ image_view self.now) }
+        ensures succeeds { IsTrue (is_free_image (image_view self.now)) → IsOk result }
         ensures memory { IfErr result (λ e. IsOutOfMemory e) }
     {
         match self {
@@ -66,6 +68,7 @@ impl FoundData {
     #[cycle(copy_found)]
     pub fn try_clone(&self, alloc: Global) -> Result<FoundData>
         ensures value { IfOk result (λ copy. content_view copy ≡ content_view self.now) }
+        ensures succeeds { IsTrue (is_free_content (content_view self.now)) → IsOk result }
         ensures memory { IfErr result (λ e. IsOutOfMemory e) }
     {
         match self {
@@ -80,6 +83,7 @@ impl FoundData {
 #[cycle(copy_found)]
 fn clone_held(alloc: Global, held: &Option<Box<Found>>) -> Result<Option<Box<Found>>>
     ensures value { IfOk result (λ copy. held_image copy ≡ held_image held.now) }
+    ensures succeeds { held.now ≡ None → IsOk result }
     ensures memory { IfErr result (λ e. IsOutOfMemory e) }
 {
     match held {

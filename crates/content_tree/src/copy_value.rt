@@ -1,6 +1,8 @@
 //! Copies of values: the same tree, each text and name in the same case.
-ghost use Rattle.std.specs.Prelude.{◌≡◌, IfOk, IfErr};
+ghost use Rattle.std.specs.Prelude.{◌≡◌, None, IsOk, IfOk, IfErr};
 ghost use Rattle.content_tree.specs.Kind.{IsOutOfMemory};
+ghost use Rattle.content_tree.specs.Memory.{CopyTakesNoMemory, StructCopyTakesNoMemory};
+ghost use Rattle.content_tree.specs.Memory.{PayloadCopyTakesNoMemory};
 ghost use Rattle.content_tree.specs.Value.{tree_of, payload_of, struct_tree, enum_tree, held_view, trees_view, pairs_view, fields_view};
 
 use crate::cow::CowStr;
@@ -16,6 +18,7 @@ impl<'a, 'n> NamedValue<'a, 'n> {
     #[cycle(copy_value)]
     pub fn try_clone(&self, alloc: Global) -> Result<NamedValue<'a, 'n>>
         ensures value { IfOk result (λ copy. tree_of copy ≡ tree_of self.now) }
+        ensures succeeds { CopyTakesNoMemory (tree_of self.now) → IsOk result }
         ensures memory { IfErr result (λ e. IsOutOfMemory e) }
     {
         match self {
@@ -49,6 +52,7 @@ impl<'a, 'n> NamedStruct<'a, 'n> {
     #[cycle(copy_value)]
     pub fn try_clone(&self, alloc: Global) -> Result<NamedStruct<'a, 'n>>
         ensures value { IfOk result (λ copy. struct_tree copy ≡ struct_tree self.now) }
+        ensures succeeds { StructCopyTakesNoMemory (struct_tree self.now) → IsOk result }
         ensures memory { IfErr result (λ e. IsOutOfMemory e) }
     {
         let name = self.name.try_clone(alloc)?;
@@ -65,6 +69,7 @@ impl<'a, 'n> NamedEnum<'a, 'n> {
     #[cycle(copy_value)]
     pub fn try_clone(&self, alloc: Global) -> Result<NamedEnum<'a, 'n>>
         ensures value { IfOk result (λ copy. enum_tree copy ≡ enum_tree self.now) }
+        ensures succeeds { StructCopyTakesNoMemory (enum_tree self.now) → IsOk result }
         ensures memory { IfErr result (λ e. IsOutOfMemory e) }
     {
         let name = self.name.try_clone(alloc)?;
@@ -87,6 +92,7 @@ impl<'a, 'n> NamedData<'a, 'n> {
     #[cycle(copy_value)]
     pub fn try_clone(&self, alloc: Global) -> Result<NamedData<'a, 'n>>
         ensures value { IfOk result (λ copy. payload_of copy ≡ payload_of self.now) }
+        ensures succeeds { PayloadCopyTakesNoMemory (payload_of self.now) → IsOk result }
         ensures memory { IfErr result (λ e. IsOutOfMemory e) }
     {
         match self {
@@ -110,6 +116,7 @@ fn clone_held<'a, 'n>(
     held: &Option<Box<NamedValue<'a, 'n>>>,
 ) -> Result<Option<Box<NamedValue<'a, 'n>>>>
     ensures value { IfOk result (λ copy. held_view copy ≡ held_view held.now) }
+    ensures succeeds { held.now ≡ None → IsOk result }
     ensures memory { IfErr result (λ e. IsOutOfMemory e) }
 {
     match held {

@@ -1,9 +1,12 @@
 //! The image of a value.
-ghost use Rattle.std.specs.Prelude.{◌≡◌, IfOk, IfErr};
+ghost use Rattle.std.specs.Prelude.{◌≡◌, None, Ok, IsOk, IfOk, IfErr, IfSome};
 ghost use Rattle.content_tree.specs.Value.{tree_of, payload_of, struct_tree, enum_tree, held_view, trees_view, pairs_view, fields_view};
 ghost use Rattle.content_tree.specs.Image.{image, image_payload, image_each, image_pairs, image_fields};
 ghost use Rattle.content_tree.specs.Found.{image_view, content_view, images_view, entries_view, members_view, held_image};
 ghost use Rattle.content_tree.specs.Kind.{IsOutOfMemory};
+ghost use Rattle.content_tree.specs.Memory.{OwningTakesNoMemory};
+ghost use Rattle.content_tree.specs.Cases.{string_at, vec_at};
+ghost use Rattle.content_tree.specs.declared.found.Found as found;
 
 use crate::cow::CowStr;
 use crate::error::Result;
@@ -21,6 +24,9 @@ impl<'a, 'n> NamedValue<'a, 'n> {
     #[cycle(image)]
     pub fn into_found(self, alloc: Global) -> Result<Found>
         ensures value { IfOk result (λ f. image_view f ≡ image (tree_of self.entry)) }
+        ensures succeeds { OwningTakesNoMemory (tree_of self.entry) → IsOk result }
+        ensures text { IfSome (string_at self.entry) (λ own. result ≡ Ok (found.String own)) }
+        ensures bytes { IfSome (vec_at self.entry) (λ own. result ≡ Ok (found.Bytes own)) }
         ensures memory { IfErr result (λ e. IsOutOfMemory e) }
     {
         match self {
@@ -93,6 +99,7 @@ fn found_option<'a, 'n>(
     held: Option<Box<NamedValue<'a, 'n>>>,
 ) -> Result<Option<Box<Found>>>
     ensures value { IfOk result (λ f. held_image f ≡ image (held_view held.entry)) }
+    ensures succeeds { held.entry ≡ None → IsOk result }
     ensures memory { IfErr result (λ e. IsOutOfMemory e) }
 {
     match held {

@@ -1,26 +1,170 @@
-//! What the comparisons mean to a caller who knows trees and images.
-#![tactic(auto, using(crate::proofs::SameTree::trees_tie, crate::proofs::SameImage::images_tie))]
+//! What the comparisons mean to a caller who knows trees, images and contents.
 
 ghost use Rattle.std.specs.Prelude.{◌≡◌};
 ghost use Rattle.std.specs.Bool.{Decides};
-ghost use Rattle.content_tree.specs.Found.{image_view};
-ghost use Rattle.content_tree.specs.Tree.{unmarked};
-ghost use Rattle.content_tree.specs.Value.{tree_of};
+ghost use Rattle.content_tree.specs.Fault.{expected_view, kind_view};
+ghost use Rattle.content_tree.specs.Found.{image_view, content_view};
+ghost use Rattle.content_tree.specs.Kind.{kind_of};
+ghost use Rattle.content_tree.specs.Order.{number_cmp};
+ghost use Rattle.content_tree.specs.ErrorOrder.{type_cmp, expected_cmp, kind_cmp, error_cmp};
+ghost use Rattle.content_tree.specs.Text.{text_content, bytes_content};
+ghost use Rattle.content_tree.specs.Tree.{unmarked, unmarked_payload};
+ghost use Rattle.content_tree.specs.Value.{tree_of, payload_of, struct_tree, enum_tree};
 
-use crate::found::Found;
-use crate::value::NamedValue;
+use crate::cow::{CowBytes, CowStr};
+use crate::error::{Error, ErrorKind};
+use crate::expected::{DataType, Expected};
+use crate::found::{Found, FoundData};
+use crate::number::Number;
+use crate::value::{NamedData, NamedEnum, NamedStruct, NamedValue};
+use std::cmp::Ordering;
 
 /// What `==` of values answers: whether their trees are equal with every mark taken off. It sees
 /// neither whether a text is borrowed nor whether a name is static. It takes no memory.
+#[tactic(auto, using(crate::proofs::SameTree::trees_tie))]
 pub fn equal_values<'a, 'n>(a: &NamedValue<'a, 'n>, b: &NamedValue<'a, 'n>) -> bool
     ensures { Decides result (unmarked (tree_of a.now) ≡ unmarked (tree_of b.now)) }
 {
     *a == *b
 }
 
+/// What `==` of structs answers: the same of their trees. It takes no memory.
+#[tactic(auto, using(crate::proofs::SameTree::trees_tie))]
+pub fn equal_structs<'a, 'n>(
+    structure: &NamedStruct<'a, 'n>,
+    other_structure: &NamedStruct<'a, 'n>,
+) -> bool
+    ensures { Decides result
+        (unmarked (struct_tree structure.now) ≡ unmarked (struct_tree other_structure.now)) }
+{
+    *structure == *other_structure
+}
+
+/// What `==` of variants answers: the same of their trees. It takes no memory.
+#[tactic(auto, using(crate::proofs::SameTree::trees_tie))]
+pub fn equal_enums<'a, 'n>(variant: &NamedEnum<'a, 'n>, other_variant: &NamedEnum<'a, 'n>) -> bool
+    ensures { Decides result
+        (unmarked (enum_tree variant.now) ≡ unmarked (enum_tree other_variant.now)) }
+{
+    *variant == *other_variant
+}
+
+/// What `==` of the data of structs and variants answers: whether they are equal with every mark
+/// taken off. It takes no memory.
+#[tactic(auto, using(crate::proofs::SameTree::payloads_tie))]
+pub fn equal_data<'a, 'n>(held: &NamedData<'a, 'n>, other_held: &NamedData<'a, 'n>) -> bool
+    ensures { Decides result
+        (unmarked_payload (payload_of held.now) ≡ unmarked_payload (payload_of other_held.now)) }
+{
+    *held == *other_held
+}
+
+/// What `==` of texts answers: whether they have the same bytes. It takes no memory.
+pub fn equal_texts<'a>(text: &CowStr<'a>, other_text: &CowStr<'a>) -> bool
+    ensures { Decides result (text_content text.now ≡ text_content other_text.now) }
+{
+    *text == *other_text
+}
+
+/// What `==` of bytes answers: whether they are the same. It takes no memory.
+pub fn equal_bytes<'a>(bytes: &CowBytes<'a>, other_bytes: &CowBytes<'a>) -> bool
+    ensures { Decides result (bytes_content bytes.now ≡ bytes_content other_bytes.now) }
+{
+    *bytes == *other_bytes
+}
+
 /// What `==` of images answers: whether they are the same. It takes no memory.
+#[tactic(auto, using(crate::proofs::SameImage::images_tie))]
 pub fn equal_images(left: &Found, right: &Found) -> bool
     ensures { Decides result (image_view left.now ≡ image_view right.now) }
 {
     *left == *right
+}
+
+/// What `==` of the data of images answers: whether they are the same. It takes no memory.
+#[tactic(auto, using(crate::proofs::SameImage::contents_tie))]
+pub fn equal_found_data(found: &FoundData, other_found: &FoundData) -> bool
+    ensures { Decides result (content_view found.now ≡ content_view other_found.now) }
+{
+    *found == *other_found
+}
+
+/// What `==` of numbers answers: whether they are the same, of one kind. It takes no memory.
+#[tactic(auto, using(crate::proofs::DerivedTies::equal_numbers))]
+pub fn equal_numbers(number: &Number, other_number: &Number) -> bool
+    ensures { Decides result (number.now ≡ other_number.now) }
+{
+    *number == *other_number
+}
+
+/// What `==` of types answers: whether they are the same. It takes no memory.
+#[tactic(auto, using(crate::proofs::DerivedTies::equal_types))]
+pub fn equal_types(typ: &DataType, other_typ: &DataType) -> bool
+    ensures { Decides result (typ.now ≡ other_typ.now) }
+{
+    *typ == *other_typ
+}
+
+/// What `==` of expectations answers: whether they say the same. It takes no memory.
+#[tactic(auto, using(crate::proofs::DerivedTies::equal_expected))]
+pub fn equal_expected(expected: &Expected, other_expected: &Expected) -> bool
+    ensures { Decides result (expected_view expected.now ≡ expected_view other_expected.now) }
+{
+    *expected == *other_expected
+}
+
+/// What `==` of kinds of errors answers: whether they say the same. It takes no memory.
+#[tactic(auto, using(crate::proofs::DerivedTies::equal_kinds))]
+pub fn equal_kinds(kind: &ErrorKind, other_kind: &ErrorKind) -> bool
+    ensures { Decides result (kind_view kind.now ≡ kind_view other_kind.now) }
+{
+    *kind == *other_kind
+}
+
+/// What `==` of errors answers: whether their kinds say the same. It takes no memory.
+#[tactic(auto, using(crate::proofs::DerivedTies::equal_errors))]
+pub fn equal_errors(error: &Error, other_error: &Error) -> bool
+    ensures { Decides result
+        (kind_view (kind_of error.now) ≡ kind_view (kind_of other_error.now)) }
+{
+    *error == *other_error
+}
+
+/// How numbers are ordered: by kind, and within one kind by value. It takes no memory.
+#[tactic(auto, using(crate::proofs::DerivedOrders::number_order))]
+pub fn compare_numbers(number: &Number, other_number: &Number) -> Ordering
+    ensures { result ≡ number_cmp number.now other_number.now }
+{
+    number.cmp(other_number)
+}
+
+/// How types are ordered: by place. It takes no memory.
+#[tactic(auto, using(crate::proofs::DerivedOrders::type_order))]
+pub fn compare_types(typ: &DataType, other_typ: &DataType) -> Ordering
+    ensures { result ≡ type_cmp typ.now other_typ.now }
+{
+    typ.cmp(other_typ)
+}
+
+/// How expectations are ordered: by case, and within one case by contents. It takes no memory.
+pub fn compare_expected(expected: &Expected, other_expected: &Expected) -> Ordering
+    ensures { result ≡ expected_cmp expected.now other_expected.now }
+{
+    expected.cmp(other_expected)
+}
+
+/// How kinds of errors are ordered: by case, and within one case by contents. It takes no memory.
+#[tactic(auto, using(crate::proofs::DerivedOrders::kind_order))]
+pub fn compare_kinds(kind: &ErrorKind, other_kind: &ErrorKind) -> Ordering
+    ensures { result ≡ kind_cmp kind.now other_kind.now }
+{
+    kind.cmp(other_kind)
+}
+
+/// How errors are ordered: as their kinds. It takes no memory.
+#[tactic(auto, using(crate::proofs::DerivedOrders::error_order))]
+pub fn compare_errors(error: &Error, other_error: &Error) -> Ordering
+    ensures { result ≡ error_cmp error.now other_error.now }
+{
+    error.cmp(other_error)
 }

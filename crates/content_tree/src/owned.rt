@@ -1,6 +1,12 @@
 //! Values that own their texts and bytes.
-ghost use Rattle.std.specs.Prelude.{◌≡◌, IfOk, IfErr};
+ghost use Rattle.std.specs.Prelude.{◌≡◌, None, Ok, IsOk, IfOk, IfErr, IfSome};
 ghost use Rattle.content_tree.specs.Kind.{IsOutOfMemory};
+ghost use Rattle.content_tree.specs.Memory.{OwningTakesNoMemory, StructOwningTakesNoMemory};
+ghost use Rattle.content_tree.specs.Memory.{PayloadOwningTakesNoMemory};
+ghost use Rattle.content_tree.specs.Cases.{string_at, vec_at, struct_name, enum_names};
+ghost use Rattle.content_tree.specs.declared.cow.CowStr.TheVariants as text;
+ghost use Rattle.content_tree.specs.declared.cow.CowBytes.TheVariants as bytes;
+ghost use Rattle.content_tree.specs.declared.value.NamedValue as value;
 ghost use Rattle.content_tree.specs.Text.{to_owned};
 ghost use Rattle.content_tree.specs.Tree.{owned, owned_payload, at_texts_each, at_texts_pairs, at_texts_fields};
 ghost use Rattle.content_tree.specs.Value.{tree_of, payload_of, struct_tree, enum_tree, held_view, trees_view, pairs_view, fields_view};
@@ -17,6 +23,11 @@ impl<'a, 'n> NamedValue<'a, 'n> {
     #[cycle(own_value)]
     pub fn into_owned(self, alloc: Global) -> Result<NamedValue<'static, 'n>>
         ensures value { IfOk result (λ own. tree_of own ≡ owned (tree_of self.entry)) }
+        ensures succeeds { OwningTakesNoMemory (tree_of self.entry) → IsOk result }
+        ensures text { IfSome (string_at self.entry)
+            (λ own. result ≡ Ok (value.String (text.Owned own))) }
+        ensures bytes { IfSome (vec_at self.entry)
+            (λ own. result ≡ Ok (value.Bytes (bytes.Owned own))) }
         ensures memory { IfErr result (λ e. IsOutOfMemory e) }
     {
         match self {
@@ -55,6 +66,8 @@ impl<'a, 'n> NamedStruct<'a, 'n> {
     #[cycle(own_value)]
     pub fn into_owned(self, alloc: Global) -> Result<NamedStruct<'static, 'n>>
         ensures value { IfOk result (λ own. struct_tree own ≡ owned (struct_tree self.entry)) }
+        ensures succeeds { StructOwningTakesNoMemory (struct_tree self.entry) → IsOk result }
+        ensures name { IfOk result (λ own. struct_name own ≡ struct_name self.entry) }
         ensures memory { IfErr result (λ e. IsOutOfMemory e) }
     {
         let NamedStruct { name, data } = self;
@@ -70,6 +83,8 @@ impl<'a, 'n> NamedEnum<'a, 'n> {
     #[cycle(own_value)]
     pub fn into_owned(self, alloc: Global) -> Result<NamedEnum<'static, 'n>>
         ensures value { IfOk result (λ own. enum_tree own ≡ owned (enum_tree self.entry)) }
+        ensures succeeds { StructOwningTakesNoMemory (enum_tree self.entry) → IsOk result }
+        ensures names { IfOk result (λ own. enum_names own ≡ enum_names self.entry) }
         ensures memory { IfErr result (λ e. IsOutOfMemory e) }
     {
         let NamedEnum {
@@ -95,6 +110,7 @@ impl<'a, 'n> NamedData<'a, 'n> {
     #[cycle(own_value)]
     pub fn into_owned(self, alloc: Global) -> Result<NamedData<'static, 'n>>
         ensures value { IfOk result (λ own. payload_of own ≡ owned_payload (payload_of self.entry)) }
+        ensures succeeds { PayloadOwningTakesNoMemory (payload_of self.entry) → IsOk result }
         ensures memory { IfErr result (λ e. IsOutOfMemory e) }
     {
         match self {
@@ -118,6 +134,7 @@ fn own_held<'a, 'n>(
     held: Option<Box<NamedValue<'a, 'n>>>,
 ) -> Result<Option<Box<NamedValue<'static, 'n>>>>
     ensures value { IfOk result (λ own. held_view own ≡ owned (held_view held.entry)) }
+    ensures succeeds { held.entry ≡ None → IsOk result }
     ensures memory { IfErr result (λ e. IsOutOfMemory e) }
 {
     match held {
