@@ -5,6 +5,7 @@ mod call;
 mod impls;
 pub mod laws;
 mod loose_form;
+mod own;
 mod replaying;
 mod send;
 mod serialize;
@@ -12,6 +13,7 @@ mod serializer;
 
 pub use call::Call;
 pub use loose_form::{loose_once, script_spells};
+pub use own::{Announced, Parts};
 pub use replaying::replay;
 pub use serialize::Serialize;
 pub use serializer::Serializer;
