@@ -9,6 +9,9 @@ pub mod Scripts
 pub mod ScriptLaws
 pub mod Fits
 pub mod Lawfulness
+pub mod OwnScripts
+pub mod OwnLaws
+pub mod Begins
 pub mod Loose
 pub mod TreeScript
 pub mod TreeLaw

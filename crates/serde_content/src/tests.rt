@@ -2,4 +2,6 @@
 mod building;
 mod calls;
 mod examples;
+mod own_serializer;
+mod own_types;
 mod recording;
