@@ -2,7 +2,7 @@
 #![tactic(auto, using(crate::proofs::Sending::sending))]
 
 ghost use Rattle.std.specs.Prelude.{◌≡◌};
-ghost use Rattle.content_ser.specs.Begins.{Begins, Head};
+ghost use Rattle.content_ser.specs.Begins.{Begins, Opening};
 ghost use Rattle.content_ser.specs.Call.{event_of};
 ghost use Rattle.content_ser.specs.Event.{field as field_event, tuple_field as tuple_field_event};
 ghost use Rattle.content_ser.specs.Lawful.{Sends};
@@ -15,9 +15,9 @@ use crate::serializer::Serializer;
 use content_tree::Result;
 use std::alloc::Global;
 
-/// The calls at the head of a script: one that opens something, and the values put into it so far.
+/// The calls that a script begins with: one that opens something, and the values put into it so far.
 ///
-/// A [`Call`] is such a head, and [`field`](Parts::field) and [`tuple_field`](Parts::tuple_field) make
+/// A [`Call`] is such a beginning, and [`field`](Parts::field) and [`tuple_field`](Parts::tuple_field) make
 /// a longer one. Nothing is sent until [`end`](Parts::end) or [`around`](Parts::around).
 ///
 /// ```rust
@@ -26,12 +26,12 @@ use std::alloc::Global;
 /// ```
 pub trait Parts: Sized + Drop {
     /// The script that begins with these calls and goes on with another.
-    ghost first: { Self → Head };
+    ghost first: { Self → Opening };
 
     /// Makes these calls, one after another, up to the first that is refused. Its errors are those of
     /// the serialiser and of the values.
     fn send_parts<S: Serializer>(&self, alloc: Global, serializer: &mut S) -> Result<()>
-        ensures { Begins S.step (S.seen serializer.old) (first self.now) result (S.seen serializer.new) };
+        ensures { Begins S.step S.refuses (S.seen serializer.old) (first self.now) result (S.seen serializer.new) };
 
     /// These calls, and then a field of a struct or a struct variant: its key and its value. It sends
     /// nothing yet and takes no memory.
@@ -69,7 +69,7 @@ pub trait Parts: Sized + Drop {
     /// call that is refused, or of the first value that stops. Memory is taken where a value or the
     /// serialiser takes some.
     final fn end<S: Serializer>(self, alloc: Global, serializer: &mut S) -> Result<()>
-        ensures { Sends S.step (S.seen serializer.old) (first self end_script) result (S.seen serializer.new) }
+        ensures { Sends S.step S.refuses (S.seen serializer.old) (first self end_script) result (S.seen serializer.new) }
     {
         self.send_parts(alloc, serializer)?;
         serializer.end()
@@ -83,7 +83,7 @@ pub trait Parts: Sized + Drop {
         alloc: Global,
         serializer: &mut S,
     ) -> Result<()>
-        ensures { Sends S.step (S.seen serializer.old) (first self (T.script value.now)) result (S.seen serializer.new) }
+        ensures { Sends S.step S.refuses (S.seen serializer.old) (first self (T.script value.now)) result (S.seen serializer.new) }
     {
         self.send_parts(alloc, serializer)?;
         value.serialize(alloc, serializer)
@@ -102,7 +102,7 @@ impl<'a> Call<'a> {
     /// Makes this call, as the whole of what is sent. The error is the serialiser's where it refuses
     /// the call; memory is taken where it takes some.
     pub fn send<S: Serializer>(self, serializer: &mut S) -> Result<()>
-        ensures { Sends S.step (S.seen serializer.old) (only (event_of self.entry)) result (S.seen serializer.new) }
+        ensures { Sends S.step S.refuses (S.seen serializer.old) (only (event_of self.entry)) result (S.seen serializer.new) }
     {
         serializer.call(self)
     }

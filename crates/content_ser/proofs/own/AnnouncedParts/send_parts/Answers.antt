@@ -12,4 +12,4 @@ returns-in_err-call g c =
 
 pub returns : goal.returns
 returns g c =
-    begun_item {head = g.P.Parts.first c.args.self.now.before} _ c.lend.ensures c.in_ok-send_parts.ensures c.in_ok-call.ensures c.serialize.ensures
+    begun_item {opening = g.P.Parts.first c.args.self.now.before} _ c.lend.ensures c.in_ok-send_parts.ensures c.in_ok-call.ensures c.serialize.ensures
