@@ -62,7 +62,8 @@ impl Row {
         alloc: Global,
         items: Vec<Value<'v>>,
     ) -> Result<Value<'v>, AllocError>
-        ensures { IfOk result (λ v. tree_of v ≡ row_tree (row_view self) (trees_view items.entry.items)) }
+        ensures { IfOk result
+            (λ v. tree_of v ≡ row_tree (row_view self) (trees_view items.entry.items)) }
     {
         match self {
             Row::Seq => Ok(NamedValue::Seq(items)),
@@ -88,7 +89,8 @@ impl Record {
         alloc: Global,
         fields: Vec<(CowStr<'static>, Value<'v>)>,
     ) -> Result<Value<'v>, AllocError>
-        ensures { IfOk result (λ v. tree_of v ≡ record_tree (record_view self) (fields_view fields.entry.items)) }
+        ensures { IfOk result
+            (λ v. tree_of v ≡ record_tree (record_view self) (fields_view fields.entry.items)) }
     {
         match self {
             Record::Struct(name) => structure(alloc, name, NamedData::Struct { fields }),
@@ -105,7 +107,8 @@ pub(crate) fn structure<'v>(
     name: &'static str,
     held: Data<'v>,
 ) -> Result<Value<'v>, AllocError>
-    ensures { IfOk result (λ v. tree_of v ≡ tree.structure (static_name name.now) (payload_of held.entry)) }
+    ensures { IfOk result
+        (λ v. tree_of v ≡ tree.structure (static_name name.now) (payload_of held.entry)) }
 {
     let inner = NamedStruct {
         name: CowStr::Borrowed(name),
@@ -122,7 +125,9 @@ pub(crate) fn enumeration<'v>(
     variant: &'static str,
     held: Data<'v>,
 ) -> Result<Value<'v>, AllocError>
-    ensures { IfOk result (λ v. tree_of v ≡ tree.enumeration (static_name name.now) variant_index (static_name variant.now) (payload_of held.entry)) }
+    ensures { IfOk result
+        (λ v. tree_of v ≡ tree.enumeration (static_name name.now) variant_index
+        (static_name variant.now) (payload_of held.entry)) }
 {
     let inner = NamedEnum {
         name: CowStr::Borrowed(name),

@@ -19,7 +19,8 @@ pub enum Head {
 
 /// The call of a head that holds nothing.
 pub fn call_unit<S: Serializer>(head: Head, serializer: &mut S) -> Result<()>
-    ensures { Takes S.step S.refuses (S.seen serializer.old) (unit_call (head_of head)) result (S.seen serializer.new) }
+    ensures { Takes S.step S.refuses (S.seen serializer.old) (unit_call (head_of head))
+        result (S.seen serializer.new) }
 {
     match head {
         Head::Struct(name) => serializer.serialize_unit_struct(name),
@@ -31,7 +32,8 @@ pub fn call_unit<S: Serializer>(head: Head, serializer: &mut S) -> Result<()>
 
 /// The call of a head that holds one value.
 pub fn call_newtype<S: Serializer>(head: Head, serializer: &mut S) -> Result<()>
-    ensures { Takes S.step S.refuses (S.seen serializer.old) (newtype_call (head_of head)) result (S.seen serializer.new) }
+    ensures { Takes S.step S.refuses (S.seen serializer.old) (newtype_call (head_of head))
+        result (S.seen serializer.new) }
 {
     match head {
         Head::Struct(name) => serializer.serialize_newtype_struct(name),
@@ -43,7 +45,8 @@ pub fn call_newtype<S: Serializer>(head: Head, serializer: &mut S) -> Result<()>
 
 /// The call of a head that holds values by place.
 pub fn call_tuple<S: Serializer>(head: Head, len: usize, serializer: &mut S) -> Result<()>
-    ensures { Takes S.step S.refuses (S.seen serializer.old) (tuple_call (head_of head) len) result (S.seen serializer.new) }
+    ensures { Takes S.step S.refuses (S.seen serializer.old) (tuple_call (head_of head) len)
+        result (S.seen serializer.new) }
 {
     match head {
         Head::Struct(name) => serializer.serialize_tuple_struct(name, len),
@@ -55,7 +58,8 @@ pub fn call_tuple<S: Serializer>(head: Head, len: usize, serializer: &mut S) -> 
 
 /// The call of a head that holds values by key.
 pub fn call_struct<S: Serializer>(head: Head, len: usize, serializer: &mut S) -> Result<()>
-    ensures { Takes S.step S.refuses (S.seen serializer.old) (struct_call (head_of head) len) result (S.seen serializer.new) }
+    ensures { Takes S.step S.refuses (S.seen serializer.old) (struct_call (head_of head) len)
+        result (S.seen serializer.new) }
 {
     match head {
         Head::Struct(name) => serializer.serialize_struct(name, len),
