@@ -12,7 +12,7 @@ use Rattle.content_build.specs.declared.serializer.Serializer.{Serializer}
 abbrev pub is_readable : Serializer → Bool
 is_readable s = s.human_readable
 
--- the tree that the calls spell, or the stop's error, or a refused growth
+-- the tree that the calls spell, or the stop's error, or out of memory
 abbrev pub Serialized : Script → Result NamedValue Error → Type 0
 Serialized sc (Ok v) = (stop_of sc ≡ None) × SpellsWhole (calls_of sc) (tree_of v)
 Serialized sc (Err e) = IsOutOfMemory e ⊎ ((message : List ℕ) × (stop_of sc ≡ Some message) × IsCustom message e)

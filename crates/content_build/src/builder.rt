@@ -16,11 +16,11 @@ use std::alloc::Global;
 /// A serialiser that builds the tree that its calls spell.
 ///
 /// Its state is a partial tree: fresh, open, or done. A call after which no list of calls can
-/// spell a tree answers `Misplaced`, before any memory is taken for it. A call whose memory is
-/// refused answers `OutOfMemory`. Every call after either answers `Failed`; `collect_str` alone prints
-/// first, and where memory for that is refused it answers `OutOfMemory` and changes nothing. Hints and
-/// lengths reserve nothing. Texts and bytes are copied, names never. The calls are Serde's; that one
-/// out of place is an error is ours.
+/// spell a tree answers `Misplaced`, before any memory is taken for it. A call for which an
+/// allocation failed answers `OutOfMemory`. Every call after either answers `Failed`; `collect_str`
+/// alone prints first, and where an allocation for that failed it answers `OutOfMemory` and changes
+/// nothing. Hints and lengths reserve nothing. Texts and bytes are copied, names never. The calls are
+/// Serde's; that one out of place is an error is ours.
 ///
 /// Nothing in the tree is lent, so the lifetime is free: [`from_calls`](crate::from_calls) gives
 /// a value at any.
@@ -44,7 +44,8 @@ impl<'v> Builder<'v> {
     /// [`is_human_readable`](Serializer::is_human_readable) answers; nothing else rests on it.
     #[tactic(auto, unfolding(crate::specs::Builder::seen_of))]
     pub fn new(alloc: Global, human_readable: bool) -> Builder<'v>
-        ensures { seen_of result ≡ record { state = fresh; failed = false; readable = human_readable } }
+        ensures { seen_of result
+            ≡ record { state = fresh; failed = false; readable = human_readable } }
     {
         Builder {
             frames: Frames::new(alloc),
@@ -80,7 +81,8 @@ impl<'v> Serializer for Builder<'v> {
     /// bytes, items and boxes.
     fn call(&mut self, call: Call<'_>) -> Result<()>
         // one step of the partial tree
-        ensures taken { Takes step refuses (seen_of self.old) (event_of call.entry) result (seen_of self.new) }
+        ensures taken { Takes step refuses (seen_of self.old)
+            (event_of call.entry) result (seen_of self.new) }
         // it is taken, or refused for memory, only where some whole list begins with the calls so
         // far and this one, and refused as out of place only where none does
         ensures exact { AnswersExactly (seen_of self.old) (event_of call.entry) result }

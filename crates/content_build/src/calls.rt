@@ -38,7 +38,7 @@ fn build<'v>(alloc: Global, calls: &[Call<'_>]) -> Result<Value<'v>, CallsError>
 ///
 /// Where it spells none, the error names the place of the first call after which nothing that
 /// follows can make it spell one, `Misplaced`; or the list's length where it only ended too early,
-/// `Unfinished`. Where memory is refused it names the call that needed it, or the list's length:
+/// `Unfinished`. Where an allocation failed it names the call that needed it, or the list's length:
 /// `OutOfMemory`. Hints and lengths reserve nothing. Texts and bytes are copied once, names are not.
 ///
 /// ```rust
@@ -55,9 +55,11 @@ pub fn from_calls<'v>(alloc: Global, calls: &[Call<'_>]) -> Result<Value<'v>, Ca
     // what spells a tree is taken
     ensures whole { (t : Tree) → SpellsWhole (events_of calls.now) t → IfTaken result t }
     // the first call after which no whole list can follow is out of place
-    ensures misplaced { (at : ℕ) → IsRefusal (events_of calls.now) at Misplaced → IfRefused result Misplaced at }
+    ensures misplaced { (at : ℕ) → IsRefusal (events_of calls.now) at Misplaced
+        → IfRefused result Misplaced at }
     // what could go on to spell a tree, and spells none, is unfinished
-    ensures unfinished { IsViable (events_of calls.now) → ¬ IsWhole (events_of calls.now) → IfRefused result Unfinished (length calls.now) }
+    ensures unfinished { IsViable (events_of calls.now) → ¬ IsWhole (events_of calls.now)
+        → IfRefused result Unfinished (length calls.now) }
 {
     build(alloc, calls)
 }

@@ -27,7 +27,8 @@ pub(crate) struct Frames<'v> {
 
 /// A call where a tree is due.
 fn begin<'v>(alloc: Global, waiting: &mut Vec<Place<'v>>, call: Kind<'_>) -> Result<Focus<'v>>
-    ensures { Leads (partial.begin (places_view waiting.old.items) (kind_view call.entry)) result waiting.new.items }
+    ensures { Leads (partial.begin (places_view waiting.old.items) (kind_view call.entry))
+        result waiting.new.items }
 {
     match call {
         Kind::Leaf(leaf) => {
@@ -53,7 +54,10 @@ fn follow<'v>(
     opened: Compound<'v>,
     call: Kind<'_>,
 ) -> Result<Focus<'v>>
-    ensures { Leads (partial.follow (compound_view opened.entry) (places_view waiting.old.items) (kind_view call.entry)) result waiting.new.items }
+    ensures { Leads
+        (partial.follow (compound_view opened.entry)
+        (places_view waiting.old.items) (kind_view call.entry))
+        result waiting.new.items }
 {
     match call {
         Kind::Item(item) => match place_for(opened, item) {
@@ -89,7 +93,8 @@ impl<'v> Frames<'v> {
 
     /// A call.
     pub(crate) fn take(&mut self, call: Kind<'_>) -> Result<()>
-        ensures { Turns (partial_tree self.old) (kind_view call.entry) result (partial_tree self.new) }
+        ensures { Turns (partial_tree self.old) (kind_view call.entry)
+            result (partial_tree self.new) }
     {
         let next = match mem::replace(&mut self.focus, Focus::Failed) {
             Focus::Due => begin(self.alloc, &mut self.places, call),
@@ -120,7 +125,8 @@ impl<'v> Frames<'v> {
 
     /// The whole tree.
     pub(crate) fn finish(self) -> Result<Value<'v>>
-        ensures value { Finishes (has_failed (partial_tree self.entry)) (or_fresh (partial_tree self.entry)) result }
+        ensures value { Finishes (has_failed (partial_tree self.entry))
+            (or_fresh (partial_tree self.entry)) result }
         ensures memory { IfErr result (λ e. ¬ IsOutOfMemory e) }
     {
         let Frames { places, focus, .. } = self;

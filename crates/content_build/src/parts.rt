@@ -44,7 +44,8 @@ impl Row {
         alloc: Global,
         items: Vec<Value<'v>>,
     ) -> Result<Value<'v>, AllocError>
-        ensures { IfOk result (λ v. tree_of v ≡ row_tree (row_view self) (trees_view items.entry.items)) }
+        ensures { IfOk result
+            (λ v. tree_of v ≡ row_tree (row_view self) (trees_view items.entry.items)) }
     {
         match self {
             Row::Seq => Ok(NamedValue::Seq(items)),

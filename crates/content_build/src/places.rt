@@ -49,7 +49,8 @@ pub(crate) enum Focus<'v> {
 
 /// The last pair, if any, gets this value.
 fn set_last<'v>(pairs: &mut Vec<(Value<'v>, Value<'v>)>, value: Value<'v>)
-    ensures { pairs_view pairs.new.items ≡ partial.set_last (pairs_view pairs.old.items) (tree_of value.entry) }
+    ensures { pairs_view pairs.new.items
+        ≡ partial.set_last (pairs_view pairs.old.items) (tree_of value.entry) }
 {
     let count = pairs.len();
     if count > 0 {
@@ -64,7 +65,9 @@ pub(crate) fn fill<'v>(
     waiting: &mut Vec<Place<'v>>,
     value: Value<'v>,
 ) -> Result<Focus<'v>, AllocError>
-    ensures { IfOk result (λ focus. focus_view focus waiting.new.items ≡ Some (partial.fill (places_view waiting.old.items) (tree_of value.entry))) }
+    ensures { IfOk result
+        (λ focus. focus_view focus waiting.new.items
+        ≡ Some (partial.fill (places_view waiting.old.items) (tree_of value.entry))) }
 {
     let mut value = value;
     while let Some(place) = waiting.pop() {
@@ -115,7 +118,9 @@ pub(crate) fn close<'v>(alloc: Global, opened: Compound<'v>) -> Result<Value<'v>
 
 /// The place that waits after an item call, unless the compound has no such items.
 pub(crate) fn place_for<'v>(opened: Compound<'v>, item: Item) -> Option<Place<'v>>
-    ensures { (ps : List partial.Place) → option_map (λ place. partial.due (place_view place ∷ ps)) result ≡ partial.follow (compound_view opened.entry) ps (item_view item) }
+    ensures { (ps : List partial.Place)
+        → option_map (λ place. partial.due (place_view place ∷ ps)) result
+        ≡ partial.follow (compound_view opened.entry) ps (item_view item) }
 {
     match opened {
         Compound::Row(row, items) => match item {

@@ -13,7 +13,7 @@ use std::marker::Model;
 
 /// A list of the calls that it took, in order.
 ///
-/// It takes any call, in or out of place, and refuses one only where memory is refused: then it
+/// It takes any call, in or out of place, and refuses one only where an allocation failed: then it
 /// answers `OutOfMemory`, from then on `Failed`, and keeps the calls taken before (`collect_str` that
 /// can't print answers `OutOfMemory` and changes nothing). It keeps texts and bytes of its own, copied
 /// from what a call lends. The Rust crate has no such type.
@@ -86,7 +86,8 @@ impl Recorder {
 
     // From now on it has failed; the error is handed back.
     fn fail(&mut self, error: Error) -> Error
-        ensures state { self.new ≡ record { state = self.old.state; failed = true; readable = self.old.readable } }
+        ensures state { self.new
+            ≡ record { state = self.old.state; failed = true; readable = self.old.readable } }
         ensures value { result ≡ error }
     {
         self.failed = true;

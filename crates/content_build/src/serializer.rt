@@ -44,11 +44,11 @@ impl Serializer {
     /// The tree that the value's calls spell, with every text and byte value owned.
     ///
     /// Where the value's script stops, the error is of kind `Custom` with the stop's text. It is of
-    /// kind `OutOfMemory` where a growth was refused. No other error comes.
+    /// kind `OutOfMemory` where an allocation failed. No other error comes.
     pub fn serialize<T: Serialize>(self, alloc: Global, value: &T) -> Result<Value<'static>>
         ensures { Serialized (T.script value.now (is_readable self)) result }
     {
-        let mut builder: Builder<'static> = Builder::new(alloc, self.human_readable);
+        let mut builder = Builder::new(alloc, self.human_readable);
         value.serialize(alloc, &mut builder)?;
         builder.finish()
     }

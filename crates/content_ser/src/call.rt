@@ -83,7 +83,8 @@ impl<'a> Call<'a> {
     pub fn try_clone(&self, alloc: Global) -> Result<Call<'a>>
         ensures value { IfOk result (λ copy. event_of copy ≡ event_of self.now) }
         ensures kept { IfOk result (λ copy. text_part copy ≡ text_part self.now) }
-        ensures succeeds { IfSome (text_part self.now) (λ part. part.borrowed ≡ true) → IsOk result }
+        ensures succeeds { IfSome (text_part self.now) (λ part. part.borrowed ≡ true)
+            → IsOk result }
         ensures memory { IfErr result (λ e. IsOutOfMemory e) }
     {
         let copy = match self {

@@ -18,8 +18,9 @@ pub trait Serialize {
     /// Makes the calls of the script, one after another.
     ///
     /// `Ok` says that all of them were made and that the script has no stop. `Err` says that the
-    /// serialiser refused one of them, or that all were made and the script stops (`Custom` with
-    /// its text), or that memory was refused. A serialiser that has failed before refuses them all.
+    /// serialiser refused one of them, with its own error, and that no other was made after it; or
+    /// that all were made and the script stops (`Custom` with its text); or that an allocation
+    /// failed. A serialiser that has failed before refuses the first, as it refuses any call.
     fn serialize<S: Serializer>(&self, alloc: Global, serializer: &mut S) -> Result<()>
         ensures { Sends S.step S.refuses (S.seen serializer.old)
             (script self.now) result (S.seen serializer.new) };

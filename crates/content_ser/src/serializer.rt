@@ -15,8 +15,8 @@ use std::fmt::Display;
 ///
 /// An implementation names its state as plain data, which no code has to make, and the step that
 /// each call takes in it. A call that answers `Ok` takes that step and leaves the serialiser not
-/// failed. A call other than `collect_str` that answers `Err` leaves it failed: the step is none, or a
-/// growth was refused. A failed serialiser refuses every call and stays failed. No call changes
+/// failed. A call other than `collect_str` that answers `Err` leaves it failed: the step is none, or
+/// an allocation failed. A failed serialiser refuses every call and stays failed. No call changes
 /// whether it is for people to read.
 ///
 /// Names live as long as the program. `variant_index` is the variant's place in its enum, from 0. A
@@ -173,14 +173,16 @@ pub trait Serializer {
         variant_index: u32,
         variant: &'static str,
     ) -> Result<()>
-        ensures { Takes step refuses (seen self.old) (unit_variant name.now variant_index variant.now) result (seen self.new) }
+        ensures { Takes step refuses (seen self.old)
+            (unit_variant name.now variant_index variant.now) result (seen self.new) }
     {
         self.call(Call::UnitVariant(name, variant_index, variant))
     }
 
     /// A struct around one value, whose calls follow.
     final fn serialize_newtype_struct(&mut self, name: &'static str) -> Result<()>
-        ensures { Takes step refuses (seen self.old) (newtype_struct name.now) result (seen self.new) }
+        ensures { Takes step refuses (seen self.old) (newtype_struct name.now)
+            result (seen self.new) }
     {
         self.call(Call::NewtypeStruct(name))
     }
@@ -192,7 +194,8 @@ pub trait Serializer {
         variant_index: u32,
         variant: &'static str,
     ) -> Result<()>
-        ensures { Takes step refuses (seen self.old) (newtype_variant name.now variant_index variant.now) result (seen self.new) }
+        ensures { Takes step refuses (seen self.old)
+            (newtype_variant name.now variant_index variant.now) result (seen self.new) }
     {
         self.call(Call::NewtypeVariant(name, variant_index, variant))
     }
@@ -213,7 +216,8 @@ pub trait Serializer {
 
     /// Opens a struct of values by place.
     final fn serialize_tuple_struct(&mut self, name: &'static str, len: usize) -> Result<()>
-        ensures { Takes step refuses (seen self.old) (tuple_struct name.now len) result (seen self.new) }
+        ensures { Takes step refuses (seen self.old) (tuple_struct name.now len)
+            result (seen self.new) }
     {
         self.call(Call::TupleStruct(name, len))
     }
@@ -226,7 +230,8 @@ pub trait Serializer {
         variant: &'static str,
         len: usize,
     ) -> Result<()>
-        ensures { Takes step refuses (seen self.old) (tuple_variant name.now variant_index variant.now len) result (seen self.new) }
+        ensures { Takes step refuses (seen self.old)
+            (tuple_variant name.now variant_index variant.now len) result (seen self.new) }
     {
         self.call(Call::TupleVariant(name, variant_index, variant, len))
     }
@@ -240,7 +245,8 @@ pub trait Serializer {
 
     /// Opens a struct of values by key.
     final fn serialize_struct(&mut self, name: &'static str, len: usize) -> Result<()>
-        ensures { Takes step refuses (seen self.old) (structure name.now len) result (seen self.new) }
+        ensures { Takes step refuses (seen self.old) (structure name.now len)
+            result (seen self.new) }
     {
         self.call(Call::Struct(name, len))
     }
@@ -253,7 +259,8 @@ pub trait Serializer {
         variant: &'static str,
         len: usize,
     ) -> Result<()>
-        ensures { Takes step refuses (seen self.old) (struct_variant name.now variant_index variant.now len) result (seen self.new) }
+        ensures { Takes step refuses (seen self.old)
+            (struct_variant name.now variant_index variant.now len) result (seen self.new) }
     {
         self.call(Call::StructVariant(name, variant_index, variant, len))
     }
@@ -312,7 +319,8 @@ pub trait Serializer {
     /// It prints first: where memory for that is refused it makes no call, answers `OutOfMemory`
     /// and changes nothing, whatever the state.
     final fn collect_str<T: Display>(&mut self, alloc: Global, value: &T) -> Result<()>
-        ensures { Collects step refuses (seen self.old) (T.output value.now) result (seen self.new) }
+        ensures { Collects step refuses (seen self.old) (T.output value.now)
+            result (seen self.new) }
     {
         let text = format!(in alloc; "{value}")?;
         self.call(Call::Str(CowStr::Owned(text)))

@@ -1,7 +1,9 @@
-//! Tests of calls, builders and recorders by the facade, with expected values written by hand.
-mod building;
-mod calls;
+//! What needs a type, a serialiser or a session of its own, and the readme's examples, with expected
+//! values written by hand. All else is rows, which `content_rows` runs.
 mod examples;
+mod for_people;
+mod hostile;
 mod own_serializer;
 mod own_types;
-mod recording;
+mod sending;
+mod serialisers;

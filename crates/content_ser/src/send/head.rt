@@ -11,7 +11,8 @@ use content_tree::Result;
 
 /// The call of a head that holds nothing.
 pub fn call_unit<S: Serializer>(head: Head, serializer: &mut S) -> Result<()>
-    ensures { Takes S.step S.refuses (S.seen serializer.old) (unit_call (head_of head)) result (S.seen serializer.new) }
+    ensures { Takes S.step S.refuses (S.seen serializer.old) (unit_call (head_of head))
+        result (S.seen serializer.new) }
 {
     match head {
         Head::Struct(name) => serializer.serialize_unit_struct(name),
@@ -23,7 +24,8 @@ pub fn call_unit<S: Serializer>(head: Head, serializer: &mut S) -> Result<()>
 
 /// The call of a head that holds one value.
 pub fn call_newtype<S: Serializer>(head: Head, serializer: &mut S) -> Result<()>
-    ensures { Takes S.step S.refuses (S.seen serializer.old) (newtype_call (head_of head)) result (S.seen serializer.new) }
+    ensures { Takes S.step S.refuses (S.seen serializer.old) (newtype_call (head_of head))
+        result (S.seen serializer.new) }
 {
     match head {
         Head::Struct(name) => serializer.serialize_newtype_struct(name),
@@ -35,7 +37,8 @@ pub fn call_newtype<S: Serializer>(head: Head, serializer: &mut S) -> Result<()>
 
 /// The call of a head that holds values by place.
 pub fn call_tuple<S: Serializer>(head: Head, len: usize, serializer: &mut S) -> Result<()>
-    ensures { Takes S.step S.refuses (S.seen serializer.old) (tuple_call (head_of head) len) result (S.seen serializer.new) }
+    ensures { Takes S.step S.refuses (S.seen serializer.old) (tuple_call (head_of head) len)
+        result (S.seen serializer.new) }
 {
     match head {
         Head::Struct(name) => serializer.serialize_tuple_struct(name, len),
@@ -47,7 +50,8 @@ pub fn call_tuple<S: Serializer>(head: Head, len: usize, serializer: &mut S) -> 
 
 /// The call of a head that holds values by key.
 pub fn call_struct<S: Serializer>(head: Head, len: usize, serializer: &mut S) -> Result<()>
-    ensures { Takes S.step S.refuses (S.seen serializer.old) (struct_call (head_of head) len) result (S.seen serializer.new) }
+    ensures { Takes S.step S.refuses (S.seen serializer.old) (struct_call (head_of head) len)
+        result (S.seen serializer.new) }
 {
     match head {
         Head::Struct(name) => serializer.serialize_struct(name, len),

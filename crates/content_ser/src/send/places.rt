@@ -14,7 +14,9 @@ pub fn last_places<'a>(
     alloc: Global,
     fields: &'a Vec<(CowStr<'static>, Value<'_>)>,
 ) -> Result<BTreeMap<&'a str, usize>, AllocError>
-    ensures { IfOk result (λ places. StandsFor fields.now.items places.entries (sorted (map entry_of fields.now.items))) }
+    ensures { IfOk result
+        (λ places. StandsFor fields.now.items places.entries
+        (sorted (map entry_of fields.now.items))) }
 {
     let mut places = BTreeMap::new(alloc);
     for i in 0..fields.len() {

@@ -6,7 +6,7 @@ use Rattle.content_ser.proofs.Sending.{took_only}
 
 -- the flag that was read is sent
 pub told_flag : {S : Type 0} {step : Step S} {refuses : Refuses S} {old new : Seen S} {flag : Bool} {r : Answer}
-    → flag ≡ old.readable → Takes step refuses old (boolean flag) r new → Sends step old (λ h. call_then (boolean h) done) r new
+    → flag ≡ old.readable → Takes step refuses old (boolean flag) r new → Sends step refuses old (λ h. call_then (boolean h) done) r new
 told_flag {step} {refuses} {old} {new} {r} e t =
     let sent = took_only (subst (λ b. Takes step refuses old (boolean b) r new) e t) in
     record {

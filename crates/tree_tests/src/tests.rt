@@ -1,7 +1,0 @@
-//! Conversions, copies, comparisons and printed texts.
-mod conversions;
-mod copies;
-mod every_case;
-mod images;
-mod order;
-mod texts;
