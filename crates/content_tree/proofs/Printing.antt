@@ -1,6 +1,14 @@
 -- Lists that are being printed, item by item.
-use Rattle.std.proofs.Common.{◌≡◌, ℕ, suc, ◌+◌, ◌<◌, List, [], ◌∷◌, ◌++◌, codes, flat_map, length, drop, get_or, sym, ap, ◌∙◌, append-nil, append_assoc, add-one, drop-cons}
-use Rattle.std.specs.Fmt.{decimal}
+use Rattle.std.proofs.Common.{◌≡◌, refl, ℕ, suc, ◌+◌, ◌<◌, List, [], ◌∷◌, ◌++◌, codes, flat_map, length, drop, get_or, sym, ap, ◌∙◌, append-nil, append_assoc, add-one, drop-cons, Option, Some, None}
+use Rattle.std.specs.Prelude.{IsOk}
+use Rattle.std.specs.Fmt.{decimal, HasWrittenStyled, WritesStyledOnOk, DisplaysStyledOnOk, WritesText}
+use Rattle.std.specs.declared.fmt.Error.{Error}
+use Rattle.std.specs.declared.fmt.Formatter.{Formatter}
+use Rattle.std.specs.declared.result.Result.{Result}
+use Rattle.std.proofs.Output.{has_written_styled_of_eq, has_written_styled_append}
+use Rattle.std.specs.declared.fmt.InlineText.{InlineText}
+use Rattle.std.specs.Fmt.InlineText.{inline_text, IsIntact, AppendsIfIntact}
+use Rattle.std.specs.List.{concat, FoldsTo}
 use Rattle.std.specs.Prelude.{string_bytes}
 use Rattle.std.specs.declared.alloc.Global.{Global}
 use Rattle.std.specs.declared.string.String.{String}
@@ -53,3 +61,37 @@ pub next_member : (done lead : List ℕ) (xs : List (String Global × Found)) (i
 next_member done lead xs i x whole here so_far =
     append_assoc done _ _ ∙ ap (λ r. done ++ r) (append_assoc lead _ _ ∙ ap (λ r. lead ++ r) (append_assoc (string_bytes x.0) _ _ ∙ ap (λ r. string_bytes x.0 ++ r) (append_assoc (codes ": ") (printed (image_view x.1)) (printed_members (codes ", ") (members_view (drop (i + 1) xs))))))
     ∙ ap (λ r. done ++ printed_members lead (members_view r)) (sym here) ∙ so_far
+
+-- two to four writes in a row, under any options
+module _ {W : Type 0} (took : W → List ℕ → W → Type 0) where
+  pub two_writes : (f g h : Formatter W) (a b all : List ℕ) →
+      HasWrittenStyled took f a g → HasWrittenStyled took g b h → a ++ b ≡ all → HasWrittenStyled took f all h
+  two_writes f g h a b all p q is = has_written_styled_of_eq took _ _ all _ is (has_written_styled_append took _ _ _ _ _ p q)
+
+  pub three_writes : (f g h i : Formatter W) (a b c all : List ℕ) →
+      HasWrittenStyled took f a g → HasWrittenStyled took g b h → HasWrittenStyled took h c i →
+      a ++ (b ++ c) ≡ all → HasWrittenStyled took f all i
+  three_writes f g h i a b c all p q r is = two_writes f g i a (b ++ c) all p (two_writes g h i b c (b ++ c) q r refl) is
+
+  pub four_writes : (f g h i j : Formatter W) (a b c d all : List ℕ) →
+      HasWrittenStyled took f a g → HasWrittenStyled took g b h → HasWrittenStyled took h c i → HasWrittenStyled took i d j →
+      a ++ (b ++ (c ++ d)) ≡ all → HasWrittenStyled took f all j
+  four_writes f g h i j a b c d all p q r s is =
+      two_writes f g j a (b ++ (c ++ d)) all p (three_writes g h i j b c d _ q r s refl) is
+
+-- several writes append what they wrote together
+appended : {n : ℕ} (s : InlineText n) (parts : List (List ℕ)) (t : InlineText n) → FoldsTo AppendsIfIntact s parts t → IsIntact s →
+    inline_text t ≡ inline_text s ++ concat parts
+appended s [] t same intact = ap inline_text (sym same) ∙ sym (append-nil (inline_text s))
+appended s (x ∷ parts) t calls intact =
+    let first = calls.1 intact in
+    appended calls.0 parts t calls.2 first.0 ∙ ap (λ l. l ++ concat parts) first.1 ∙ append_assoc (inline_text s) x (concat parts)
+
+-- what an empty text took, written from it
+pub shown_bare : {W : Type 0} {n : ℕ} (took : W → List ℕ → W → Type 0) (o : Option (List ℕ)) (s t : InlineText n) (f g : Formatter W) (r : Result (Unit {0}) Error) →
+    IsIntact s → inline_text s ≡ [] → WritesText AppendsIfIntact s o t → WritesStyledOnOk took f r (inline_text t) g →
+    DisplaysStyledOnOk took f r o g
+shown_bare took None s t f g r intact empty wrote then = tt
+shown_bare took (Some bs) s t f g r intact empty wrote then = λ flush ok.
+    let text = appended s wrote.parts t wrote.calls intact ∙ (λ i. empty i ++ wrote.whole i) in
+    has_written_styled_of_eq took f (inline_text t) bs g text (then flush ok)

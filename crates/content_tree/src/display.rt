@@ -1,6 +1,8 @@
 //! The printed text of images.
-ghost use Rattle.std.specs.Prelude.{Some, string_bytes, codes, ◌++◌, []};
-ghost use Rattle.std.specs.Fmt.{WritesOnOk, decimal};
+#![tactic(auto, using(crate::proofs::Printing::two_writes, crate::proofs::Printing::three_writes, crate::proofs::Printing::four_writes))]
+
+ghost use Rattle.std.specs.Prelude.{Some, string_bytes, codes, encode_utf8, ◌++◌, []};
+ghost use Rattle.std.specs.Fmt.{WritesStyledOnOk, DisplaysStyledOnOk, decimal};
 ghost use Rattle.content_tree.specs.Printed.{printed, printed_content, printed_list, printed_entries, printed_members, byte_list, number_text};
 ghost use Rattle.content_tree.specs.Image.{named};
 ghost use Rattle.content_tree.specs.Found.{image_view, content_view, images_view, entries_view, members_view, held_image};
@@ -9,11 +11,14 @@ use crate::found::{Found, FoundData};
 use crate::number::Number;
 use crate::quote::write_quoted;
 use std::fmt;
+use std::fmt::Write;
 
 /// The text of an image as `serde-content` prints it: `Foo::Bar(true, 'a')`, `{ "k": 1u8 }`. Names,
 /// keys and characters stand as they are, so it isn't always what a program could say.
 impl fmt::Display for Found {
     ghost output = { λ f. Some (printed (image_view f)) };
+
+    ghost styled_output = { λ f _options. Some (printed (image_view f)) };
 
     fn fmt<W: fmt::Write>(&self, f: &mut fmt::Formatter<W>) -> fmt::Result {
         write_found(self, f)
@@ -22,52 +27,32 @@ impl fmt::Display for Found {
 
 #[cycle(print)]
 fn write_found<W: fmt::Write>(found: &Found, f: &mut fmt::Formatter<W>) -> fmt::Result
-    ensures { WritesOnOk W.write_str_gives f.old result (printed (image_view found.now)) f.new }
+    ensures { WritesStyledOnOk W.write_str_gives f.old result (printed (image_view found.now)) f.new }
 {
     match found {
         Found::Unit => f.write_str("()"),
-        Found::Bool(b) => write!(f, "{b}"),
+        Found::Bool(boolean) => f.write_str(if *boolean { "true" } else { "false" }),
         Found::Number(n) => write_number(n, f),
-        Found::Char(c) => write!(f, "'{c}'"),
+        Found::Char(character) => write_character(*character, f),
         Found::String(text) => write_quoted(text.as_str(), f),
         Found::Bytes(bytes) => write_bytes(bytes.as_slice(), f),
-        Found::Seq(items) => {
-            f.write_str("[")?;
-            write_items(items, f)?;
-            f.write_str("]")
-        }
-        Found::Map(pairs) => {
-            f.write_str("{ ")?;
-            write_pairs(pairs, f)?;
-            f.write_str(" }")
-        }
+        Found::Seq(items) => write_list("[", items, "]", f),
+        Found::Map(pairs) => write_map(pairs, f),
         Found::Option(held) => write_held(held, f),
-        Found::Struct { name, data } => {
-            f.write_str(name.as_str())?;
-            write_data(data, f)
-        }
+        Found::Struct { name, data } => write_struct(name, data, f),
         Found::Enum {
             name,
             variant,
             data,
-        } => {
-            f.write_str(name.as_str())?;
-            f.write_str("::")?;
-            f.write_str(variant.as_str())?;
-            write_data(data, f)
-        }
-        Found::Tuple(items) => {
-            f.write_str("(")?;
-            write_items(items, f)?;
-            f.write_str(")")
-        }
+        } => write_enum(name, variant, data, f),
+        Found::Tuple(items) => write_list("(", items, ")", f),
         Found::Identifier(text) => f.write_str(text.as_str()),
     }
 }
 
 #[cycle(print)]
 fn write_held<W: fmt::Write>(held: &Option<Box<Found>>, f: &mut fmt::Formatter<W>) -> fmt::Result
-    ensures { WritesOnOk W.write_str_gives f.old result (printed (held_image held.now)) f.new }
+    ensures { WritesStyledOnOk W.write_str_gives f.old result (printed (held_image held.now)) f.new }
 {
     match held {
         None => f.write_str("None"),
@@ -79,23 +64,79 @@ fn write_held<W: fmt::Write>(held: &Option<Box<Found>>, f: &mut fmt::Formatter<W
     }
 }
 
+#[cycle(print)]
+fn write_list<W: fmt::Write>(
+    before: &str,
+    items: &Vec<Found>,
+    after: &str,
+    f: &mut fmt::Formatter<W>,
+) -> fmt::Result
+    ensures { WritesStyledOnOk W.write_str_gives f.old result
+        (before.now ++ (printed_list [] (images_view items.now.items) ++ after.now)) f.new }
+{
+    f.write_str(before)?;
+    write_items(items, f)?;
+    f.write_str(after)
+}
+
+#[cycle(print)]
+fn write_map<W: fmt::Write>(pairs: &Vec<(Found, Found)>, f: &mut fmt::Formatter<W>) -> fmt::Result
+    ensures { WritesStyledOnOk W.write_str_gives f.old result
+        (codes "{ " ++ (printed_entries [] (entries_view pairs.now.items) ++ codes " }")) f.new }
+{
+    f.write_str("{ ")?;
+    write_pairs(pairs, f)?;
+    f.write_str(" }")
+}
+
+#[cycle(print)]
+fn write_newtype<W: fmt::Write>(value: &Found, f: &mut fmt::Formatter<W>) -> fmt::Result
+    ensures { WritesStyledOnOk W.write_str_gives f.old result
+        (codes "(" ++ (printed (image_view value.now) ++ codes ")")) f.new }
+{
+    f.write_str("(")?;
+    write_found(value, f)?;
+    f.write_str(")")
+}
+
+#[cycle(print)]
+fn write_struct<W: fmt::Write>(
+    name: &String,
+    inside: &FoundData,
+    f: &mut fmt::Formatter<W>,
+) -> fmt::Result
+    ensures { WritesStyledOnOk W.write_str_gives f.old result
+        (string_bytes name.now ++ printed_content (content_view inside.now)) f.new }
+{
+    f.write_str(name.as_str())?;
+    write_data(inside, f)
+}
+
+#[cycle(print)]
+fn write_enum<W: fmt::Write>(
+    name: &String,
+    variant: &String,
+    inside: &FoundData,
+    f: &mut fmt::Formatter<W>,
+) -> fmt::Result
+    ensures { WritesStyledOnOk W.write_str_gives f.old result
+        (string_bytes name.now ++ (codes "::"
+        ++ (string_bytes variant.now ++ printed_content (content_view inside.now)))) f.new }
+{
+    f.write_str(name.as_str())?;
+    f.write_str("::")?;
+    write_struct(variant, inside, f)
+}
+
 /// Writes what follows the name of a struct or a variant.
 #[cycle(print)]
 fn write_data<W: fmt::Write>(inside: &FoundData, f: &mut fmt::Formatter<W>) -> fmt::Result
-    ensures { WritesOnOk W.write_str_gives f.old result (printed_content (content_view inside.now)) f.new }
+    ensures { WritesStyledOnOk W.write_str_gives f.old result (printed_content (content_view inside.now)) f.new }
 {
     match inside {
         FoundData::Unit => Ok(()),
-        FoundData::NewType(value) => {
-            f.write_str("(")?;
-            write_found(value, f)?;
-            f.write_str(")")
-        }
-        FoundData::Tuple(items) => {
-            f.write_str("(")?;
-            write_items(items, f)?;
-            f.write_str(")")
-        }
+        FoundData::NewType(value) => write_newtype(value, f),
+        FoundData::Tuple(items) => write_list("(", items, ")", f),
         FoundData::Struct(fields) => write_named(fields, f),
     }
 }
@@ -105,7 +146,7 @@ fn write_named<W: fmt::Write>(
     fields: &Vec<(String, Found)>,
     f: &mut fmt::Formatter<W>,
 ) -> fmt::Result
-    ensures { WritesOnOk W.write_str_gives f.old result (printed_content (named (members_view fields.now.items))) f.new }
+    ensures { WritesStyledOnOk W.write_str_gives f.old result (printed_content (named (members_view fields.now.items))) f.new }
 {
     f.write_str(" { ")?;
     write_fields(fields, f)?;
@@ -115,7 +156,7 @@ fn write_named<W: fmt::Write>(
 /// Writes what leads to an item, nothing or a comma, and the item.
 #[cycle(print)]
 fn write_item<W: fmt::Write>(lead: &str, item: &Found, f: &mut fmt::Formatter<W>) -> fmt::Result
-    ensures { WritesOnOk W.write_str_gives f.old result (lead.now ++ printed (image_view item.now)) f.new }
+    ensures { WritesStyledOnOk W.write_str_gives f.old result (lead.now ++ printed (image_view item.now)) f.new }
 {
     f.write_str(lead)?;
     write_found(item, f)
@@ -129,7 +170,7 @@ fn write_field<W: fmt::Write>(
     value: &Found,
     f: &mut fmt::Formatter<W>,
 ) -> fmt::Result
-    ensures { WritesOnOk W.write_str_gives f.old result (lead.now ++ (string_bytes key.now ++ (codes ": " ++ printed (image_view value.now)))) f.new }
+    ensures { WritesStyledOnOk W.write_str_gives f.old result (lead.now ++ (string_bytes key.now ++ (codes ": " ++ printed (image_view value.now)))) f.new }
 {
     f.write_str(lead)?;
     f.write_str(key.as_str())?;
@@ -138,15 +179,15 @@ fn write_field<W: fmt::Write>(
 }
 
 fn write_byte<W: fmt::Write>(lead: &str, byte: u8, f: &mut fmt::Formatter<W>) -> fmt::Result
-    ensures { WritesOnOk W.write_str_gives f.old result (lead.now ++ decimal byte) f.new }
+    ensures { WritesStyledOnOk W.write_str_gives f.old result (lead.now ++ decimal byte) f.new }
 {
     f.write_str(lead)?;
-    write!(f, "{byte}")
+    write_bare(byte, f)
 }
 
 #[cycle(print)]
 fn write_items<W: fmt::Write>(items: &Vec<Found>, f: &mut fmt::Formatter<W>) -> fmt::Result
-    ensures { WritesOnOk W.write_str_gives f.old result (printed_list [] (images_view items.now.items)) f.new }
+    ensures { WritesStyledOnOk W.write_str_gives f.old result (printed_list [] (images_view items.now.items)) f.new }
 {
     let mut lead = "";
     for item in items {
@@ -158,7 +199,7 @@ fn write_items<W: fmt::Write>(items: &Vec<Found>, f: &mut fmt::Formatter<W>) -> 
 
 #[cycle(print)]
 fn write_pairs<W: fmt::Write>(pairs: &Vec<(Found, Found)>, f: &mut fmt::Formatter<W>) -> fmt::Result
-    ensures { WritesOnOk W.write_str_gives f.old result (printed_entries [] (entries_view pairs.now.items)) f.new }
+    ensures { WritesStyledOnOk W.write_str_gives f.old result (printed_entries [] (entries_view pairs.now.items)) f.new }
 {
     let mut lead = "";
     for (key, value) in pairs {
@@ -174,7 +215,7 @@ fn write_fields<W: fmt::Write>(
     fields: &Vec<(String, Found)>,
     f: &mut fmt::Formatter<W>,
 ) -> fmt::Result
-    ensures { WritesOnOk W.write_str_gives f.old result (printed_members [] (members_view fields.now.items)) f.new }
+    ensures { WritesStyledOnOk W.write_str_gives f.old result (printed_members [] (members_view fields.now.items)) f.new }
 {
     let mut lead = "";
     for (key, value) in fields {
@@ -185,7 +226,7 @@ fn write_fields<W: fmt::Write>(
 }
 
 fn write_bytes<W: fmt::Write>(bytes: &[u8], f: &mut fmt::Formatter<W>) -> fmt::Result
-    ensures { WritesOnOk W.write_str_gives f.old result (codes "&[" ++ (byte_list [] bytes.now ++ codes "]")) f.new }
+    ensures { WritesStyledOnOk W.write_str_gives f.old result (codes "&[" ++ (byte_list [] bytes.now ++ codes "]")) f.new }
 {
     f.write_str("&[")?;
     write_byte_list(bytes, f)?;
@@ -193,7 +234,7 @@ fn write_bytes<W: fmt::Write>(bytes: &[u8], f: &mut fmt::Formatter<W>) -> fmt::R
 }
 
 fn write_byte_list<W: fmt::Write>(bytes: &[u8], f: &mut fmt::Formatter<W>) -> fmt::Result
-    ensures { WritesOnOk W.write_str_gives f.old result (byte_list [] bytes.now) f.new }
+    ensures { WritesStyledOnOk W.write_str_gives f.old result (byte_list [] bytes.now) f.new }
 {
     let mut lead = "";
     for byte in bytes {
@@ -203,20 +244,40 @@ fn write_byte_list<W: fmt::Write>(bytes: &[u8], f: &mut fmt::Formatter<W>) -> fm
     Ok(())
 }
 
+fn write_character<W: fmt::Write>(character: char, f: &mut fmt::Formatter<W>) -> fmt::Result
+    ensures { WritesStyledOnOk W.write_str_gives f.old result (codes "'" ++ (encode_utf8 character ++ codes "'")) f.new }
+{
+    f.write_str("'")?;
+    f.write_char(character)?;
+    f.write_str("'")
+}
+
+/// Writes a short text of at most 64 bytes as `{}` does, whatever the options of the formatter.
+pub(crate) fn write_bare<W: fmt::Write, T: fmt::Display + Drop>(
+    shown: T,
+    f: &mut fmt::Formatter<W>,
+) -> fmt::Result
+    ensures { DisplaysStyledOnOk W.write_str_gives f.old result (T.output shown) f.new }
+{
+    let mut text = fmt::InlineText::<64>::new();
+    text.write(shown)?;
+    f.write_str(text.as_str())
+}
+
 /// Writes a number in decimal, with its kind at once.
 fn write_number<W: fmt::Write>(number: &Number, f: &mut fmt::Formatter<W>) -> fmt::Result
-    ensures { WritesOnOk W.write_str_gives f.old result (number_text number.now) f.new }
+    ensures { WritesStyledOnOk W.write_str_gives f.old result (number_text number.now) f.new }
 {
     match number {
-        Number::I8(n) => write!(f, "{n}i8"),
-        Number::U8(n) => write!(f, "{n}u8"),
-        Number::I16(n) => write!(f, "{n}i16"),
-        Number::U16(n) => write!(f, "{n}u16"),
-        Number::I32(n) => write!(f, "{n}i32"),
-        Number::U32(n) => write!(f, "{n}u32"),
-        Number::I64(n) => write!(f, "{n}i64"),
-        Number::U64(n) => write!(f, "{n}u64"),
-        Number::I128(n) => write!(f, "{n}i128"),
-        Number::U128(n) => write!(f, "{n}u128"),
+        Number::I8(n) => write_bare(format_args!("{n}i8"), f),
+        Number::U8(n) => write_bare(format_args!("{n}u8"), f),
+        Number::I16(n) => write_bare(format_args!("{n}i16"), f),
+        Number::U16(n) => write_bare(format_args!("{n}u16"), f),
+        Number::I32(n) => write_bare(format_args!("{n}i32"), f),
+        Number::U32(n) => write_bare(format_args!("{n}u32"), f),
+        Number::I64(n) => write_bare(format_args!("{n}i64"), f),
+        Number::U64(n) => write_bare(format_args!("{n}u64"), f),
+        Number::I128(n) => write_bare(format_args!("{n}i128"), f),
+        Number::U128(n) => write_bare(format_args!("{n}u128"), f),
     }
 }

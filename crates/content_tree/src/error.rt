@@ -1,4 +1,6 @@
 //! Errors.
+#![tactic(auto, using(crate::proofs::Printing::two_writes, crate::proofs::Printing::three_writes, crate::proofs::Printing::four_writes))]
+
 ghost use Rattle.std.specs.Prelude.{◌≡◌, Some};
 ghost use Rattle.content_tree.specs.Kind.{kind_of, IsOutOfMemory, IsCustomOrMemory};
 ghost use Rattle.content_tree.specs.declared.error.ErrorKind.TheVariants.{Unexpected};
@@ -8,6 +10,7 @@ use crate::expected::Expected;
 use crate::found::Found;
 use std::alloc::{AllocError, AllocFailed, Global};
 use std::fmt;
+use std::fmt::Display;
 
 /// The answer of a call that may be refused.
 pub type Result<T> = std::result::Result<T, Error>;
@@ -118,13 +121,15 @@ impl Error {
 impl fmt::Display for ErrorKind {
     ghost output = { λ e. Some (kind_text e) };
 
+    ghost styled_output = { λ e _options. Some (kind_text e) };
+
     fn fmt<W: fmt::Write>(&self, f: &mut fmt::Formatter<W>) -> fmt::Result {
         match self {
             ErrorKind::Unexpected { found, expected } => {
-                write!(
-                    f,
-                    "failed to deserialize; expected {expected}, found {found}"
-                )
+                f.write_str("failed to deserialize; expected ")?;
+                expected.fmt(f)?;
+                f.write_str(", found ")?;
+                found.fmt(f)
             }
             ErrorKind::Custom(text) => f.write_str(text.as_str()),
             ErrorKind::OutOfMemory => f.write_str("out of memory"),
@@ -137,6 +142,8 @@ impl fmt::Display for ErrorKind {
 
 impl fmt::Display for Error {
     ghost output = { λ e. Some (error_text e) };
+
+    ghost styled_output = { λ e _options. Some (error_text e) };
 
     fn fmt<W: fmt::Write>(&self, f: &mut fmt::Formatter<W>) -> fmt::Result {
         self.kind.fmt(f)

@@ -1,9 +1,13 @@
 //! What was expected, for errors.
+#![tactic(auto, using(crate::proofs::Printing::two_writes, crate::proofs::Printing::three_writes, crate::proofs::Printing::four_writes))]
+
 ghost use Rattle.std.specs.Prelude.{Some};
-ghost use Rattle.std.specs.Fmt.{WritesOnOk};
+ghost use Rattle.std.specs.Fmt.{WritesStyledOnOk};
 ghost use Rattle.content_tree.specs.Texts.{type_text, typed, with_name, expected_text};
 
+use crate::display::write_bare;
 use std::fmt;
+use std::fmt::Display;
 
 /// What a struct or a variant holds: nothing, one value, values by place or values by key.
 #[derive(Clone, Copy, Debug, PartialEq, Eq, PartialOrd, Ord)]
@@ -80,6 +84,8 @@ pub enum Expected {
 impl fmt::Display for DataType {
     ghost output = { λ t. Some (type_text t) };
 
+    ghost styled_output = { λ t _options. Some (type_text t) };
+
     fn fmt<W: fmt::Write>(&self, f: &mut fmt::Formatter<W>) -> fmt::Result {
         f.write_str(match self {
             DataType::Unit => "a unit",
@@ -92,6 +98,8 @@ impl fmt::Display for DataType {
 
 impl fmt::Display for Expected {
     ghost output = { λ e. Some (expected_text e) };
+
+    ghost styled_output = { λ e _options. Some (expected_text e) };
 
     fn fmt<W: fmt::Write>(&self, f: &mut fmt::Formatter<W>) -> fmt::Result {
         match self {
@@ -111,7 +119,7 @@ impl fmt::Display for Expected {
                 write_typed("an enum variant", " enum variant", typ, f)?;
                 write_name(" of ", name, f)
             }
-            Expected::Tuple(n) => write!(f, "a tuple with {n} elements"),
+            Expected::Tuple(n) => write_bare(format_args!("a tuple with {n} elements"), f),
             Expected::Identifier => f.write_str("a struct field name or an enum variant"),
             Expected::I8 => f.write_str("an 8-bit signed integer"),
             Expected::U8 => f.write_str("an 8-bit unsigned integer"),
@@ -133,12 +141,12 @@ fn write_typed<W: fmt::Write>(
     typ: &Option<DataType>,
     f: &mut fmt::Formatter<W>,
 ) -> fmt::Result
-    ensures { WritesOnOk W.write_str_gives f.old result (typed alone.now noun.now typ.now) f.new }
+    ensures { WritesStyledOnOk W.write_str_gives f.old result (typed alone.now noun.now typ.now) f.new }
 {
     match typ {
         None => f.write_str(alone),
         Some(typ) => {
-            write!(f, "{typ}")?;
+            typ.fmt(f)?;
             f.write_str(noun)
         }
     }
@@ -149,7 +157,7 @@ fn write_name<W: fmt::Write>(
     name: &Option<String>,
     f: &mut fmt::Formatter<W>,
 ) -> fmt::Result
-    ensures { WritesOnOk W.write_str_gives f.old result (with_name link.now name.now) f.new }
+    ensures { WritesStyledOnOk W.write_str_gives f.old result (with_name link.now name.now) f.new }
 {
     match name {
         None => Ok(()),
