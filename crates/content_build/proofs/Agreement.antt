@@ -1,12 +1,16 @@
 -- The machine and the grammar agree.
-use Rattle.std.proofs.Common.{◌≡◌, List, [], ◌∷◌, ◌++◌, Option, Some, None, refl, sym, ap, ◌∙◌, option_and_then, IsSome}
-use Rattle.content_tree.specs.Tree as tree
-use Rattle.content_tree.specs.Tree.{Tree, Trees, no_trees, tree_then, Pairs, no_pairs, pair_then, Fields, no_fields, field_then}
-use Rattle.content_ser.specs.Event as event
-use Rattle.content_ser.specs.Event.{Event}
-use Rattle.content_ser.specs.Kind.{wrapped}
-use Rattle.content_ser.specs.Spells.{SpellsWhole, IsWhole, IsViable}
-use Rattle.content_build.specs.Partial.{Partial, Place, Compound, due, between, done, in_row, in_map, in_record, child, element, key, value, entry_key, entry_value, field_value, fill, closed, step, run, fresh}
+use Rattle.std.proofs.Common.{◌≡◌, List, [], ◌∷◌, ◌++◌, Option, Some, None, refl, sym, ap, ◌∙◌}
+use Rattle.std.proofs.Common.{option_and_then, IsSome}
+use Rattle.content_tree.specs.Values.Tree as tree
+use Rattle.content_tree.specs.Values.Tree.{Tree, Trees, no_trees, tree_then, Pairs, no_pairs}
+use Rattle.content_tree.specs.Values.Tree.{pair_then, Fields, no_fields, field_then}
+use Rattle.content_ser.specs.Calls.Event as event
+use Rattle.content_ser.specs.Calls.Event.{Event}
+use Rattle.content_ser.specs.Grammar.Token.{wrapped}
+use Rattle.content_ser.specs.Grammar.Spells.{SpellsWhole, IsWhole, IsViable}
+use Rattle.content_build.specs.Partial.{Partial, Slot, Compound, due, between, done, in_row, in_map}
+use Rattle.content_build.specs.Partial.{in_record, child, element, key, value, entry_key}
+use Rattle.content_build.specs.Partial.{entry_value, field_value, fill, closed, step, run, fresh}
 use Rattle.content_build.proofs.Forward.{run-spells}
 use Rattle.content_build.proofs.Backward.{whole_from_run, run-of_kinds}
 
@@ -26,7 +30,7 @@ run-append (call ∷ a) b s = next (step s call) (λ n. run-append a b n)
     next (Some n) ih = ih n
 
 -- calls that finish what is open
-abbrev pub closing_places : List Place → List Event
+abbrev pub closing_places : List Slot → List Event
 closing_places [] = []
 closing_places (child w ∷ ps) = closing_places ps
 closing_places (entry_key prs ∷ ps) = event.unit ∷ event.end ∷ closing_places ps
@@ -41,12 +45,12 @@ closing (due ps) = event.unit ∷ closing_places ps
 closing (between c ps) = event.end ∷ closing_places ps
 closing (done t) = []
 
-follow-end : (c : Compound) (ps : List Place) → step (between c ps) event.end ≡ Some (fill ps (closed c))
+follow-end : (c : Compound) (ps : List Slot) → step (between c ps) event.end ≡ Some (fill ps (closed c))
 follow-end (in_row r ts) ps = refl
 follow-end (in_map prs) ps = refl
 follow-end (in_record r fs) ps = refl
 
-pub closes : (ps : List Place) (u : Tree) → (t : Tree) × (run (fill ps u) (closing_places ps) ≡ Some (done t))
+pub closes : (ps : List Slot) (u : Tree) → (t : Tree) × (run (fill ps u) (closing_places ps) ≡ Some (done t))
 closes [] u = (u, refl)
 closes (child w ∷ ps) u = closes ps (wrapped w u)
 closes (entry_key prs ∷ ps) u = closes ps _

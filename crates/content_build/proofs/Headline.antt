@@ -1,25 +1,30 @@
 -- From the states of a run to what a list of calls is answered.
-use Rattle.std.proofs.Common.{◌≡◌, ◌≢◌, ℕ, zero, suc, ◌+◌, ◌<◌, ◌≤◌, false, List, [], ◌∷◌, ◌++◌, length, take, drop, get_or, Option, Some, None, IsSome, Result, Ok, Err, refl, sym, ap, subst, ◌∙◌, option_and_then, arith, append_assoc, inl, inr, ⊎_elim}
+use Rattle.std.proofs.Common.{◌≡◌, ◌≢◌, ℕ, zero, suc, ◌+◌, ◌<◌, ◌≤◌, false, List, [], ◌∷◌, ◌++◌}
+use Rattle.std.proofs.Common.{length, take, drop, get_or, Option, Some, None, IsSome, Result, Ok}
+use Rattle.std.proofs.Common.{Err, refl, sym, ap, subst, ◌∙◌, option_and_then, arith, append_assoc}
+use Rattle.std.proofs.Common.{inl, inr, ⊎_elim}
 use Rattle.std.proofs.lemmas.List.{take_more, take-append-drop, take_all}
 use Rattle.std.proofs.lemmas.Bool.{cases_lt}
-use Rattle.content_tree.specs.Kind.{kind_of, IsOutOfMemory}
-use Rattle.content_tree.specs.Tree.{Tree}
-use Rattle.content_tree.specs.Value.{tree_of}
+use Rattle.content_tree.specs.Errors.Kind.{kind_of, IsOutOfMemory}
+use Rattle.content_tree.specs.Values.Tree.{Tree}
+use Rattle.content_tree.specs.Values.Value.{tree_of}
 use Rattle.content_tree.specs.declared.error.Error.{Error}
 use Rattle.content_tree.specs.declared.error.ErrorKind.{ErrorKind}
-use Rattle.content_tree.specs.declared.error.ErrorKind.TheVariants.{Unexpected, Custom, OutOfMemory, Misplaced, Failed, Unfinished}
+use Rattle.content_tree.specs.declared.error.ErrorKind.TheVariants.{Unexpected, Custom, OutOfMemory}
+use Rattle.content_tree.specs.declared.error.ErrorKind.TheVariants.{Misplaced, Failed, Unfinished}
 use Rattle.content_tree.specs.declared.value.NamedValue.{NamedValue}
-use Rattle.content_ser.specs.Call.{event_of, events_of}
-use Rattle.content_ser.specs.Event.{Event}
-use Rattle.content_ser.specs.Lawful.{Seen, Takes}
-use Rattle.content_ser.specs.Spells.{SpellsWhole, IsWhole, IsViable}
+use Rattle.content_ser.specs.Calls.Call.{event_of, events_of}
+use Rattle.content_ser.specs.Calls.Event.{Event}
+use Rattle.content_ser.specs.Serializers.Step.{Seen, Takes}
+use Rattle.content_ser.specs.Grammar.Spells.{SpellsWhole, IsWhole, IsViable}
 use Rattle.content_ser.specs.declared.call.Call.{Call}
 use Rattle.content_build.specs.Answers.{IsRefusal, IsAnswer, IfTaken, IfRefused}
 use Rattle.content_build.specs.Builder.{refuses, Finishes}
 use Rattle.content_build.specs.Partial.{Partial, due, between, done, step, run, fresh}
 use Rattle.content_build.specs.declared.calls_error.CallsError.{CallsError}
 use Rattle.content_build.proofs.Backward.{whole_from_run}
-use Rattle.content_build.proofs.Agreement.{run_from_whole, run-append, viable_from_run, run_from_viable, one_tree}
+use Rattle.content_build.proofs.Agreement.{run_from_whole, run-append, viable_from_run}
+use Rattle.content_build.proofs.Agreement.{run_from_viable, one_tree}
 
 pub length-events : (calls : List Call) → length (events_of calls) ≡ length calls
 length-events [] = refl

@@ -1,15 +1,16 @@
 -- Trees of lists, one more at the end.
-use Rattle.std.proofs.Common.{◌≡◌, ℕ, zero, suc, List, [], ◌∷◌, ◌++◌, length, get_or, refl, ap, arith, map}
+use Rattle.std.proofs.Common.{◌≡◌, ℕ, zero, suc, List, [], ◌∷◌, ◌++◌, length, get_or, refl, ap}
+use Rattle.std.proofs.Common.{arith, map}
 use Rattle.std.proofs.Math.ListN.{set}
 use Rattle.std.proofs.lemmas.List.{reverse-append}
-use Rattle.content_tree.specs.Text.{text_of}
-use Rattle.content_tree.specs.Tree as tree
-use Rattle.content_tree.specs.Value.{tree_of, trees_view, pairs_view, fields_view}
+use Rattle.content_tree.specs.Values.Text.{text_of}
+use Rattle.content_tree.specs.Values.Tree as tree
+use Rattle.content_tree.specs.Values.Value.{tree_of, trees_view, pairs_view, fields_view}
 use Rattle.content_tree.specs.declared.cow.CowStr.{CowStr}
 use Rattle.content_tree.specs.declared.value.NamedValue.{NamedValue}
 use Rattle.content_build.specs.Partial.{push_tree, push_pair, push_field, set_last}
-use Rattle.content_build.specs.Frames.{place_view, places_view}
-use Rattle.content_build.specs.declared.places.Place.{Place}
+use Rattle.content_build.specs.Inner.Frames.{slot_view, slots_view}
+use Rattle.content_build.specs.declared.slots.Slot.{Slot}
 
 pub trees_view-push : (vs : List NamedValue) (v : NamedValue) → trees_view (vs ++ v ∷ []) ≡ push_tree (trees_view vs) (tree_of v)
 trees_view-push [] v = refl
@@ -25,8 +26,8 @@ pub fields_view-push : (fs : List (CowStr × NamedValue)) (f : CowStr × NamedVa
 fields_view-push [] f = refl
 fields_view-push (g ∷ gs) f = ap (tree.field_then (text_of g.0) (tree_of g.1)) (fields_view-push gs f)
 
-pub places_view-push : (ps : List Place) (p : Place) → places_view (ps ++ p ∷ []) ≡ place_view p ∷ places_view ps
-places_view-push ps p = ap (map place_view) (reverse-append ps (p ∷ []))
+pub slots_view-push : (ps : List Slot) (p : Slot) → slots_view (ps ++ p ∷ []) ≡ slot_view p ∷ slots_view ps
+slots_view-push ps p = ap (map slot_view) (reverse-append ps (p ∷ []))
 
 pub set_last_at : (ps : List (NamedValue × NamedValue)) (i : ℕ) → suc i ≡ length ps → (p : NamedValue × NamedValue) (v : NamedValue) →
     p ≡ get_or ps i p → pairs_view (set ps i (p.0, v)) ≡ set_last (pairs_view ps) (tree_of v)
@@ -40,4 +41,4 @@ set_last_at (q ∷ r ∷ rest) (suc i) e p v h = one_before i (set_last_at (r �
         → pairs_view (q ∷ set (r ∷ rest) j (p.0, v)) ≡ tree.pair_then (tree_of q.0) (tree_of q.1) (set_last (pairs_view (r ∷ rest)) (tree_of v))
     one_before j e = ap (tree.pair_then (tree_of q.0) (tree_of q.1)) e
 
-pub ruleset pushes = (trees_view-push, pairs_view-push, fields_view-push, places_view-push)
+pub ruleset pushes = (trees_view-push, pairs_view-push, fields_view-push, slots_view-push)

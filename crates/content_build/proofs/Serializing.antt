@@ -1,11 +1,14 @@
 -- What is serialised to a new builder.
-use Rattle.std.proofs.Common.{◌≡◌, Bool, false, List, [], ◌∷◌, ◌++◌, Some, None, Result, Ok, Err, IsErrAnd, refl, sym, subst, ◌∙◌, inl, inr, ⊎_elim, append_assoc}
-use Rattle.content_tree.specs.Kind.{IsOutOfMemory}
+use Rattle.std.proofs.Common.{◌≡◌, Bool, false, List, [], ◌∷◌, ◌++◌, Some, None, Result, Ok, Err}
+use Rattle.std.proofs.Common.{IsErrAnd, refl, sym, subst, ◌∙◌, inl, inr, ⊎_elim, append_assoc}
+use Rattle.content_tree.specs.Errors.Kind.{IsOutOfMemory}
 use Rattle.content_tree.specs.declared.error.Error.{Error}
 use Rattle.content_tree.specs.declared.value.NamedValue.{NamedValue}
-use Rattle.content_ser.specs.Event.{Event}
-use Rattle.content_ser.specs.Lawful.{Script, Seen, Sends, calls_of, stop_of, Sent, Halted, Stopped, IsLawful}
-use Rattle.content_ser.specs.Spells.{SpellsWhole, IsViable}
+use Rattle.content_ser.specs.Calls.Event.{Event}
+use Rattle.content_ser.specs.Serializers.Step.{Seen}
+use Rattle.content_ser.specs.Scripts.Script.{Script, calls_of, stop_of, IsLawful}
+use Rattle.content_ser.specs.Scripts.Sends.{Sends, AnswersScript, Halted, Stopped}
+use Rattle.content_ser.specs.Grammar.Spells.{SpellsWhole, IsViable}
 use Rattle.content_build.specs.Partial.{Partial, done, fresh, run, step}
 use Rattle.content_build.specs.Builder.{refuses, Finishes}
 use Rattle.content_build.specs.Serializer.{Serialized}
@@ -24,7 +27,7 @@ only_memory calls e new viable (made, c, rest, mid, split, ran, refused) =
     ⊎_elim (λ misplaced. absurd (never_misplaced calls made rest c mid viable split ran misplaced.0)) (λ memory. memory.1) refused
 
 -- a refused script
-pub refused : (sc : Script) (e : Error) (failed : Bool) (new : Partial) → IsLawful sc → Sent step refuses fresh sc (Err e) failed new → Serialized sc (Err e)
+pub refused : (sc : Script) (e : Error) (failed : Bool) (new : Partial) → IsLawful sc → AnswersScript step refuses fresh sc (Err e) failed new → Serialized sc (Err e)
 refused sc e failed new lawful sent =
     ⊎_elim
     (λ f. inl (only_memory (calls_of sc) e new lawful.viable f.1))
@@ -49,16 +52,16 @@ exit sc (Ok v) e is s = absurd is
 exit sc (Err x) e is s = subst (λ y. Serialized sc (Err y)) (sym is) s
 
 -- a script that a new builder refused, or that stopped
-pub sent_err : (sc : Bool → Script) (readable : Bool) (old new : Seen Partial) (e : Error) (r : Result NamedValue Error) → ((b : Bool) → IsLawful (sc b))
+pub sends_err : (sc : Bool → Script) (readable : Bool) (old new : Seen Partial) (e : Error) (r : Result NamedValue Error) → ((b : Bool) → IsLawful (sc b))
     → old ≡ record { state = fresh; failed = false; readable = readable } → Sends step refuses old sc (Err e) new → IsErrAnd r (λ x. x ≡ e) → Serialized (sc readable) r
-sent_err sc readable old new e r lawful is sent same =
+sends_err sc readable old new e r lawful is sent same =
     let s = subst (λ o. Sends step refuses o sc (Err e) new) is sent in
     exit (sc readable) r e same (refused (sc readable) e new.failed new.state (lawful readable) (s.otherwise refl))
 
 -- a script that a new builder took whole
-pub sent_ok : (sc : Bool → Script) (readable : Bool) (old new : Seen Partial) (u : Unit {0}) (r : Result NamedValue Error) → ((b : Bool) → IsLawful (sc b))
+pub sends_ok : (sc : Bool → Script) (readable : Bool) (old new : Seen Partial) (u : Unit {0}) (r : Result NamedValue Error) → ((b : Bool) → IsLawful (sc b))
     → old ≡ record { state = fresh; failed = false; readable = readable } → Sends step refuses old sc (Ok u) new → Finishes new.failed new.state r → Serialized (sc readable) r
-sent_ok sc readable old new u r lawful is sent f =
+sends_ok sc readable old new u r lawful is sent f =
     let s = subst (λ o. Sends step refuses o sc (Ok u) new) is sent in
     let t = s.otherwise refl in
     finished (sc readable) new.state r (lawful readable) t.0 t.2 (subst (λ b. Finishes b new.state r) t.1 f)

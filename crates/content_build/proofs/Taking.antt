@@ -1,9 +1,10 @@
 -- From the answer of a call in a partial tree to what the trait says of it, and from that to which calls are viable.
-use Rattle.std.proofs.Common.{◌≡◌, Bool, [], ◌∷◌, ◌++◌, Option, Some, None, Ok, Err, refl, sym, subst, ◌∙◌, IsSome, option_and_then, inl, inr, ⊎_elim}
-use Rattle.content_ser.specs.Event.{Event}
-use Rattle.content_ser.specs.Lawful.{Seen, Answer, Takes}
+use Rattle.std.proofs.Common.{◌≡◌, Bool, [], ◌∷◌, ◌++◌, Option, Some, None, Ok, Err, refl, sym}
+use Rattle.std.proofs.Common.{subst, ◌∙◌, IsSome, option_and_then, inl, inr, ⊎_elim}
+use Rattle.content_ser.specs.Calls.Event.{Event}
+use Rattle.content_ser.specs.Serializers.Step.{Seen, Answer, Takes}
 use Rattle.content_build.specs.Partial.{Partial, step}
-use Rattle.content_build.specs.Taken.{Moves}
+use Rattle.content_build.specs.Inner.Taken.{AnswersStep}
 use Rattle.content_build.specs.Builder.{has_failed, or_fresh, refuses, IsCause, StepsAreExact}
 use Rattle.content_build.proofs.Agreement.{one_more, never_viable, still_viable, viable_from_run}
 
@@ -11,22 +12,22 @@ use Rattle.content_build.proofs.Agreement.{one_more, never_viable, still_viable,
 abbrev pub standing : Option Partial → Bool → Seen Partial
 standing s readable = record { state = or_fresh s; failed = has_failed s; readable = readable }
 
-took : (old : Option Partial) (h : Bool) (c : Event) (r : Answer) (new : Option Partial) → (o : Option Partial) → option_and_then (λ s. step s c) old ≡ o
-    → Moves old o r new → Takes step refuses (standing old h) c r (standing new h)
-took None h c (Ok u) new o e m = absurd m
-took None h c (Err x) None o e m = record { readable = refl; when_failed = λ f. (refl, m.0); otherwise = λ f. cc }
-took None h c (Err x) (Some n) o e m = absurd (let x : Some n ≡ None = m.1 in cc)
-took (Some s) h c (Ok u) new None e m = absurd m
-took (Some s) h c (Ok u) None (Some n) e m = absurd (let x : None ≡ Some n = m in cc)
-took (Some s) h c (Ok u) (Some k) (Some n) e m = record { readable = refl; when_failed = λ f. cc; otherwise = λ f. (refl, e ∙ sym m) }
-took (Some s) h c (Err x) None None e m = record { readable = refl; when_failed = λ f. cc; otherwise = λ f. (refl, inl (e, m.0)) }
-took (Some s) h c (Err x) (Some k) None e m = absurd (let y : Some k ≡ None = m.1 in cc)
-took (Some s) h c (Err x) None (Some n) e m = record { readable = refl; when_failed = λ f. cc; otherwise = λ f. (refl, inr (subst IsSome (sym e) refl, m.0, m.0)) }
-took (Some s) h c (Err x) (Some k) (Some n) e m = absurd (let y : Some k ≡ None = m.1 in cc)
+takes_call : (old : Option Partial) (h : Bool) (c : Event) (r : Answer) (new : Option Partial) → (o : Option Partial) → option_and_then (λ s. step s c) old ≡ o
+    → AnswersStep old o r new → Takes step refuses (standing old h) c r (standing new h)
+takes_call None h c (Ok u) new o e m = absurd m
+takes_call None h c (Err x) None o e m = record { readable = refl; when_failed = λ f. (refl, m.0); otherwise = λ f. cc }
+takes_call None h c (Err x) (Some n) o e m = absurd (let x : Some n ≡ None = m.1 in cc)
+takes_call (Some s) h c (Ok u) new None e m = absurd m
+takes_call (Some s) h c (Ok u) None (Some n) e m = absurd (let x : None ≡ Some n = m in cc)
+takes_call (Some s) h c (Ok u) (Some k) (Some n) e m = record { readable = refl; when_failed = λ f. cc; otherwise = λ f. (refl, e ∙ sym m) }
+takes_call (Some s) h c (Err x) None None e m = record { readable = refl; when_failed = λ f. cc; otherwise = λ f. (refl, inl (e, m.0)) }
+takes_call (Some s) h c (Err x) (Some k) None e m = absurd (let y : Some k ≡ None = m.1 in cc)
+takes_call (Some s) h c (Err x) None (Some n) e m = record { readable = refl; when_failed = λ f. cc; otherwise = λ f. (refl, inr (subst IsSome (sym e) refl, m.0, m.0)) }
+takes_call (Some s) h c (Err x) (Some k) (Some n) e m = absurd (let y : Some k ≡ None = m.1 in cc)
 
 pub taken : (old : Option Partial) (h : Bool) (c : Event) (r : Answer) (new : Option Partial)
-    → Moves old (option_and_then (λ s. step s c) old) r new → Takes step refuses (standing old h) c r (standing new h)
-taken old h c r new m = took old h c r new (option_and_then (λ s. step s c) old) refl m
+    → AnswersStep old (option_and_then (λ s. step s c) old) r new → Takes step refuses (standing old h) c r (standing new h)
+taken old h c r new m = takes_call old h c r new (option_and_then (λ s. step s c) old) refl m
 
 -- what the step of the partial tree says of a call is exact
 pub steps_are_exact : StepsAreExact

@@ -1,15 +1,17 @@
 -- What a list of calls is answered.
-use Rattle.std.specs.Prelude.{◌≡◌, ◌⊎◌, Bool, true, ℕ, ◌+◌, ◌<◌, List, length, take, Result, Ok, Err}
-use Rattle.content_tree.specs.Kind.{kind_of}
+use Rattle.std.specs.Prelude.{◌≡◌, ◌⊎◌, Bool, true, ℕ, ◌+◌, ◌<◌, List, length, take, Result, Ok}
+use Rattle.std.specs.Prelude.{Err}
+use Rattle.content_tree.specs.Errors.Kind.{kind_of}
 use Rattle.content_tree.specs.contracts.error.ErrorPartialEq.TheImpl as error_eq
 use Rattle.content_tree.specs.declared.error.Error.{Error}
-use Rattle.content_tree.specs.Tree.{Tree}
-use Rattle.content_tree.specs.Value.{tree_of}
+use Rattle.content_tree.specs.Values.Tree.{Tree}
+use Rattle.content_tree.specs.Values.Value.{tree_of}
 use Rattle.content_tree.specs.declared.error.ErrorKind.{ErrorKind}
-use Rattle.content_tree.specs.declared.error.ErrorKind.TheVariants.{Unexpected, Custom, OutOfMemory, Misplaced, Failed, Unfinished}
+use Rattle.content_tree.specs.declared.error.ErrorKind.TheVariants.{Unexpected, Custom, OutOfMemory}
+use Rattle.content_tree.specs.declared.error.ErrorKind.TheVariants.{Misplaced, Failed, Unfinished}
 use Rattle.content_tree.specs.declared.value.NamedValue.{NamedValue}
-use Rattle.content_ser.specs.Event.{Event}
-use Rattle.content_ser.specs.Spells.{SpellsWhole, IsWhole, IsViable}
+use Rattle.content_ser.specs.Calls.Event.{Event}
+use Rattle.content_ser.specs.Grammar.Spells.{SpellsWhole, IsWhole, IsViable}
 use Rattle.content_build.specs.declared.calls_error.CallsError.{CallsError}
 
 -- the calls are refused at this place for this cause

@@ -1,16 +1,19 @@
 -- What contracts see of a `Builder`.
-use Rattle.std.specs.Prelude.{◌≡◌, Bool, true, false, List, [], ◌∷◌, ◌++◌, Option, Some, None, Result, Ok, Err, IsErrAnd}
-use Rattle.content_tree.specs.Kind.{kind_of, IsOutOfMemory}
-use Rattle.content_tree.specs.Value.{tree_of}
+use Rattle.std.specs.Prelude.{◌≡◌, Bool, true, false, List, [], ◌∷◌, ◌++◌, Option, Some, None}
+use Rattle.std.specs.Prelude.{Result, Ok, Err, IsErrAnd}
+use Rattle.content_tree.specs.Errors.Kind.{kind_of, IsOutOfMemory}
+use Rattle.content_tree.specs.Values.Value.{tree_of}
 use Rattle.content_tree.specs.declared.error.Error.{Error}
 use Rattle.content_tree.specs.declared.error.ErrorKind.{ErrorKind}
-use Rattle.content_tree.specs.declared.error.ErrorKind.TheVariants.{Unexpected, Custom, OutOfMemory, Misplaced, Failed, Unfinished}
+use Rattle.content_tree.specs.declared.error.ErrorKind.TheVariants.{Unexpected, Custom, OutOfMemory}
+use Rattle.content_tree.specs.declared.error.ErrorKind.TheVariants.{Misplaced, Failed, Unfinished}
 use Rattle.content_tree.specs.declared.value.NamedValue.{NamedValue}
-use Rattle.content_ser.specs.Event.{Event}
-use Rattle.content_ser.specs.Lawful.{Seen, Refuses, Answer, Takes, after_failure, out_of_place, no_memory}
-use Rattle.content_ser.specs.Spells.{IsViable}
+use Rattle.content_ser.specs.Calls.Event.{Event}
+use Rattle.content_ser.specs.Serializers.Step.{Seen, RefusalRule, Answer, Takes, after_failure}
+use Rattle.content_ser.specs.Serializers.Step.{out_of_place, no_memory}
+use Rattle.content_ser.specs.Grammar.Spells.{IsViable}
 use Rattle.content_build.specs.Partial.{Partial, due, between, done, fresh, run, step}
-use Rattle.content_build.specs.Frames.{partial_tree}
+use Rattle.content_build.specs.Inner.Frames.{partial_tree}
 use Rattle.content_build.specs.declared.builder.Builder.{Builder}
 
 -- whether there is no partial tree
@@ -28,7 +31,7 @@ unfoldable pub seen_of : Builder → Seen Partial
 seen_of b = record { state = or_fresh (partial_tree b.frames); failed = has_failed (partial_tree b.frames); readable = b.human_readable }
 
 -- with which error a builder refuses a call; nothing is said of what it keeps
-abbrev pub refuses : Refuses Partial
+abbrev pub refuses : RefusalRule Partial
 refuses after_failure old e new = kind_of e ≡ Failed
 refuses out_of_place old e new = kind_of e ≡ Misplaced
 refuses no_memory old e new = IsOutOfMemory e

@@ -1,10 +1,8 @@
 pub mod Partial
-pub mod Kinds
-pub mod Frames
-pub mod Taken
+pub mod Inner
 pub mod Builder
 pub mod Answers
 pub mod Recorder
 pub mod Serializer
 pub mod Canonical
-pub mod Printed
+pub mod PrintedRefusal

@@ -1,13 +1,16 @@
 -- A partial tree, and the step that each call takes in it.
 use Rattle.std.specs.Prelude.{ℕ, List, [], ◌∷◌, Option, Some, None}
-use Rattle.content_tree.specs.Text.{Text, static_name}
-use Rattle.content_tree.specs.Tree as tree
-use Rattle.content_tree.specs.Tree.{Tree, Trees, no_trees, tree_then, Pairs, no_pairs, pair_then, Fields, no_fields, field_then}
-use Rattle.content_ser.specs.Event.{Event}
-use Rattle.content_ser.specs.Head.{Head}
-use Rattle.content_ser.specs.Kind as kind
-use Rattle.content_ser.specs.Kind.{Kind, leaf, wrap, open_row, open_map, open_record, finish, Wrap, wrapped, Row, mark, row_tree, record_tree, Mark}
-use Rattle.content_ser.specs.Lawful as lawful
+use Rattle.content_tree.specs.Values.Text.{Text, static_name}
+use Rattle.content_tree.specs.Values.Tree as tree
+use Rattle.content_tree.specs.Values.Tree.{Tree, Trees, no_trees, tree_then, Pairs, no_pairs}
+use Rattle.content_tree.specs.Values.Tree.{pair_then, Fields, no_fields, field_then}
+use Rattle.content_ser.specs.Calls.Event.{Event}
+use Rattle.content_ser.specs.Calls.Head.{Head}
+use Rattle.content_ser.specs.Grammar.Token as token
+use Rattle.content_ser.specs.Grammar.Token.{Token, leaf, wrap, open_row, open_map, open_record}
+use Rattle.content_ser.specs.Grammar.Token.{finish, Wrap, wrapped, Row, item_call, row_tree}
+use Rattle.content_ser.specs.Grammar.Token.{record_tree, ItemCall}
+use Rattle.content_ser.specs.Serializers.Step as serializer
 
 -- one tree more, at the end
 abbrev pub push_tree : Trees → Tree → Trees
@@ -30,34 +33,34 @@ abbrev pub push_field : Fields → Text → Tree → Fields
 push_field no_fields k u = field_then k u no_fields
 push_field (field_then l t fs) k u = field_then l t (push_field fs k u)
 
--- a place that waits for a tree, with what is finished around it
-pub data Place : Type 0 where
-  child : Wrap → Place
-  element : Row → Trees → Place
-  key : Pairs → Place
-  value : Pairs → Place
-  entry_key : Pairs → Place
-  entry_value : Pairs → Tree → Place
-  field_value : Head → Fields → List ℕ → Place
+-- a slot that waits for a tree, with what is finished around it
+pub data Slot : Type 0 where
+  child : Wrap → Slot
+  element : Row → Trees → Slot
+  key : Pairs → Slot
+  value : Pairs → Slot
+  entry_key : Pairs → Slot
+  entry_value : Pairs → Tree → Slot
+  field_value : Head → Fields → List ℕ → Slot
 
--- an opened compound in which no place waits
+-- an opened compound in which no slot waits
 pub data Compound : Type 0 where
   in_row : Row → Trees → Compound
   in_map : Pairs → Compound
   in_record : Head → Fields → Compound
 
--- a partial tree: its waiting places, from the innermost to the outermost, and what is due
+-- a partial tree: its waiting slots, from the innermost to the outermost, and what is due
 pub data Partial : Type 0 where
-  due : List Place → Partial
-  between : Compound → List Place → Partial
+  due : List Slot → Partial
+  between : Compound → List Slot → Partial
   done : Tree → Partial
 
 -- no call yet
 abbrev pub fresh : Partial
 fresh = due []
 
--- the innermost place gets this tree, and what is finished by it fills the next
-abbrev pub fill : List Place → Tree → Partial
+-- the innermost slot gets this tree, and what is finished by it fills the next
+abbrev pub fill : List Slot → Tree → Partial
 fill [] t = done t
 fill (child w ∷ ps) t = fill ps (wrapped w t)
 fill (element r ts ∷ ps) t = between (in_row r (push_tree ts t)) ps
@@ -74,7 +77,7 @@ closed (in_map prs) = tree.map prs
 closed (in_record r fs) = record_tree r fs
 
 -- a call where a tree is due
-abbrev pub begin : List Place → Kind → Option Partial
+abbrev pub begin : List Slot → Token → Option Partial
 begin ps (leaf t) = Some (fill ps t)
 begin ps (wrap w) = Some (due (child w ∷ ps))
 begin ps (open_row r) = Some (between (in_row r no_trees) ps)
@@ -83,31 +86,31 @@ begin ps (open_record r) = Some (between (in_record r no_fields) ps)
 begin ps _ = None
 
 -- an item call in a row, where the row's items are announced by it
-abbrev pub next_item : Mark → Mark → Partial → Option Partial
-next_item kind.element kind.element s = Some s
-next_item kind.tuple_field kind.tuple_field s = Some s
+abbrev pub next_item : ItemCall → ItemCall → Partial → Option Partial
+next_item token.element token.element s = Some s
+next_item token.tuple_field token.tuple_field s = Some s
 next_item _ _ s = None
 
--- a call where no place waits
-abbrev pub follow : Compound → List Place → Kind → Option Partial
-follow (in_row r ts) ps (kind.item m) = next_item (mark r) m (due (element r ts ∷ ps))
-follow (in_map prs) ps kind.key = Some (due (key prs ∷ ps))
-follow (in_map prs) ps kind.value = Some (due (value prs ∷ ps))
-follow (in_map prs) ps kind.entry = Some (due (entry_key prs ∷ ps))
-follow (in_record r fs) ps (kind.field k) = Some (due (field_value r fs k ∷ ps))
+-- a call where no slot waits
+abbrev pub follow : Compound → List Slot → Token → Option Partial
+follow (in_row r ts) ps (token.item m) = next_item (item_call r) m (due (element r ts ∷ ps))
+follow (in_map prs) ps token.key = Some (due (key prs ∷ ps))
+follow (in_map prs) ps token.value = Some (due (value prs ∷ ps))
+follow (in_map prs) ps token.entry = Some (due (entry_key prs ∷ ps))
+follow (in_record r fs) ps (token.field k) = Some (due (field_value r fs k ∷ ps))
 follow c ps finish = Some (fill ps (closed c))
 follow _ _ _ = None
 
--- a call of this kind
-abbrev pub step_kind : Partial → Kind → Option Partial
-step_kind (due ps) call = begin ps call
-step_kind (between c ps) call = follow c ps call
-step_kind (done t) call = None
+-- a call of this token
+abbrev pub step_token : Partial → Token → Option Partial
+step_token (due ps) call = begin ps call
+step_token (between c ps) call = follow c ps call
+step_token (done t) call = None
 
 -- a call
 abbrev pub step : Partial → Event → Option Partial
-step s call = step_kind s (kind.kind call)
+step s call = step_token s (token.token_of call)
 
 -- calls, one after another
 abbrev pub run : Partial → List Event → Option Partial
-run = lawful.run step
+run = serializer.run step

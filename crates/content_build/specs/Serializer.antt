@@ -1,11 +1,11 @@
 -- What a `Serializer` makes of a script.
 use Rattle.std.specs.Prelude.{◌≡◌, ◌⊎◌, ℕ, Bool, List, None, Some, Result, Ok, Err}
-use Rattle.content_tree.specs.Kind.{IsOutOfMemory}
-use Rattle.content_tree.specs.Value.{tree_of}
+use Rattle.content_tree.specs.Errors.Kind.{IsOutOfMemory}
+use Rattle.content_tree.specs.Values.Value.{tree_of}
 use Rattle.content_tree.specs.declared.error.Error.{Error}
 use Rattle.content_tree.specs.declared.value.NamedValue.{NamedValue}
-use Rattle.content_ser.specs.Lawful.{Script, calls_of, stop_of, IsCustom}
-use Rattle.content_ser.specs.Spells.{SpellsWhole}
+use Rattle.content_ser.specs.Scripts.Script.{Script, calls_of, stop_of, IsCustom}
+use Rattle.content_ser.specs.Grammar.Spells.{SpellsWhole}
 use Rattle.content_build.specs.declared.serializer.Serializer.{Serializer}
 
 -- whether what is serialised is for people to read

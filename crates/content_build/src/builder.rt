@@ -1,26 +1,26 @@
 //! The serialiser that builds a tree.
 
 ghost use Rattle.std.specs.Prelude.{◌≡◌, IfErr, false};
-ghost use Rattle.content_tree.specs.Kind.{IsOutOfMemory};
-ghost use Rattle.content_ser.specs.Call.{event_of};
-ghost use Rattle.content_ser.specs.Lawful.{Takes};
+ghost use Rattle.content_tree.specs.Errors.Kind.{IsOutOfMemory};
+ghost use Rattle.content_ser.specs.Calls.Call.{event_of};
+ghost use Rattle.content_ser.specs.Serializers.Step.{Takes};
 ghost use Rattle.content_build.specs.Partial.{Partial, fresh, step};
 ghost use Rattle.content_build.specs.Builder.{seen_of, refuses, AnswersExactly, Finishes};
 
 use crate::frames::Frames;
-use crate::kind::Kind;
+use crate::token::Token;
 use content_ser::{Call, Serializer};
 use content_tree::{Result, Value};
 use std::alloc::Global;
 
 /// A serialiser that builds the tree that its calls spell.
 ///
-/// Its state is a partial tree: fresh, open, or done. A call after which no list of calls can
-/// spell a tree answers `Misplaced`, before any memory is taken for it. A call for which an
-/// allocation failed answers `OutOfMemory`. Every call after either answers `Failed`; `collect_str`
-/// alone prints first, and where an allocation for that failed it answers `OutOfMemory` and changes
-/// nothing. Hints and lengths reserve nothing. Texts and bytes are copied, names never. The calls are
-/// Serde's; that one out of place is an error is ours.
+/// Its state is a partial tree: fresh, open, or done. A call after which no list of calls can spell
+/// a tree answers `Misplaced`, before any memory is taken for it. A call for which an allocation
+/// failed answers `OutOfMemory`. Every call after either answers `Failed`; `collect_str` alone
+/// prints first, and where an allocation for that failed it answers `OutOfMemory` and changes
+/// nothing. Hints and lengths reserve nothing. Texts and bytes are copied, names never. The calls
+/// are Serde's; that one out of place is an error is ours.
 ///
 /// Nothing in the tree is lent, so the lifetime is free: [`from_calls`](crate::from_calls) gives
 /// a value at any.
@@ -87,7 +87,7 @@ impl<'v> Serializer for Builder<'v> {
         // far and this one, and refused as out of place only where none does
         ensures exact { AnswersExactly (seen_of self.old) (event_of call.entry) result }
     {
-        self.frames.take(Kind::of(&call))
+        self.frames.take(Token::of(&call))
     }
 
     #[tactic(auto, unfolding(crate::specs::Builder::seen_of))]

@@ -1,10 +1,10 @@
 //! The tree that a list of calls spells.
 
 ghost use Rattle.std.specs.Prelude.{ℕ, length};
-ghost use Rattle.content_tree.specs.Tree.{Tree};
+ghost use Rattle.content_tree.specs.Values.Tree.{Tree};
 ghost use Rattle.content_tree.specs.declared.error.ErrorKind.TheVariants.{Misplaced, Unfinished};
-ghost use Rattle.content_ser.specs.Call.{events_of};
-ghost use Rattle.content_ser.specs.Spells.{SpellsWhole, IsWhole, IsViable};
+ghost use Rattle.content_ser.specs.Calls.Call.{events_of};
+ghost use Rattle.content_ser.specs.Grammar.Spells.{SpellsWhole, IsWhole, IsViable};
 ghost use Rattle.content_build.specs.Answers.{IsAnswer, IsRefusal, IfTaken, IfRefused};
 
 use crate::builder::Builder;
@@ -39,7 +39,8 @@ fn build<'v>(alloc: Global, calls: &[Call<'_>]) -> Result<Value<'v>, CallsError>
 /// Where it spells none, the error names the place of the first call after which nothing that
 /// follows can make it spell one, `Misplaced`; or the list's length where it only ended too early,
 /// `Unfinished`. Where an allocation failed it names the call that needed it, or the list's length:
-/// `OutOfMemory`. Hints and lengths reserve nothing. Texts and bytes are copied once, names are not.
+/// `OutOfMemory`. Hints and lengths reserve nothing. Texts and bytes are copied once, names are
+/// not.
 ///
 /// ```rust
 /// let calls = [Call::Seq(None), Call::Unit];

@@ -1,7 +1,7 @@
 //! Where and why a list of calls was refused.
 
 ghost use Rattle.std.specs.Prelude.{Some};
-ghost use Rattle.content_build.specs.Printed.{refusal_text};
+ghost use Rattle.content_build.specs.PrintedRefusal.{refusal_text};
 
 use content_tree::Error;
 use std::fmt;

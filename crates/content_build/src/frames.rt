@@ -2,16 +2,16 @@
 #![tactic(auto, using(crate::proofs::Pushes::pushes))]
 
 ghost use Rattle.std.specs.Prelude.{◌≡◌, Some, IfErr};
-ghost use Rattle.content_tree.specs.Kind.{IsOutOfMemory};
+ghost use Rattle.content_tree.specs.Errors.Kind.{IsOutOfMemory};
 ghost use Rattle.content_build.specs.Partial as partial;
 ghost use Rattle.content_build.specs.Partial.{fresh};
-ghost use Rattle.content_build.specs.Kinds.{kind_view};
-ghost use Rattle.content_build.specs.Frames.{compound_view, places_view, partial_tree};
+ghost use Rattle.content_build.specs.Inner.Tokens.{token_view};
+ghost use Rattle.content_build.specs.Inner.Frames.{compound_view, slots_view, partial_tree};
 ghost use Rattle.content_build.specs.Builder.{has_failed, or_fresh, Finishes};
-ghost use Rattle.content_build.specs.Taken.{Leads, Turns};
+ghost use Rattle.content_build.specs.Inner.Taken.{GivesFocus, AnswersToken};
 
-use crate::kind::Kind;
-use crate::places::{Compound, Focus, Place, close, fill, place_for};
+use crate::slots::{Compound, Focus, Slot, close, fill, slot_for};
+use crate::token::Token;
 use content_tree::{ErrorKind, Result, Value};
 use std::alloc::Global;
 use std::mem;
@@ -21,61 +21,61 @@ use std::mem;
 pub(crate) struct Frames<'v> {
     alloc: Global,
     /// From the outermost to the innermost.
-    places: Vec<Place<'v>>,
+    slots: Vec<Slot<'v>>,
     focus: Focus<'v>,
 }
 
 /// A call where a tree is due.
-fn begin<'v>(alloc: Global, waiting: &mut Vec<Place<'v>>, call: Kind<'_>) -> Result<Focus<'v>>
-    ensures { Leads (partial.begin (places_view waiting.old.items) (kind_view call.entry))
+fn begin<'v>(alloc: Global, waiting: &mut Vec<Slot<'v>>, call: Token<'_>) -> Result<Focus<'v>>
+    ensures { GivesFocus (partial.begin (slots_view waiting.old.items) (token_view call.entry))
         result waiting.new.items }
 {
     match call {
-        Kind::Leaf(leaf) => {
+        Token::Leaf(leaf) => {
             let value = leaf.make(alloc)?;
             Ok(fill(alloc, waiting, value)?)
         }
-        Kind::Wrap(wrap) => {
-            waiting.push(Place::Child(wrap))?;
+        Token::Wrap(wrap) => {
+            waiting.push(Slot::Child(wrap))?;
             Ok(Focus::Due)
         }
-        Kind::Row(row) => Ok(Focus::Between(Compound::Row(row, Vec::new(alloc)))),
-        Kind::Map => Ok(Focus::Between(Compound::Map(Vec::new(alloc)))),
-        Kind::Record(head) => Ok(Focus::Between(Compound::Record(head, Vec::new(alloc)))),
-        Kind::Item(_) => Err(ErrorKind::Misplaced.into()),
-        Kind::End => Err(ErrorKind::Misplaced.into()),
+        Token::Row(row) => Ok(Focus::Between(Compound::Row(row, Vec::new(alloc)))),
+        Token::Map => Ok(Focus::Between(Compound::Map(Vec::new(alloc)))),
+        Token::Record(head) => Ok(Focus::Between(Compound::Record(head, Vec::new(alloc)))),
+        Token::Item(_) => Err(ErrorKind::Misplaced.into()),
+        Token::End => Err(ErrorKind::Misplaced.into()),
     }
 }
 
-/// A call where no place waits.
+/// A call where no slot waits.
 fn follow<'v>(
     alloc: Global,
-    waiting: &mut Vec<Place<'v>>,
+    waiting: &mut Vec<Slot<'v>>,
     opened: Compound<'v>,
-    call: Kind<'_>,
+    call: Token<'_>,
 ) -> Result<Focus<'v>>
-    ensures { Leads
+    ensures { GivesFocus
         (partial.follow (compound_view opened.entry)
-        (places_view waiting.old.items) (kind_view call.entry))
+        (slots_view waiting.old.items) (token_view call.entry))
         result waiting.new.items }
 {
     match call {
-        Kind::Item(item) => match place_for(opened, item) {
-            Some(place) => {
-                waiting.push(place)?;
+        Token::Item(item) => match slot_for(opened, item) {
+            Some(slot) => {
+                waiting.push(slot)?;
                 Ok(Focus::Due)
             }
             None => Err(ErrorKind::Misplaced.into()),
         },
-        Kind::End => {
+        Token::End => {
             let value = close(alloc, opened)?;
             Ok(fill(alloc, waiting, value)?)
         }
-        Kind::Leaf(_) => Err(ErrorKind::Misplaced.into()),
-        Kind::Wrap(_) => Err(ErrorKind::Misplaced.into()),
-        Kind::Row(_) => Err(ErrorKind::Misplaced.into()),
-        Kind::Map => Err(ErrorKind::Misplaced.into()),
-        Kind::Record(_) => Err(ErrorKind::Misplaced.into()),
+        Token::Leaf(_) => Err(ErrorKind::Misplaced.into()),
+        Token::Wrap(_) => Err(ErrorKind::Misplaced.into()),
+        Token::Row(_) => Err(ErrorKind::Misplaced.into()),
+        Token::Map => Err(ErrorKind::Misplaced.into()),
+        Token::Record(_) => Err(ErrorKind::Misplaced.into()),
     }
 }
 
@@ -86,19 +86,19 @@ impl<'v> Frames<'v> {
     {
         Frames {
             alloc,
-            places: Vec::new(alloc),
+            slots: Vec::new(alloc),
             focus: Focus::Due,
         }
     }
 
     /// A call.
-    pub(crate) fn take(&mut self, call: Kind<'_>) -> Result<()>
-        ensures { Turns (partial_tree self.old) (kind_view call.entry)
+    pub(crate) fn take(&mut self, call: Token<'_>) -> Result<()>
+        ensures { AnswersToken (partial_tree self.old) (token_view call.entry)
             result (partial_tree self.new) }
     {
         let next = match mem::replace(&mut self.focus, Focus::Failed) {
-            Focus::Due => begin(self.alloc, &mut self.places, call),
-            Focus::Between(opened) => follow(self.alloc, &mut self.places, opened, call),
+            Focus::Due => begin(self.alloc, &mut self.slots, call),
+            Focus::Between(opened) => follow(self.alloc, &mut self.slots, opened, call),
             Focus::Done(_) => Err(ErrorKind::Misplaced.into()),
             Focus::Failed => Err(ErrorKind::Failed.into()),
         };
@@ -129,8 +129,8 @@ impl<'v> Frames<'v> {
             (or_fresh (partial_tree self.entry)) result }
         ensures memory { IfErr result (λ e. ¬ IsOutOfMemory e) }
     {
-        let Frames { places, focus, .. } = self;
-        drop(places);
+        let Frames { slots, focus, .. } = self;
+        drop(slots);
         match focus {
             Focus::Done(value) => Ok(value),
             Focus::Failed => Err(ErrorKind::Failed.into()),

@@ -12,9 +12,9 @@ use crate::calls_error::CallsError;
 use crate::serializer::Serializer;
 use std::cmp::Ordering;
 
-/// Whatever call is made on a [`Builder`](crate::Builder) that has not failed: it is taken, or refused
-/// for memory, only where some whole list begins with the calls so far and this one, and refused as
-/// out of place only where none does.
+/// Whatever call is made on a [`Builder`](crate::Builder) that has not failed: it is taken, or
+/// refused for memory, only where some whole list begins with the calls so far and this one, and
+/// refused as out of place only where none does.
 pub fn steps_are_exact()
     ensures { StepsAreExact }
 {}
@@ -40,8 +40,8 @@ pub fn equal_serializers(a: Serializer, b: Serializer) -> bool
     a == b
 }
 
-/// What the order of serialisers answers: that with the flag off is less than that with the flag on.
-/// It takes no memory.
+/// What the order of serialisers answers: that with the flag off is less than that with the flag
+/// on. It takes no memory.
 pub fn order_of_serializers(a: Serializer, b: Serializer) -> Ordering
     ensures { result ≡ bool_cmp (is_readable a) (is_readable b) }
 {

@@ -6,12 +6,12 @@ mod calls;
 mod calls_error;
 mod canonical;
 mod frames;
-mod kind;
 pub mod laws;
 mod parts;
-mod places;
 mod recorder;
 mod serializer;
+mod slots;
+mod token;
 
 pub use builder::Builder;
 pub use calls::from_calls;

@@ -1,10 +1,10 @@
 //! What stands around trees, and the trees made with it.
 
 ghost use Rattle.std.specs.Prelude.{◌≡◌, IfOk};
-ghost use Rattle.content_tree.specs.Value.{tree_of, payload_of, trees_view};
-ghost use Rattle.content_ser.specs.Head.{head_of, headed};
-ghost use Rattle.content_ser.specs.Kind.{wrapped, row_tree};
-ghost use Rattle.content_build.specs.Kinds.{wrap_view, row_view};
+ghost use Rattle.content_tree.specs.Values.Value.{tree_of, tree_data_of, trees_view};
+ghost use Rattle.content_ser.specs.Calls.Head.{head_of, headed};
+ghost use Rattle.content_ser.specs.Grammar.Token.{wrapped, row_tree};
+ghost use Rattle.content_build.specs.Inner.Tokens.{wrap_view, row_view};
 
 use content_ser::Head;
 use content_tree::{CowStr, Data, NamedData, NamedEnum, NamedStruct, NamedValue, Value};
@@ -56,12 +56,8 @@ impl Row {
 }
 
 /// The struct or the variant of this head that holds this.
-pub(crate) fn under<'v>(
-    alloc: Global,
-    head: Head,
-    held: Data<'v>,
-) -> Result<Value<'v>, AllocError>
-    ensures { IfOk result (λ v. tree_of v ≡ headed (head_of head) (payload_of held.entry)) }
+pub(crate) fn under<'v>(alloc: Global, head: Head, held: Data<'v>) -> Result<Value<'v>, AllocError>
+    ensures { IfOk result (λ v. tree_of v ≡ headed (head_of head) (tree_data_of held.entry)) }
 {
     match head {
         Head::Struct(name) => {

@@ -1,10 +1,10 @@
 //! A serialiser that keeps the calls themselves.
 
 ghost use Rattle.std.specs.Prelude.{◌≡◌, true, false, All, List, []};
-ghost use Rattle.content_ser.specs.Event.{Event};
-ghost use Rattle.content_ser.specs.Call.{event_of, events_of, IsOwned};
-ghost use Rattle.content_ser.specs.Lawful.{Seen, Takes};
-ghost use Rattle.content_build.specs.Recorder.{recorded, keeps, Records};
+ghost use Rattle.content_ser.specs.Calls.Event.{Event};
+ghost use Rattle.content_ser.specs.Calls.Call.{event_of, events_of, IsOwned};
+ghost use Rattle.content_ser.specs.Serializers.Step.{Seen, Takes};
+ghost use Rattle.content_build.specs.Recorder.{recorded, refuses, Records};
 
 use content_ser::{Call, Serializer};
 use content_tree::{Error, ErrorKind, Result};
@@ -14,9 +14,9 @@ use std::marker::Model;
 /// A list of the calls that it took, in order.
 ///
 /// It takes any call, in or out of place, and refuses one only where an allocation failed: then it
-/// answers `OutOfMemory`, from then on `Failed`, and keeps the calls taken before (`collect_str` that
-/// can't print answers `OutOfMemory` and changes nothing). It keeps texts and bytes of its own, copied
-/// from what a call lends. The Rust crate has no such type.
+/// answers `OutOfMemory`, from then on `Failed`, and keeps the calls taken before (`collect_str`
+/// that can't print answers `OutOfMemory` and changes nothing). It keeps texts and bytes of its
+/// own, copied from what a call lends. The Rust crate has no such type.
 ///
 /// ```rust
 /// let mut recorder = Recorder::new(alloc, false);
@@ -35,7 +35,12 @@ pub struct Recorder {
 impl Model for Recorder {
     ghost Value = { Seen (List Event) };
 
-    ghost view = { λ r. record { state = events_of r.calls.items; failed = r.failed; readable = r.human_readable } };
+    ghost view = { λ r. record {
+      state = events_of r.calls.items;
+      failed = r.failed;
+      readable =
+          r.human_readable;
+    } };
 
     ghost invariant = { λ r. All IsOwned r.calls.items };
 }
@@ -73,7 +78,7 @@ impl Recorder {
     // Puts the call at the list's end.
     fn take(&mut self, call: Call<'static>) -> Result<()>
         requires { IsOwned call }
-        ensures { Takes recorded keeps self.old (event_of call.entry) result self.new }
+        ensures { Takes recorded refuses self.old (event_of call.entry) result self.new }
     {
         if self.failed {
             return Err(Error::from(ErrorKind::Failed));
@@ -102,14 +107,15 @@ impl Serializer for Recorder {
 
     ghost step = { recorded };
 
-    ghost refuses = { keeps };
+    ghost refuses = { refuses };
 
     /// An owned text or owned bytes are moved, borrowed ones copied; else memory is taken for the
     /// list's growth alone. Errors: `OutOfMemory` where an allocation failed, `Failed` after that.
     fn call(&mut self, call: Call<'_>) -> Result<()>
         // one step of the list
-        ensures taken { Takes recorded keeps self.old (event_of call.entry) result self.new }
-        // the call stands at the list's end, or the list is kept and the recorder has failed for good
+        ensures taken { Takes recorded refuses self.old (event_of call.entry) result self.new }
+        // the call stands at the list's end, or the list is kept and the recorder has failed for
+        // good
         ensures exact { Records self.old (event_of call.entry) result self.new }
     {
         if self.failed {

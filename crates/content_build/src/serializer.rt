@@ -48,7 +48,7 @@ impl Serializer {
     pub fn serialize<T: Serialize>(self, alloc: Global, value: &T) -> Result<Value<'static>>
         ensures { Serialized (T.script value.now (is_readable self)) result }
     {
-        let mut builder = Builder::new(alloc, self.human_readable);
+        let mut builder: Builder<'static> = Builder::new(alloc, self.human_readable);
         value.serialize(alloc, &mut builder)?;
         builder.finish()
     }

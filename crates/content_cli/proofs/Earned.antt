@@ -1,22 +1,24 @@
 -- What an answer's parts come to, and which inputs earn which status.
-use Rattle.std.proofs.Common.{◌≡◌, ◌≢◌, inl, inr, ℕ, ◌+◌, ◌≤◌, List, ◌++◌, Option, Some, None, Result, Ok, Err, IfOk, OnOk, refl, sym, ◌∙◌, subst, arith}
+use Rattle.std.proofs.Common.{◌≡◌, ◌≢◌, inl, inr, ℕ, ◌+◌, ◌≤◌, List, ◌++◌, Option, Some, None}
+use Rattle.std.proofs.Common.{Result, Ok, Err, IfOk, OnOk, refl, sym, ◌∙◌, subst, arith}
 use Rattle.std.specs.Prelude.{codes}
 use Rattle.std.specs.String.{string_bytes}
 use Rattle.std.specs.Fmt.{decimal}
 use Rattle.std.specs.Prelude.{take, drop}
 use Rattle.std.proofs.lemmas.List.{take-append-drop}
 use Rattle.std.proofs.lemmas.Option.{none-some}
-use Rattle.content_tree.specs.Image.{image}
-use Rattle.content_tree.specs.Printed.{printed}
-use Rattle.content_tree.specs.Texts.{kind_text}
-use Rattle.content_tree.specs.Tree.{Tree}
+use Rattle.content_tree.specs.Images.Image.{image}
+use Rattle.content_tree.specs.Printed.Images.{printed}
+use Rattle.content_tree.specs.Printed.Errors.{kind_text}
+use Rattle.content_tree.specs.Values.Tree.{Tree}
 use Rattle.content_tree.specs.declared.error.ErrorKind.{ErrorKind}
-use Rattle.content_tree.specs.declared.error.ErrorKind.TheVariants.{Unexpected, Custom, OutOfMemory, Misplaced, Failed, Unfinished}
-use Rattle.content_ser.specs.Event.{Event}
-use Rattle.content_ser.specs.Spells.{SpellsWhole, IsWhole, IsViable}
+use Rattle.content_tree.specs.declared.error.ErrorKind.TheVariants.{Unexpected, Custom, OutOfMemory}
+use Rattle.content_tree.specs.declared.error.ErrorKind.TheVariants.{Misplaced, Failed, Unfinished}
+use Rattle.content_ser.specs.Calls.Event.{Event}
+use Rattle.content_ser.specs.Grammar.Spells.{SpellsWhole, IsWhole, IsViable}
 use Rattle.content_build.specs.Answers.{IsRefusal}
 use Rattle.content_cli.specs.Lines.{first_bad, calls_of}
-use Rattle.content_cli.specs.Answers.{Earns, Fits}
+use Rattle.content_cli.specs.Answers.{Earns, EarnsStatus}
 use Rattle.content_cli.specs.declared.answer.Answer.{Answer}
 
 -- the line of a bad line is earned by it
@@ -59,10 +61,10 @@ bad_or_not : {o : Option ℕ} {place : ℕ} {A : Type 0} → o ≡ Some place �
 bad_or_not bad good = absurd (none-some _ (sym good ∙ bad))
 
 -- the status is that of the input
-earns_fits : (input line : List ℕ) (status : ℕ) → Earns input line status → Fits input status
-earns_fits input line status (inl h) = record { tree = λ good _. bad_or_not h.bad good; none = λ good _. bad_or_not h.bad good; bad = λ _ _. h.code }
-earns_fits input line status (inr (inl h)) = record { tree = λ _ _. h.code; none = λ _ no. absurd (no (h.tree, h.spelled)); bad = λ place e. bad_or_not e h.good }
-earns_fits input line status (inr (inr h)) =
+earns_status : (input line : List ℕ) (status : ℕ) → Earns input line status → EarnsStatus input status
+earns_status input line status (inl h) = record { tree = λ good _. bad_or_not h.bad good; none = λ good _. bad_or_not h.bad good; bad = λ _ _. h.code }
+earns_status input line status (inr (inl h)) = record { tree = λ _ _. h.code; none = λ _ no. absurd (no (h.tree, h.spelled)); bad = λ place e. bad_or_not e h.good }
+earns_status input line status (inr (inr h)) =
     record { tree = λ _ whole. absurd (refused_spells_none (calls_of input) h.at h.cause h.refused h.caused whole); none = λ _ _. h.code; bad = λ place e. bad_or_not e h.good }
 
 -- the status is at most 2
@@ -72,9 +74,9 @@ earns_low input line status (inr (inl h)) = let e = h.code in omega arith
 earns_low input line status (inr (inr h)) = let e = h.code in omega arith
 
 -- an answer's status is that of the input
-pub answer_fits : {E : Type 0} (input : List ℕ) (r : Result Answer E) → IfOk r (λ a. Earns input (string_bytes a.line) a.status) → IfOk r (λ a. Fits input a.status)
-answer_fits input (Ok a) h = earns_fits input (string_bytes a.line) a.status h
-answer_fits input (Err e) h = h
+pub answer_status : {E : Type 0} (input : List ℕ) (r : Result Answer E) → IfOk r (λ a. Earns input (string_bytes a.line) a.status) → IfOk r (λ a. EarnsStatus input a.status)
+answer_status input (Ok a) h = earns_status input (string_bytes a.line) a.status h
+answer_status input (Err e) h = h
 
 -- an answer's status is at most 2
 pub answer_low : {E : Type 0} (input : List ℕ) (r : Result Answer E) → IfOk r (λ a. Earns input (string_bytes a.line) a.status) → IfOk r (λ a. a.status ≤ 2)

@@ -1,6 +1,9 @@
 -- What `parse` gives for a number that is written plainly.
-use Rattle.std.proofs.Common.{◌≡◌, ℕ, ◌<◌, ◌≤◌, ◌^◌, ltb, leb, Bool, true, false, cond, ◌&&◌, ◌||◌, List, length, drop, Result, Ok, Err, Some, None, refl, ap, sym, ◌∙◌, arith, rules, tests, pos, neg_ℤ, ℤ}
-use Rattle.std.proofs.lemmas.Str.Parse.{IsNumeralModel, numerals_by_value, tells_all_ascii_digits, parse_digits, parse_signed_digits, parse_signed_minus}
+use Rattle.std.proofs.Common.{◌≡◌, ℕ, ◌<◌, ◌≤◌, ◌^◌, ltb, leb, Bool, true, false, cond, ◌&&◌, ◌||◌}
+use Rattle.std.proofs.Common.{List, length, drop, Result, Ok, Err, Some, None, refl, ap, sym, ◌∙◌}
+use Rattle.std.proofs.Common.{arith, rules, tests, pos, neg_ℤ, ℤ}
+use Rattle.std.proofs.lemmas.Str.Parse.{IsNumeralModel, numerals_by_value, tells_all_ascii_digits}
+use Rattle.std.proofs.lemmas.Str.Parse.{parse_digits, parse_signed_digits, parse_signed_minus}
 use Rattle.std.specs.Str.{all_ascii_digits}
 use Rattle.std.specs.Str.Parse.{ParsesUnsigned, ParsesSigned, digits_value}
 use Rattle.std.specs.Result.{OkIff, result_ok}

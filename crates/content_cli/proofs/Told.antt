@@ -1,5 +1,6 @@
 -- An input that is read whole, and a line that is sent whole.
-use Rattle.std.proofs.Common.{◌≡◌, ◌<◌, ℕ, Bool, true, false, List, ◌++◌, Option, Some, None, IfSome, refl, arith, sym, ap, subst, ◌∙◌, append-nil}
+use Rattle.std.proofs.Common.{◌≡◌, ◌<◌, ℕ, Bool, true, false, List, ◌++◌, Option, Some, None}
+use Rattle.std.proofs.Common.{IfSome, refl, arith, sym, ap, subst, ◌∙◌, append-nil}
 use Rattle.std.specs.Io.KnownBytes.{Consumes, Appends, IsAtEnd}
 use Rattle.content_cli.specs.Answers.{Earns, Tells}
 

@@ -2,13 +2,13 @@
 use Rattle.std.specs.Prelude.{◌≡◌, ◌≢◌, ◌⊎◌, ℕ, ◌+◌, List, ◌++◌, codes, Option, Some, None}
 use Rattle.std.specs.Fmt.{decimal}
 use Rattle.std.specs.Io.KnownBytes.{Appends}
-use Rattle.content_tree.specs.Tree.{Tree}
-use Rattle.content_tree.specs.Image.{image}
-use Rattle.content_tree.specs.Printed.{printed}
-use Rattle.content_tree.specs.Texts.{kind_text}
+use Rattle.content_tree.specs.Values.Tree.{Tree}
+use Rattle.content_tree.specs.Images.Image.{image}
+use Rattle.content_tree.specs.Printed.Images.{printed}
+use Rattle.content_tree.specs.Printed.Errors.{kind_text}
 use Rattle.content_tree.specs.declared.error.ErrorKind.{ErrorKind}
 use Rattle.content_tree.specs.declared.error.ErrorKind.TheVariants.{OutOfMemory}
-use Rattle.content_ser.specs.Spells.{SpellsWhole, IsWhole}
+use Rattle.content_ser.specs.Grammar.Spells.{SpellsWhole, IsWhole}
 use Rattle.content_build.specs.Answers.{IsRefusal}
 use Rattle.content_cli.specs.Lines.{first_bad, calls_of}
 
@@ -46,7 +46,7 @@ abbrev pub Tells : List ℕ → ℕ → Option (List ℕ) → Option (List ℕ) 
 Tells input status old new = (line : List ℕ) × Earns input line status × Appends old new line
 
 -- which inputs earn the status
-pub record Fits (input : List ℕ) (status : ℕ) : Type 0 where
+pub record EarnsStatus (input : List ℕ) (status : ℕ) : Type 0 where
   pub tree : first_bad input ≡ None → IsWhole (calls_of input) → status ≡ 0
   pub none : first_bad input ≡ None → ¬ IsWhole (calls_of input) → status ≡ 1
   pub bad : (place : ℕ) → first_bad input ≡ Some place → status ≡ 2

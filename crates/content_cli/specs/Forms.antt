@@ -1,10 +1,11 @@
 -- What stands after the word of a line.
-use Rattle.std.specs.Prelude.{ℕ, ◌==◌, Bool, true, false, cond, ◌&&◌, ◌||◌, nat_le, nat_lt, List, [], ◌∷◌, length, codes, Option, None, Some}
+use Rattle.std.specs.Prelude.{ℕ, ◌==◌, Bool, true, false, cond, ◌&&◌, ◌||◌, nat_le, nat_lt, List}
+use Rattle.std.specs.Prelude.{[], ◌∷◌, length, codes, Option, None, Some}
 use Rattle.std.specs.Str.{bytes_eq}
 use Rattle.std.specs.Option.{option_map, option_and_then}
 use Rattle.std.specs.List.{before_first, after_first, position_or_len}
-use Rattle.content_ser.specs.Event as event
-use Rattle.content_ser.specs.Event.{Event}
+use Rattle.content_ser.specs.Calls.Event as event
+use Rattle.content_ser.specs.Calls.Event.{Event}
 use Rattle.content_cli.specs.Numerals.{natural_of, is_hex, unhex}
 
 -- a byte that a line may hold: 32 to 126
@@ -51,14 +52,14 @@ abbrev pub named_length_of : List ℕ → Option (List ℕ × ℕ)
 named_length_of t = option_and_then (λ p. both (name_of p.0) (natural_of 64 p.1)) (pair_of t)
 
 -- a name and an index, with what stands after them
-pub record Head : Type 0 where
+pub record VariantStart : Type 0 where
   pub name : List ℕ
   pub index : ℕ
   pub rest : List ℕ
 
 -- `N i ..`
-abbrev pub head_of : List ℕ → Option Head
-head_of t = option_and_then (λ p. option_and_then (λ q. option_map (λ h. record { name = h.0; index = h.1; rest = q.1 }) (both (name_of p.0) (natural_of 32 q.0))) (pair_of p.1)) (pair_of t)
+abbrev pub variant_start_of : List ℕ → Option VariantStart
+variant_start_of t = option_and_then (λ p. option_and_then (λ q. option_map (λ h. record { name = h.0; index = h.1; rest = q.1 }) (both (name_of p.0) (natural_of 32 q.0))) (pair_of p.1)) (pair_of t)
 
 -- a variant: the name of its enum, its index and its name
 pub record Variant : Type 0 where
@@ -68,8 +69,8 @@ pub record Variant : Type 0 where
 
 -- `N i V`
 abbrev pub variant_of : List ℕ → Option Variant
-variant_of t = option_and_then (λ h. option_map (λ v. record { name = h.name; index = h.index; variant = v }) (name_of h.rest)) (head_of t)
+variant_of t = option_and_then (λ h. option_map (λ v. record { name = h.name; index = h.index; variant = v }) (name_of h.rest)) (variant_start_of t)
 
 -- `N i V n`
 abbrev pub variant_length_of : List ℕ → Option (Variant × ℕ)
-variant_length_of t = option_and_then (λ h. option_map (λ p. (record { name = h.name; index = h.index; variant = p.0 }, p.1)) (named_length_of h.rest)) (head_of t)
+variant_length_of t = option_and_then (λ h. option_map (λ p. (record { name = h.name; index = h.index; variant = p.0 }, p.1)) (named_length_of h.rest)) (variant_start_of t)

@@ -2,7 +2,7 @@
 use Rattle.std.specs.Prelude.{ℕ, ◌==◌, Bool, ◌&&◌, not, List, length, Option, is_none}
 use Rattle.std.specs.Option.{option_to_list}
 use Rattle.std.specs.List.{slice_split, position, flat_map}
-use Rattle.content_ser.specs.Event.{Event}
+use Rattle.content_ser.specs.Calls.Event.{Event}
 use Rattle.content_cli.specs.Words.{event_in}
 
 -- the input is cut at each line feed

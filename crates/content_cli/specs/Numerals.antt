@@ -1,5 +1,7 @@
 -- Numbers and bytes as a line writes them.
-use Rattle.std.specs.Prelude.{ℕ, ◌+◌, ◌-◌, ◌*◌, ◌^◌, ◌%◌, ◌==◌, Bool, cond, ◌&&◌, ◌||◌, not, nat_le, nat_lt, List, [], ◌∷◌, length, Option, None, Some, ℤ, pos, neg_ℤ, drop, slice_index}
+use Rattle.std.specs.Prelude.{ℕ, ◌+◌, ◌-◌, ◌*◌, ◌^◌, ◌%◌, ◌==◌, Bool, cond, ◌&&◌, ◌||◌, not, nat_le}
+use Rattle.std.specs.Prelude.{nat_lt, List, [], ◌∷◌, length, Option, None, Some, ℤ, pos, neg_ℤ}
+use Rattle.std.specs.Prelude.{drop, slice_index}
 use Rattle.std.specs.Str.{all_ascii_digits}
 use Rattle.std.specs.Str.Parse.{digits_value}
 use Rattle.std.specs.Option.{option_map}

@@ -3,13 +3,13 @@
 ghost use Rattle.std.specs.Prelude.{◌≡◌, ◌≢◌, ◌≤◌, ◌+◌, ◌++◌, codes, IfOk, OnOk};
 ghost use Rattle.std.specs.String.{string_bytes};
 ghost use Rattle.std.specs.Fmt.{decimal};
-ghost use Rattle.content_tree.specs.Image.{image};
-ghost use Rattle.content_tree.specs.Kind.{kind_of};
-ghost use Rattle.content_tree.specs.Printed.{printed};
-ghost use Rattle.content_tree.specs.Texts.{error_text};
-ghost use Rattle.content_tree.specs.Value.{tree_of};
+ghost use Rattle.content_tree.specs.Images.Image.{image};
+ghost use Rattle.content_tree.specs.Errors.Kind.{kind_of};
+ghost use Rattle.content_tree.specs.Printed.Images.{printed};
+ghost use Rattle.content_tree.specs.Printed.Errors.{error_text};
+ghost use Rattle.content_tree.specs.Values.Value.{tree_of};
 ghost use Rattle.content_tree.specs.declared.error.ErrorKind.TheVariants.{OutOfMemory};
-ghost use Rattle.content_cli.specs.Answers.{Earns, Fits};
+ghost use Rattle.content_cli.specs.Answers.{Earns, EarnsStatus};
 
 use crate::calls::read_calls;
 use crate::line::first_bad_line;
@@ -28,7 +28,8 @@ pub struct Answer {
 
 /// The line that names a bad line, whose place is counted from 0 and named from 1.
 fn bad_line(alloc: Global, place: usize) -> Result<Answer, AllocError>
-    ensures line { IfOk result (λ a. string_bytes a.line ≡ codes "bad line " ++ (decimal (place + 1) ++ codes "\n")) }
+    ensures line { IfOk result (λ a. string_bytes a.line ≡ codes "bad line " ++
+        (decimal (place + 1) ++ codes "\n")) }
     ensures status { IfOk result (λ a. a.status ≡ 2) }
 {
     let number = place as u128 + 1;
@@ -40,7 +41,8 @@ fn bad_line(alloc: Global, place: usize) -> Result<Answer, AllocError>
 
 /// The line that prints the image of a value.
 fn taken(alloc: Global, value: Value<'_>) -> Result<Answer, AllocError>
-    ensures line { IfOk result (λ a. string_bytes a.line ≡ codes "ok " ++ (printed (image (tree_of value.entry)) ++ codes "\n")) }
+    ensures line { IfOk result (λ a. string_bytes a.line ≡ codes "ok " ++
+        (printed (image (tree_of value.entry)) ++ codes "\n")) }
     ensures status { IfOk result (λ a. a.status ≡ 0) }
 {
     let Ok(found) = value.into_found(alloc) else {
@@ -55,7 +57,8 @@ fn taken(alloc: Global, value: Value<'_>) -> Result<Answer, AllocError>
 /// The line that names the place and the cause of a refusal, unless memory is the cause.
 fn refused(alloc: Global, refusal: &CallsError) -> Result<Answer, AllocError>
     ensures cause { OnOk result (kind_of refusal.now.error ≢ OutOfMemory) }
-    ensures line { IfOk result (λ a. string_bytes a.line ≡ codes "refused at " ++ (decimal refusal.now.at ++ (codes ": " ++ (error_text refusal.now.error ++ codes "\n")))) }
+    ensures line { IfOk result (λ a. string_bytes a.line ≡ codes "refused at " ++
+        (decimal refusal.now.at ++ (codes ": " ++ (error_text refusal.now.error ++ codes "\n")))) }
     ensures status { IfOk result (λ a. a.status ≡ 1) }
 {
     let CallsError { at, error } = refusal;
@@ -71,7 +74,7 @@ fn refused(alloc: Global, refusal: &CallsError) -> Result<Answer, AllocError>
 /// The line and the status that the input earns, or an error where memory is refused.
 pub fn make_answer(alloc: Global, input: &[u8]) -> Result<Answer, AllocError>
     ensures value { IfOk result (λ a. Earns input.now (string_bytes a.line) a.status) }
-    ensures fits { IfOk result (λ a. Fits input.now a.status) }
+    ensures fits { IfOk result (λ a. EarnsStatus input.now a.status) }
     ensures low { IfOk result (λ a. a.status ≤ 2) }
 {
     if let Some(place) = first_bad_line(input) {

@@ -1,7 +1,7 @@
 //! From lines to calls.
 
 ghost use Rattle.std.specs.Prelude.{◌≡◌, IfOk};
-ghost use Rattle.content_ser.specs.Call.{event_of, events_of};
+ghost use Rattle.content_ser.specs.Calls.Call.{event_of, events_of};
 ghost use Rattle.content_cli.specs.Lines.{calls_of};
 ghost use Rattle.content_cli.specs.Views.{line_event};
 

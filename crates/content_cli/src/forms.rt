@@ -1,7 +1,9 @@
 //! What stands after the word of a line.
 
 ghost use Rattle.std.specs.Prelude.{◌≡◌, MatchOption, None, Some, true, false};
-ghost use Rattle.content_cli.specs.Forms.{boolean_of, character_of, octets_of, is_name, pair_of, head_of, variant_of, named_length_of, variant_length_of};
+ghost use Rattle.content_cli.specs.Forms.{boolean_of, character_of, octets_of, is_name, pair_of};
+ghost use Rattle.content_cli.specs.Forms.{variant_start_of, variant_of, named_length_of};
+ghost use Rattle.content_cli.specs.Forms.{variant_length_of};
 ghost use Rattle.content_cli.specs.Views.{Reads, variant_parts};
 
 use crate::line::{Line, Variant};
@@ -41,7 +43,8 @@ pub fn read_bytes(text: &str) -> Option<Line<'_>>
 
 /// One of the names that a line may cite, for as long as the program runs.
 pub fn read_name(text: &str) -> Option<&'static str>
-    ensures { MatchOption result (is_name text.now ≡ false) (λ n. (is_name text.now ≡ true) × (n.now ≡ text.now)) }
+    ensures { MatchOption result (is_name text.now ≡ false)
+        (λ n. (is_name text.now ≡ true) × (n.now ≡ text.now)) }
 {
     match text {
         "Foo" => Some("Foo"),
@@ -58,14 +61,16 @@ pub fn read_name(text: &str) -> Option<&'static str>
 
 /// What stands before and after the first space.
 fn cut_pair(text: &str) -> Option<(&str, &str)>
-    ensures { MatchOption result (pair_of text.now ≡ None) (λ p. pair_of text.now ≡ Some (p.0.now, p.1.now)) }
+    ensures { MatchOption result (pair_of text.now ≡ None)
+        (λ p. pair_of text.now ≡ Some (p.0.now, p.1.now)) }
 {
     text.split_once(' ')
 }
 
 /// A name and a length: `N n`.
 pub fn read_named_length(text: &str) -> Option<(&'static str, usize)>
-    ensures { MatchOption result (named_length_of text.now ≡ None) (λ p. named_length_of text.now ≡ Some (p.0.now, p.1)) }
+    ensures { MatchOption result (named_length_of text.now ≡ None)
+        (λ p. named_length_of text.now ≡ Some (p.0.now, p.1)) }
 {
     let (name, len) = cut_pair(text)?;
     Some((read_name(name)?, numbers::read_usize(len)?))
@@ -73,7 +78,9 @@ pub fn read_named_length(text: &str) -> Option<(&'static str, usize)>
 
 /// A name and an index, with what stands after them: `N i ..`.
 fn read_head(text: &str) -> Option<(&'static str, u32, &str)>
-    ensures { MatchOption result (head_of text.now ≡ None) (λ h. head_of text.now ≡ Some (record { name = h.0.now; index = h.1; rest = h.2.now })) }
+    ensures { MatchOption result (variant_start_of text.now ≡ None)
+        (λ h. variant_start_of text.now ≡ Some
+        (record { name = h.0.now; index = h.1; rest = h.2.now })) }
 {
     let (name, rest) = cut_pair(text)?;
     let (index, rest) = cut_pair(rest)?;
@@ -82,7 +89,8 @@ fn read_head(text: &str) -> Option<(&'static str, u32, &str)>
 
 /// A variant: `N i V`.
 pub fn read_variant(text: &str) -> Option<Variant>
-    ensures { MatchOption result (variant_of text.now ≡ None) (λ v. variant_of text.now ≡ Some (variant_parts v)) }
+    ensures { MatchOption result (variant_of text.now ≡ None)
+        (λ v. variant_of text.now ≡ Some (variant_parts v)) }
 {
     let (name, index, rest) = read_head(text)?;
     let variant = read_name(rest)?;
@@ -95,7 +103,8 @@ pub fn read_variant(text: &str) -> Option<Variant>
 
 /// A variant and a length: `N i V n`.
 pub fn read_variant_length(text: &str) -> Option<(Variant, usize)>
-    ensures { MatchOption result (variant_length_of text.now ≡ None) (λ p. variant_length_of text.now ≡ Some (variant_parts p.0, p.1)) }
+    ensures { MatchOption result (variant_length_of text.now ≡ None)
+        (λ p. variant_length_of text.now ≡ Some (variant_parts p.0, p.1)) }
 {
     let (name, index, rest) = read_head(text)?;
     let (variant, len) = read_named_length(rest)?;

@@ -40,11 +40,13 @@ impl From<AllocError> for NoInput {
 /// Each read that is neither the end nor a fault adds at least one byte to the vector, so a source
 /// that never ends brings it to `OutOfMemory`.
 pub fn gather<R: Source>(alloc: Global, reader: &mut R) -> Result<Vec<u8>, NoInput>
-    ensures all { IfOk result (λ input. Consumes (R.left reader.old) (R.left reader.new) input.items) }
+    ensures all { IfOk result (λ input. Consumes (R.left reader.old) (R.left reader.new)
+        input.items) }
     ensures ended { OnOk result (IsAtEnd (R.left reader.new)) }
     ensures kept { OnOk result (R.has_failed reader.new ≡ R.has_failed reader.old) }
     ensures fault { IfErr result (λ e. e ≡ NoInput.ReadFailed → R.has_failed reader.new ≡ true) }
-    ensures memory { IfErr result (λ e. e ≡ NoInput.OutOfMemory → R.has_failed reader.new ≡ R.has_failed reader.old) }
+    ensures memory { IfErr result (λ e. e ≡ NoInput.OutOfMemory → R.has_failed reader.new ≡
+        R.has_failed reader.old) }
 {
     let mut input = Vec::new(alloc);
     let mut buf = [0u8; READ_SIZE];

@@ -64,7 +64,8 @@ fn is_printable_text(line: &[u8]) -> bool
 
 /// The line as text, if its bytes are 32 to 126.
 fn text_of(line: &[u8]) -> Option<&str>
-    ensures { MatchOption result (list_all is_printable line.now ≡ false) (λ t. (list_all is_printable line.now ≡ true) × (t.now ≡ line.now)) }
+    ensures { MatchOption result (list_all is_printable line.now ≡ false)
+        (λ t. (list_all is_printable line.now ≡ true) × (t.now ≡ line.now)) }
 {
     if is_printable_text(line) {
         str::from_utf8(line).ok()

@@ -2,7 +2,7 @@
 
 ghost use Rattle.std.specs.Prelude.{◌≡◌, ◌<◌, ◌≤◌, ◌⊎◌, ◌↔◌, true, false, codes, IfSome};
 ghost use Rattle.std.specs.Io.KnownBytes.{Appends, IsAtEnd};
-ghost use Rattle.content_cli.specs.Answers.{Tells, Fits};
+ghost use Rattle.content_cli.specs.Answers.{Tells, EarnsStatus};
 
 use crate::answer::make_answer;
 use crate::gather::{NoInput, gather};
@@ -14,7 +14,8 @@ use std::alloc::Global;
 fn finish<W: Sink>(writer: &mut W, line: &[u8], status: u8) -> u8
     requires { W.has_failed writer.old ≡ false }
     ensures failed { W.has_failed writer.new ≡ true → result ≡ 5 }
-    ensures told { W.has_failed writer.new ≡ false → (result ≡ status) × Appends (W.written writer.old) (W.written writer.new) line.now }
+    ensures told { W.has_failed writer.new ≡ false → (result ≡ status) × Appends
+        (W.written writer.old) (W.written writer.new) line.now }
 {
     match send(writer, line) {
         Ok(()) => status,
@@ -33,9 +34,9 @@ fn finish<W: Sink>(writer: &mut W, line: &[u8], status: u8) -> u8
 /// | 4 | `read failed` | the reader answered a fault |
 /// | 5 | any part of a line | the writer answered a fault |
 ///
-/// Neither the reader nor the writer may have failed before. The line is made whole before any of it
-/// is written. A reader that never ends brings the run to want of memory. The lines, their answers
-/// and the statuses are ours.
+/// Neither the reader nor the writer may have failed before. The line is made whole before any of
+/// it is written. A reader that never ends brings the run to out of memory. The lines, their
+/// answers and the statuses are ours.
 ///
 /// ```rust
 /// let mut input = Plain::new(rt.stdin());
@@ -46,12 +47,15 @@ pub fn run<R: Source, W: Sink>(alloc: Global, reader: &mut R, writer: &mut W) ->
     requires reader_works { R.has_failed reader.old ≡ false }
     requires writer_works { W.has_failed writer.old ≡ false }
     // the answer, where memory is there and no port failed
-    ensures told { result < 3 → IfSome (R.left reader.old) (λ input. Tells input result (W.written writer.old) (W.written writer.new)) }
-    ensures fits { result < 3 → IfSome (R.left reader.old) (λ input. Fits input result) }
+    ensures told { result < 3 → IfSome (R.left reader.old)
+        (λ input. Tells input result (W.written writer.old) (W.written writer.new)) }
+    ensures fits { result < 3 → IfSome (R.left reader.old) (λ input. EarnsStatus input result) }
     ensures whole { result < 3 → IsAtEnd (R.left reader.new) }
-    // want of memory, and failures
-    ensures memory { result ≡ 3 → Appends (W.written writer.old) (W.written writer.new) (codes "out of memory\n") }
-    ensures fault { result ≡ 4 → Appends (W.written writer.old) (W.written writer.new) (codes "read failed\n") }
+    // out of memory, and failures
+    ensures memory { result ≡ 3 → Appends (W.written writer.old) (W.written writer.new)
+        (codes "out of memory\n") }
+    ensures fault { result ≡ 4 → Appends (W.written writer.old) (W.written writer.new)
+        (codes "read failed\n") }
     ensures only_failed { result ≡ 4 → R.has_failed reader.new ≡ true }
     ensures read_failed { R.has_failed reader.new ≡ true → (result ≡ 4) ⊎ (result ≡ 5) }
     ensures write_failed { (W.has_failed writer.new ≡ true) ↔ (result ≡ 5) }

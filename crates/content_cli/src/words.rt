@@ -1,7 +1,7 @@
 //! The words of lines.
 
 ghost use Rattle.std.specs.Option.{option_map};
-ghost use Rattle.content_ser.specs.Event as event;
+ghost use Rattle.content_ser.specs.Calls.Event as event;
 ghost use Rattle.content_cli.specs.Forms.{named_length_of, variant_length_of};
 ghost use Rattle.content_cli.specs.Words.{of_named, of_number, of_phrase, of_word};
 ghost use Rattle.content_cli.specs.Views.{Reads};
@@ -88,14 +88,16 @@ fn read_named<'a>(word: &str, rest: &str) -> Option<Line<'a>>
 }
 
 fn read_tuple_struct<'a>(text: &str) -> Option<Line<'a>>
-    ensures { Reads result (option_map (λ p. event.tuple_struct p.0 p.1) (named_length_of text.now)) }
+    ensures { Reads result (option_map (λ p. event.tuple_struct p.0 p.1)
+        (named_length_of text.now)) }
 {
     let (name, len) = read_named_length(text)?;
     Some(Line::TupleStruct(name, len))
 }
 
 fn read_tuple_variant<'a>(text: &str) -> Option<Line<'a>>
-    ensures { Reads result (option_map (λ p. event.tuple_variant p.0.name p.0.index p.0.variant p.1) (variant_length_of text.now)) }
+    ensures { Reads result (option_map (λ p. event.tuple_variant p.0.name p.0.index p.0.variant p.1)
+        (variant_length_of text.now)) }
 {
     let (variant, len) = read_variant_length(text)?;
     Some(Line::TupleVariant(variant, len))
@@ -109,7 +111,8 @@ fn read_struct<'a>(text: &str) -> Option<Line<'a>>
 }
 
 fn read_struct_variant<'a>(text: &str) -> Option<Line<'a>>
-    ensures { Reads result (option_map (λ p. event.struct_variant p.0.name p.0.index p.0.variant p.1) (variant_length_of text.now)) }
+    ensures { Reads result (option_map (λ p. event.struct_variant p.0.name p.0.index p.0.variant
+        p.1) (variant_length_of text.now)) }
 {
     let (variant, len) = read_variant_length(text)?;
     Some(Line::StructVariant(variant, len))

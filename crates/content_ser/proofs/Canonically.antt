@@ -1,13 +1,14 @@
 -- The script of a tree spells its canonical form, or stops where there is none.
-use Rattle.std.proofs.Common.{◌≡◌, List, ℕ, Option, Some, None, IsSome, refl, sym, ap, subst, ◌∙◌, inl, inr}
+use Rattle.std.proofs.Common.{◌≡◌, List, ℕ, Option, Some, None, IsSome, refl, sym, ap, subst, ◌∙◌}
+use Rattle.std.proofs.Common.{inl, inr}
 use Rattle.std.specs.Prelude.{◌⊎◌}
-use Rattle.content_tree.specs.Tree.{Tree, owned}
-use Rattle.content_ser.specs.Canonical.{IsCanonical, CanonicalSpelled, CanonicalOrStops}
-use Rattle.content_ser.specs.Lawful.{calls_of, stop_of}
-use Rattle.content_ser.specs.Loose.{loose}
-use Rattle.content_ser.specs.Spells.{SpellsWhole}
-use Rattle.content_ser.specs.StaticNames.{HasStaticKeys}
-use Rattle.content_ser.specs.TreeScript.{script_of}
+use Rattle.content_tree.specs.Values.Tree.{Tree, owned}
+use Rattle.content_ser.specs.Sending.Canonical.{IsCanonical, CanonicalSpelled, CanonicalOrStops}
+use Rattle.content_ser.specs.Scripts.Script.{calls_of, stop_of}
+use Rattle.content_ser.specs.Sending.Loose.{loose}
+use Rattle.content_ser.specs.Grammar.Spells.{SpellsWhole}
+use Rattle.content_ser.specs.Sending.StaticNames.{HasStaticKeys}
+use Rattle.content_ser.specs.Sending.TreeScript.{script_of}
 use Rattle.content_ser.proofs.Naming.{loose_names, keys_static, stop_free, built_owned}
 use Rattle.content_ser.proofs.Spelling.{script_spells}
 

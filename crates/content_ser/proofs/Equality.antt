@@ -1,19 +1,20 @@
 -- Two calls are equal exactly if they are the same by contents.
-use Rattle.std.proofs.Common.{◌≡◌, ℕ, Bool, true, false, ◌&&◌, ◌==◌, List, Option, Some, None, refl, ap}
+use Rattle.std.proofs.Common.{◌≡◌, ℕ, Bool, true, false, ◌&&◌, ◌==◌, List, Option, Some, None, refl}
+use Rattle.std.proofs.Common.{ap}
 use Rattle.std.specs.Bool.{Decides}
 use Rattle.std.specs.Cmp.{booleans_Decides}
 use mathlib.Core.Bool.{beq}
 use Rattle.std.proofs.lemmas.Bool.Decides.{Decides-int_eq, Decides-eqb}
 use Rattle.std.specs.Str.{bytes_eq}
 use Rattle.std.proofs.lemmas.Slice.Eq.{bytes_eq-Decides}
-use Rattle.content_tree.specs.Text.{text_content, bytes_content}
+use Rattle.content_tree.specs.Values.Text.{text_content, bytes_content}
 use Rattle.content_tree.specs.declared.number.Number.{Number}
 use Rattle.content_tree.specs.declared.number.Number.TheVariants as num
 use Rattle.content_tree.specs.contracts.number.NumberPartialEq.TheImpl as number_eq
 use Rattle.content_ser.specs.contracts.call.CallPartialEq.TheImpl as call_eq
-use Rattle.content_ser.specs.Call.{event_of}
-use Rattle.content_ser.specs.Event as event
-use Rattle.content_ser.specs.Event.{Event}
+use Rattle.content_ser.specs.Calls.Call.{event_of}
+use Rattle.content_ser.specs.Calls.Event as event
+use Rattle.content_ser.specs.Calls.Event.{Event}
 use Rattle.content_ser.proofs.DerivedEquality.{along, place, Tests, decides}
 use Rattle.content_ser.specs.contracts.call.Call as declared
 use denote.Signature.{static_lft}

@@ -1,35 +1,44 @@
 -- The names of a loose form are static, and so are its keys where its script has no stop.
-use Rattle.std.proofs.Common.{◌≡◌, ℕ, Bool, true, false, ◌&&◌, List, [], ◌∷◌, None, refl, sym, ap, subst, ◌∙◌, if◌then◌else◌}
-use Rattle.content_tree.specs.Text.{Text, to_owned}
-use Rattle.content_tree.specs.Tree as tree
-use Rattle.content_tree.specs.Tree.{Tree, Payload, Trees, Pairs, Fields, owned, owned_payload, at_texts_payload, at_texts_each, at_texts_pairs, at_texts_fields}
-use Rattle.content_ser.specs.Canonical.{as_built, to_static}
-use Rattle.content_ser.specs.Event as event
-use Rattle.content_ser.specs.Event.{Event}
-use Rattle.content_ser.specs.Lawful.{Script, done, stop_with, call_then, stop_of, and_then}
-use Rattle.content_ser.specs.Loose.{Entry, sorted, text_pairs, loose, loose_struct, loose_variant, loose_payload, loose_each, loose_pairs, loose_entries, loose_fields, keyed}
-use Rattle.content_ser.specs.ScriptLaws.{no_stop_first, no_stop_second, stop_of_both}
-use Rattle.content_ser.specs.StaticNames.{IsStatic, IsAny, EachPayloadName, EachItemName, EachPairName, EachFieldName, HasStaticNames, HasStaticKeys}
-use Rattle.content_ser.specs.Head.{Head, of_struct, of_variant}
-use Rattle.content_ser.specs.TreeScript.{key_script, script_of, script_of_payload, script_of_each, script_of_pairs, script_of_fields, owned_key_text}
+use Rattle.std.proofs.Common.{◌≡◌, ℕ, Bool, true, false, ◌&&◌, List, [], ◌∷◌, None, refl, sym, ap}
+use Rattle.std.proofs.Common.{subst, ◌∙◌, if◌then◌else◌}
+use Rattle.content_tree.specs.Values.Text.{Text, to_owned}
+use Rattle.content_tree.specs.Values.Tree as tree
+use Rattle.content_tree.specs.Values.Tree.{Tree, TreeData, Trees, Pairs, Fields, owned, owned_data}
+use Rattle.content_tree.specs.Values.Tree.{at_texts_data, at_texts_each, at_texts_pairs}
+use Rattle.content_tree.specs.Values.Tree.{at_texts_fields}
+use Rattle.content_ser.specs.Sending.Canonical.{as_built, to_static}
+use Rattle.content_ser.specs.Calls.Event as event
+use Rattle.content_ser.specs.Calls.Event.{Event}
+use Rattle.content_ser.specs.Scripts.Script.{Script, done, stop_with, call_then, stop_of, and_then}
+use Rattle.content_ser.specs.Sending.Loose.{KeyedTree, sorted, text_pairs, loose, loose_struct}
+use Rattle.content_ser.specs.Sending.Loose.{loose_variant, loose_data, loose_each, loose_pairs}
+use Rattle.content_ser.specs.Sending.Loose.{loose_field_pairs, loose_fields, keyed}
+use Rattle.content_ser.specs.Laws.ScriptsInARow.{no_stop_first, no_stop_second, stop_of_both}
+use Rattle.content_ser.specs.Sending.StaticNames.{IsStatic, IsAny, EachDataName, EachItemName}
+use Rattle.content_ser.specs.Sending.StaticNames.{EachPairName, EachFieldName, HasStaticNames}
+use Rattle.content_ser.specs.Sending.StaticNames.{HasStaticKeys}
+use Rattle.content_ser.specs.Calls.Head.{Head, of_struct, of_variant}
+use Rattle.content_ser.specs.Sending.TreeScript.{key_script, script_of, script_of_data}
+use Rattle.content_ser.specs.Sending.TreeScript.{script_of_each, script_of_pairs, script_of_fields}
+use Rattle.content_ser.specs.Sending.TreeScript.{owned_key_text}
 use Rattle.content_ser.proofs.Sorting.{EachHeld, sorted_held}
 
 both : (a b : Bool) → (a && b) ≡ true → (a ≡ true) × (b ≡ true)
 both true b e = (refl, e)
 both false b e = absurd (cc e)
 
-struct_names : (b : Bool) (n : Text) (p : Payload) → n.borrowed ≡ b → EachPayloadName IsStatic IsAny (loose_payload p) → HasStaticNames (loose_struct p) → HasStaticNames (loose (tree.structure n p))
-struct_names true n p e h k = subst (λ b. HasStaticNames (if b then tree.structure n (loose_payload p) else loose_struct p)) (sym e) (e, h)
-struct_names false n p e h k = subst (λ b. HasStaticNames (if b then tree.structure n (loose_payload p) else loose_struct p)) (sym e) k
+struct_names : (b : Bool) (n : Text) (p : TreeData) → n.borrowed ≡ b → EachDataName IsStatic IsAny (loose_data p) → HasStaticNames (loose_struct p) → HasStaticNames (loose (tree.structure n p))
+struct_names true n p e h k = subst (λ b. HasStaticNames (if b then tree.structure n (loose_data p) else loose_struct p)) (sym e) (e, h)
+struct_names false n p e h k = subst (λ b. HasStaticNames (if b then tree.structure n (loose_data p) else loose_struct p)) (sym e) k
 
-enum_names : (b : Bool) (n : Text) (i : ℕ) (v : Text) (p : Payload) → (n.borrowed && v.borrowed) ≡ b → EachPayloadName IsStatic IsAny (loose_payload p) → HasStaticNames (loose_variant v p)
+enum_names : (b : Bool) (n : Text) (i : ℕ) (v : Text) (p : TreeData) → (n.borrowed && v.borrowed) ≡ b → EachDataName IsStatic IsAny (loose_data p) → HasStaticNames (loose_variant v p)
     → HasStaticNames (loose (tree.enumeration n i v p))
 enum_names true n i v p e h k =
     let names = both n.borrowed v.borrowed e in
-    subst (λ b. HasStaticNames (if b then tree.enumeration n i v (loose_payload p) else loose_variant v p)) (sym e) (names.0, names.1, h)
-enum_names false n i v p e h k = subst (λ b. HasStaticNames (if b then tree.enumeration n i v (loose_payload p) else loose_variant v p)) (sym e) k
+    subst (λ b. HasStaticNames (if b then tree.enumeration n i v (loose_data p) else loose_variant v p)) (sym e) (names.0, names.1, h)
+enum_names false n i v p e h k = subst (λ b. HasStaticNames (if b then tree.enumeration n i v (loose_data p) else loose_variant v p)) (sym e) k
 
-text_pairs-names : (es : List Entry) → EachHeld HasStaticNames es → EachPairName IsStatic IsAny (text_pairs es)
+text_pairs-names : (es : List KeyedTree) → EachHeld HasStaticNames es → EachPairName IsStatic IsAny (text_pairs es)
 text_pairs-names [] h = tt
 text_pairs-names (e ∷ es) h = (tt, h.0, text_pairs-names es h.1)
 
@@ -46,27 +55,27 @@ mutual
   loose_names (tree.map ps) = pair_names ps
   loose_names tree.absent = tt
   loose_names (tree.present t) = loose_names t
-  loose_names (tree.structure n p) = struct_names n.borrowed n p refl (payload_names p) (in_struct p)
-  loose_names (tree.enumeration n i v p) = enum_names (n.borrowed && v.borrowed) n i v p refl (payload_names p) (in_variant v p)
+  loose_names (tree.structure n p) = struct_names n.borrowed n p refl (data_names p) (in_struct p)
+  loose_names (tree.enumeration n i v p) = enum_names (n.borrowed && v.borrowed) n i v p refl (data_names p) (in_variant v p)
   loose_names (tree.tuple ts) = item_names ts
 
-  in_struct : (p : Payload) → HasStaticNames (loose_struct p)
-  in_struct tree.no_payload = tt
+  in_struct : (p : TreeData) → HasStaticNames (loose_struct p)
+  in_struct tree.no_data = tt
   in_struct (tree.one t) = loose_names t
   in_struct (tree.many ts) = item_names ts
   in_struct (tree.named fs) = entry_names fs
 
-  in_variant : (v : Text) (p : Payload) → HasStaticNames (loose_variant v p)
-  in_variant v tree.no_payload = tt
+  in_variant : (v : Text) (p : TreeData) → HasStaticNames (loose_variant v p)
+  in_variant v tree.no_data = tt
   in_variant v (tree.one t) = (tt, loose_names t, tt)
   in_variant v (tree.many ts) = (tt, item_names ts, tt)
   in_variant v (tree.named fs) = (tt, text_pairs-names (sorted (keyed fs)) (sorted_held HasStaticNames (keyed fs) (keyed_names fs)), tt)
 
-  payload_names : (p : Payload) → EachPayloadName IsStatic IsAny (loose_payload p)
-  payload_names tree.no_payload = tt
-  payload_names (tree.one t) = loose_names t
-  payload_names (tree.many ts) = item_names ts
-  payload_names (tree.named fs) = field_names fs
+  data_names : (p : TreeData) → EachDataName IsStatic IsAny (loose_data p)
+  data_names tree.no_data = tt
+  data_names (tree.one t) = loose_names t
+  data_names (tree.many ts) = item_names ts
+  data_names (tree.named fs) = field_names fs
 
   item_names : (ts : Trees) → EachItemName IsStatic IsAny (loose_each ts)
   item_names tree.no_trees = tt
@@ -76,7 +85,7 @@ mutual
   pair_names tree.no_pairs = tt
   pair_names (tree.pair_then k t ps) = (loose_names k, loose_names t, pair_names ps)
 
-  entry_names : (fs : Fields) → EachPairName IsStatic IsAny (loose_entries fs)
+  entry_names : (fs : Fields) → EachPairName IsStatic IsAny (loose_field_pairs fs)
   entry_names tree.no_fields = tt
   entry_names (tree.field_then k t fs) = (tt, loose_names t, entry_names fs)
 
@@ -105,20 +114,20 @@ mutual
   keys_static (tree.map ps) e = pair_keys ps e
   keys_static tree.absent e = tt
   keys_static (tree.present t) e = keys_static t e
-  keys_static (tree.structure n p) e = (tt, payload_keys (of_struct n.content) p e)
-  keys_static (tree.enumeration n i v p) e = (tt, tt, payload_keys (of_variant n.content i v.content) p e)
+  keys_static (tree.structure n p) e = (tt, data_keys (of_struct n.content) p e)
+  keys_static (tree.enumeration n i v p) e = (tt, tt, data_keys (of_variant n.content i v.content) p e)
   keys_static (tree.tuple ts) e = item_keys event.element ts e
 
-  payload_keys : (head : Head) (p : Payload) → stop_of (script_of_payload head p) ≡ None → EachPayloadName IsAny IsStatic p
-  payload_keys head tree.no_payload e = tt
-  payload_keys head (tree.one t) e = keys_static t e
-  payload_keys head (tree.many ts) e = item_keys event.tuple_field ts e
-  payload_keys head (tree.named fs) e = field_keys fs e
+  data_keys : (head : Head) (p : TreeData) → stop_of (script_of_data head p) ≡ None → EachDataName IsAny IsStatic p
+  data_keys head tree.no_data e = tt
+  data_keys head (tree.one t) e = keys_static t e
+  data_keys head (tree.many ts) e = item_keys event.tuple_field ts e
+  data_keys head (tree.named fs) e = field_keys fs e
 
-  item_keys : (mark : Event) (ts : Trees) → stop_of (script_of_each mark ts) ≡ None → EachItemName IsAny IsStatic ts
-  item_keys mark tree.no_trees e = tt
-  item_keys mark (tree.tree_then t ts) e =
-      (keys_static t (no_stop_first (script_of t) (script_of_each mark ts) e), item_keys mark ts (no_stop_second (script_of t) (script_of_each mark ts) e))
+  item_keys : (item_call : Event) (ts : Trees) → stop_of (script_of_each item_call ts) ≡ None → EachItemName IsAny IsStatic ts
+  item_keys item_call tree.no_trees e = tt
+  item_keys item_call (tree.tree_then t ts) e =
+      (keys_static t (no_stop_first (script_of t) (script_of_each item_call ts) e), item_keys item_call ts (no_stop_second (script_of t) (script_of_each item_call ts) e))
 
   pair_keys : (ps : Pairs) → stop_of (script_of_pairs ps) ≡ None → EachPairName IsAny IsStatic ps
   pair_keys tree.no_pairs e = tt
@@ -158,19 +167,19 @@ mutual
   stop_free (tree.map ps) h = pairs_free ps h
   stop_free tree.absent h = refl
   stop_free (tree.present t) h = stop_free t h
-  stop_free (tree.structure n p) h = payload_free (of_struct n.content) p h.1
-  stop_free (tree.enumeration n i v p) h = payload_free (of_variant n.content i v.content) p h.2
+  stop_free (tree.structure n p) h = data_free (of_struct n.content) p h.1
+  stop_free (tree.enumeration n i v p) h = data_free (of_variant n.content i v.content) p h.2
   stop_free (tree.tuple ts) h = items_free event.element ts h
 
-  payload_free : (head : Head) (p : Payload) → EachPayloadName IsAny IsStatic p → stop_of (script_of_payload head p) ≡ None
-  payload_free head tree.no_payload h = refl
-  payload_free head (tree.one t) h = stop_free t h
-  payload_free head (tree.many ts) h = items_free event.tuple_field ts h
-  payload_free head (tree.named fs) h = fields_free fs h
+  data_free : (head : Head) (p : TreeData) → EachDataName IsAny IsStatic p → stop_of (script_of_data head p) ≡ None
+  data_free head tree.no_data h = refl
+  data_free head (tree.one t) h = stop_free t h
+  data_free head (tree.many ts) h = items_free event.tuple_field ts h
+  data_free head (tree.named fs) h = fields_free fs h
 
-  items_free : (mark : Event) (ts : Trees) → EachItemName IsAny IsStatic ts → stop_of (script_of_each mark ts) ≡ None
-  items_free mark tree.no_trees h = refl
-  items_free mark (tree.tree_then t ts) h = free_both (script_of t) (script_of_each mark ts) (stop_free t h.0) (items_free mark ts h.1)
+  items_free : (item_call : Event) (ts : Trees) → EachItemName IsAny IsStatic ts → stop_of (script_of_each item_call ts) ≡ None
+  items_free item_call tree.no_trees h = refl
+  items_free item_call (tree.tree_then t ts) h = free_both (script_of t) (script_of_each item_call ts) (stop_free t h.0) (items_free item_call ts h.1)
 
   pairs_free : (ps : Pairs) → EachPairName IsAny IsStatic ps → stop_of (script_of_pairs ps) ≡ None
   pairs_free tree.no_pairs h = refl
@@ -203,8 +212,8 @@ mutual
   built_owned (tree.enumeration n i v p) h g = rw (same_name n h.0, same_name v h.1, built_payload p h.2 g.2)
   built_owned (tree.tuple ts) h g = ap tree.tuple (built_items ts h g)
 
-  built_payload : (p : Payload) → EachPayloadName IsStatic IsAny p → EachPayloadName IsAny IsStatic p → at_texts_payload to_owned to_static p ≡ owned_payload p
-  built_payload tree.no_payload h g = refl
+  built_payload : (p : TreeData) → EachDataName IsStatic IsAny p → EachDataName IsAny IsStatic p → at_texts_data to_owned to_static p ≡ owned_data p
+  built_payload tree.no_data h g = refl
   built_payload (tree.one t) h g = ap tree.one (built_owned t h g)
   built_payload (tree.many ts) h g = ap tree.many (built_items ts h g)
   built_payload (tree.named fs) h g = ap tree.named (built_fields fs h g)

@@ -1,5 +1,7 @@
 -- Places stand for entries, after each insert.
-use Rattle.std.proofs.Common.{◌≡◌, ℕ, zero, suc, ◌+◌, ◌<◌, List, [], ◌∷◌, ◌++◌, map, length, take, get_or, Some, Bor, Ordering, Less, Equal, Greater, nat_cmp, is_eq, refl, sym, ap, subst, ◌∙◌, arith}
+use Rattle.std.proofs.Common.{◌≡◌, ℕ, zero, suc, ◌+◌, ◌<◌, List, [], ◌∷◌, ◌++◌, map, length, take}
+use Rattle.std.proofs.Common.{get_or, Some, Bor, Ordering, Less, Equal, Greater, nat_cmp, is_eq}
+use Rattle.std.proofs.Common.{refl, sym, ap, subst, ◌∙◌, arith}
 use Rattle.std.specs.Prelude.{slice_get}
 use Rattle.std.specs.Ordering.{match_ordering}
 use Rattle.std.specs.Cmp.Lexicographic.{slice_cmp}
@@ -9,14 +11,14 @@ use Rattle.std.proofs.lemmas.Slice.Eq.{bytes_eq-Decides}
 use Rattle.std.proofs.lemmas.List.{take_more, map-append}
 use Rattle.content_tree.specs.declared.cow.CowStr.{CowStr}
 use Rattle.content_tree.specs.declared.value.NamedValue.{NamedValue}
-use Rattle.content_ser.specs.Loose.{Entry, put, put_each}
-use Rattle.content_ser.specs.Places.{entry_of, StandsFor}
+use Rattle.content_ser.specs.Sending.Loose.{KeyedTree, put, put_each}
+use Rattle.content_ser.specs.Sending.Places.{keyed_tree_of, StandsFor}
 
 -- the order of borrowed texts
 abbrev pub text_order : Bor (List ℕ) → Bor (List ℕ) → Ordering
 text_order x y = slice_cmp nat_cmp x.now y.now
 
-stands_by : (fs : List (CowStr × NamedValue)) (o : Ordering) (ps ps' ps'' : List (Bor (List ℕ) × ℕ)) (es es' es'' : List Entry)
+stands_by : (fs : List (CowStr × NamedValue)) (o : Ordering) (ps ps' ps'' : List (Bor (List ℕ) × ℕ)) (es es' es'' : List KeyedTree)
     → StandsFor fs ps es → (o ≡ Equal → StandsFor fs ps' es') → StandsFor fs ps'' es''
     → StandsFor fs (match_ordering o ps ps' ps'') (match_ordering o es es' es'')
 stands_by fs Less ps ps' ps'' es es' es'' a b c = a
@@ -27,8 +29,8 @@ same_from_tie : (xs ys : List ℕ) → slice_cmp nat_cmp xs ys ≡ Equal → xs 
 same_from_tie xs ys e = (bytes_eq-Decides xs ys).0 (sym (is_eq-slice_cmp xs ys) ∙ ap is_eq e)
 
 -- a place put where its entry is put
-pub stands_insert : (fs : List (CowStr × NamedValue)) (ps : List (Bor (List ℕ) × ℕ)) (es : List Entry) (k : Bor (List ℕ)) (i : ℕ) (e : Entry)
-    → slice_get (map entry_of fs) i ≡ Some e → k.now ≡ e.0 → StandsFor fs ps es → StandsFor fs (insert_entry text_order ps k i) (put es e)
+pub stands_insert : (fs : List (CowStr × NamedValue)) (ps : List (Bor (List ℕ) × ℕ)) (es : List KeyedTree) (k : Bor (List ℕ)) (i : ℕ) (e : KeyedTree)
+    → slice_get (map keyed_tree_of fs) i ≡ Some e → k.now ≡ e.0 → StandsFor fs ps es → StandsFor fs (insert_entry text_order ps k i) (put es e)
 stands_insert fs [] [] k i e got named h = (got, named, tt)
 stands_insert fs [] (f ∷ es) k i e got named h = absurd h
 stands_insert fs (p ∷ ps) [] k i e got named h = absurd h
@@ -43,7 +45,7 @@ stands_insert fs (p ∷ ps) (f ∷ es) k i e got named (here, same, rest) =
     (here, same, later))
 
 -- one entry more, put last
-pub put_each-more : (all es : List Entry) (e : Entry) → put_each all (es ++ e ∷ []) ≡ put (put_each all es) e
+pub put_each-more : (all es : List KeyedTree) (e : KeyedTree) → put_each all (es ++ e ∷ []) ≡ put (put_each all es) e
 put_each-more all [] e = refl
 put_each-more all (f ∷ es) e = put_each-more (put all f) es e
 
@@ -70,7 +72,7 @@ same_from_got f (z ∷ xs) zero x y got is = let e = ap f is in cc
 same_from_got f (z ∷ xs) (suc i) x y got is = same_from_got f xs i x y got is
 
 -- as many places as entries
-pub stands-length : (fs : List (CowStr × NamedValue)) (ps : List (Bor (List ℕ) × ℕ)) (es : List Entry) → StandsFor fs ps es → length ps ≡ length es
+pub stands-length : (fs : List (CowStr × NamedValue)) (ps : List (Bor (List ℕ) × ℕ)) (es : List KeyedTree) → StandsFor fs ps es → length ps ≡ length es
 stands-length fs [] [] h = refl
 stands-length fs [] (e ∷ es) h = absurd h
 stands-length fs (p ∷ ps) [] h = absurd h

@@ -1,13 +1,7 @@
--- Laws of the grammar.
-use Rattle.std.specs.Prelude.{◌≡◌, List, [], ◌++◌}
-use Rattle.content_tree.specs.Tree.{Tree}
-use Rattle.content_ser.specs.Event.{Event}
-use Rattle.content_ser.specs.Spells.{SpellsWhole, IsWhole}
-
--- no whole list is a proper beginning of another
-abbrev pub UniqueCut : Type 0
-UniqueCut = (calls more : List Event) → IsWhole calls → IsWhole (calls ++ more) → more ≡ []
-
--- one list spells one tree
-abbrev pub OneTree : Type 0
-OneTree = (calls : List Event) (t u : Tree) → SpellsWhole calls t → SpellsWhole calls u → t ≡ u
+-- Laws of the definitions.
+pub mod Lists
+pub mod ScriptsInARow
+pub mod Fits
+pub mod StandardScripts
+pub mod TreeScripts
+pub mod OwnScripts

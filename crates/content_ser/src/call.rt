@@ -1,8 +1,8 @@
 //! Serialiser calls as data.
 
 ghost use Rattle.std.specs.Prelude.{◌≡◌, true, Ok, IfOk, IfErr, IfSome, IsOk};
-ghost use Rattle.content_tree.specs.Kind.{IsOutOfMemory};
-ghost use Rattle.content_ser.specs.Call.{event_of, text_part, IsOwned};
+ghost use Rattle.content_tree.specs.Errors.Kind.{IsOutOfMemory};
+ghost use Rattle.content_ser.specs.Calls.Call.{event_of, text_part, IsOwned};
 
 use content_tree::{CowBytes, CowStr, Number, Result};
 use std::alloc::Global;
@@ -10,9 +10,9 @@ use std::alloc::Global;
 /// One call on a serialiser, of 26 kinds: those of Serde's data model without floats, its ten whole
 /// numbers as one, and seven that are ours, which announce an item or close what was opened.
 ///
-/// Hints and lengths are what the caller says: no tree rests on them. Two calls are equal where they
-/// are of one kind and hold the same contents, hints and lengths: whether a text or bytes are borrowed
-/// does not count.
+/// Hints and lengths are what the caller says: no tree rests on them. Two calls are equal where
+/// they are of one kind and hold the same contents, hints and lengths: whether a text or bytes are
+/// borrowed does not count.
 ///
 /// ```rust
 /// let calls = [Call::Seq(Some(1)), Call::Element, Call::Bool(true), Call::End];
@@ -171,8 +171,8 @@ impl<'a> Call<'a> {
         }
     }
 
-    /// The same call with its text or bytes owned. Owned ones are moved, without memory, and borrowed
-    /// ones copied; where that allocation fails: an error of kind `OutOfMemory`.
+    /// The same call with its text or bytes owned. Owned ones are moved, without memory, and
+    /// borrowed ones copied; where that allocation fails: an error of kind `OutOfMemory`.
     pub fn into_owned(self, alloc: Global) -> Result<Call<'static>>
         ensures value { IfOk result (λ call. event_of call ≡ event_of self.entry) }
         ensures owned { IfOk result IsOwned }

@@ -2,8 +2,8 @@
 
 ghost use Rattle.std.specs.Prelude.{◌≡◌};
 ghost use Rattle.std.specs.Bool.{Decides};
-ghost use Rattle.content_ser.specs.Call.{event_of};
-ghost use Rattle.content_ser.specs.Canonical.{CanonicalOrStops, CanonicalSpelled};
+ghost use Rattle.content_ser.specs.Calls.Call.{event_of};
+ghost use Rattle.content_ser.specs.Sending.Canonical.{CanonicalOrStops, CanonicalSpelled};
 
 use crate::call::Call;
 
@@ -14,8 +14,8 @@ pub fn equal_by_contents(a: &Call<'_>, b: &Call<'_>) -> bool
     *a == *b
 }
 
-/// Where a tree has a canonical form, its script has no stop, and its calls spell that form, its texts
-/// and byte values owned.
+/// Where a tree has a canonical form, its script has no stop, and its calls spell that form, its
+/// texts and byte values owned.
 pub fn canonical_spelled()
     ensures { CanonicalSpelled }
 {}

@@ -1,4 +1,5 @@
-//! Serialiser calls, the grammar of their lists, and the traits of serialisers and of what they take.
+//! Serialiser calls, the grammar of their lists, and the traits of serialisers and of what they
+//! take.
 #![tactic(auto)]
 
 mod call;

@@ -1,6 +1,6 @@
 //! What the script of a value says of it.
 
-ghost use Rattle.content_ser.specs.Canonical.{LooseOnce, ScriptSpells};
+ghost use Rattle.content_ser.specs.Sending.Canonical.{LooseOnce, ScriptSpells};
 
 /// Where the script of a tree has no stop, its calls spell the tree, its texts owned and its names
 /// static.

@@ -2,12 +2,11 @@
 #![tactic(auto, using(crate::proofs::Sending::sending))]
 
 ghost use Rattle.std.specs.Prelude.{◌≡◌};
-ghost use Rattle.content_ser.specs.Begins.{Begins, Opening};
-ghost use Rattle.content_ser.specs.Call.{event_of};
-ghost use Rattle.content_ser.specs.Event.{field as field_event, tuple_field as tuple_field_event};
-ghost use Rattle.content_ser.specs.Lawful.{Sends};
-ghost use Rattle.content_ser.specs.OwnScripts.{end_script};
-ghost use Rattle.content_ser.specs.Scripts.{call_first, item_first, only};
+ghost use Rattle.content_ser.specs.Scripts.Begins.{Begins, Start, value_first};
+ghost use Rattle.content_ser.specs.Calls.Call.{event_of};
+ghost use Rattle.content_ser.specs.Scripts.Sends.{Sends};
+ghost use Rattle.content_ser.specs.Scripts.Own.{end_script};
+ghost use Rattle.content_ser.specs.Scripts.Standard.{call_first, only};
 
 use crate::call::Call;
 use crate::serialize::Serialize;
@@ -15,61 +14,49 @@ use crate::serializer::Serializer;
 use content_tree::Result;
 use std::alloc::Global;
 
-/// The calls that a script begins with: one that opens something, and the values put into it so far.
+/// The first calls of a script: one that opens something, and the values put into it so far.
 ///
-/// A [`Call`] is such a beginning, and [`field`](Parts::field) and [`tuple_field`](Parts::tuple_field) make
-/// a longer one. Nothing is sent until [`end`](Parts::end) or [`around`](Parts::around).
+/// A [`Call`] is one, and [`with`](Parts::with) makes more of them. Nothing is sent until
+/// [`end`](Parts::end) or [`around`](Parts::around).
 ///
 /// ```rust
-/// let mut recorder = Recorder::new(alloc, false);
-/// Call::Struct("Point", 2).field("x", &3i32).field("y", &4i32).end(alloc, &mut recorder)?;
+/// Call::Struct("Point", 2)
+///     .with(Call::Field("x"), &self.x)
+///     .with(Call::Field("y"), &self.y)
+///     .end(alloc, serializer)
 /// ```
 pub trait Parts: Sized + Drop {
     /// The script that begins with these calls and goes on with another.
-    ghost first: { Self → Opening };
+    ghost first: { Self → Start };
 
-    /// Makes these calls, one after another, up to the first that is refused. Its errors are those of
-    /// the serialiser and of the values.
+    /// Makes these calls, one after another, up to the first that is refused. Its errors are those
+    /// of the serialiser and of the values.
     fn send_parts<S: Serializer>(&self, alloc: Global, serializer: &mut S) -> Result<()>
-        ensures { Begins S.step S.refuses (S.seen serializer.old) (first self.now) result (S.seen serializer.new) };
+        ensures { Begins S.step S.refuses (S.seen serializer.old) (first self.now) result
+            (S.seen serializer.new) };
 
-    /// These calls, and then a field of a struct or a struct variant: its key and its value. It sends
-    /// nothing yet and takes no memory.
-    final fn field<'a, T: Serialize>(
+    /// These calls, then a call that announces a value, as `Call::Field("x")` or
+    /// `Call::TupleField`, and then the value. It sends nothing yet and takes no memory.
+    final fn with<'a, M: Parts, T: Serialize>(
         self,
-        key: &'static str,
+        item_call: M,
         value: &'a T,
-    ) -> Announced<'a, Self, T>
-        ensures before { result.before ≡ self }
-        ensures mark { event_of result.mark ≡ field_event key.now }
-        ensures value { result.value.now ≡ value.now }
+    ) -> Announced<'a, Self, M, T>
+        ensures { result ≡ record { before = self; item_call = item_call; value = value.exit } }
     {
         Announced {
             before: self,
-            mark: Call::Field(key),
+            item_call,
             value,
         }
     }
 
-    /// These calls, and then a value of a tuple struct or a tuple variant. It sends nothing yet and
-    /// takes no memory.
-    final fn tuple_field<'a, T: Serialize>(self, value: &'a T) -> Announced<'a, Self, T>
-        ensures before { result.before ≡ self }
-        ensures mark { event_of result.mark ≡ tuple_field_event }
-        ensures value { result.value.now ≡ value.now }
-    {
-        Announced {
-            before: self,
-            mark: Call::TupleField,
-            value,
-        }
-    }
-
-    /// Makes these calls, and then the one that closes what they opened. The error is that of the first
-    /// call that is refused, or of the first value that stops. Memory is taken where a value or the
-    /// serialiser takes some.
+    /// Makes these calls, and then the one that closes what they opened. The error is that of the
+    /// first call that is refused, or of the first value that stops. Memory is taken where a value
+    /// or the serialiser takes some.
     final fn end<S: Serializer>(self, alloc: Global, serializer: &mut S) -> Result<()>
-        ensures { Sends S.step S.refuses (S.seen serializer.old) (first self end_script) result (S.seen serializer.new) }
+        ensures { Sends S.step S.refuses (S.seen serializer.old) (first self end_script) result
+            (S.seen serializer.new) }
     {
         self.send_parts(alloc, serializer)?;
         serializer.end()
@@ -83,7 +70,8 @@ pub trait Parts: Sized + Drop {
         alloc: Global,
         serializer: &mut S,
     ) -> Result<()>
-        ensures { Sends S.step S.refuses (S.seen serializer.old) (first self (T.script value.now)) result (S.seen serializer.new) }
+        ensures { Sends S.step S.refuses (S.seen serializer.old) (first self (T.script value.now))
+            result (S.seen serializer.new) }
     {
         self.send_parts(alloc, serializer)?;
         value.serialize(alloc, serializer)
@@ -99,10 +87,11 @@ impl Parts for Call<'static> {
 }
 
 impl<'a> Call<'a> {
-    /// Makes this call, as the whole of what is sent. The error is the serialiser's where it refuses
-    /// the call; memory is taken where it takes some.
+    /// Makes this call, as the whole of what is sent. The error is the serialiser's where it
+    /// refuses the call; memory is taken where it takes some.
     pub fn send<S: Serializer>(self, serializer: &mut S) -> Result<()>
-        ensures { Sends S.step S.refuses (S.seen serializer.old) (only (event_of self.entry)) result (S.seen serializer.new) }
+        ensures { Sends S.step S.refuses (S.seen serializer.old) (only (event_of self.entry)) result
+            (S.seen serializer.new) }
     {
         serializer.call(self)
     }
@@ -110,18 +99,19 @@ impl<'a> Call<'a> {
 
 /// Calls, then one that announces a value, and then those of the value.
 #[derive(Drop)]
-pub struct Announced<'a, P, T> {
+pub struct Announced<'a, P, M, T> {
     before: P,
-    mark: Call<'static>,
+    item_call: M,
     value: &'a T,
 }
 
-impl<'a, P: Parts, T: Serialize> Parts for Announced<'a, P, T> {
-    ghost first = { λ p rest. P.first p.before (item_first (event_of p.mark) (T.script p.value.now) rest) };
+impl<'a, P: Parts, M: Parts, T: Serialize> Parts for Announced<'a, P, M, T> {
+    ghost first = { λ p rest. P.first p.before
+        (M.first p.item_call (value_first (T.script p.value.now) rest)) };
 
     fn send_parts<S: Serializer>(&self, alloc: Global, serializer: &mut S) -> Result<()> {
         self.before.send_parts(alloc, serializer)?;
-        serializer.call(self.mark.lend())?;
+        self.item_call.send_parts(alloc, serializer)?;
         self.value.serialize(alloc, serializer)
     }
 }

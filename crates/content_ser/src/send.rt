@@ -5,20 +5,21 @@ mod key;
 mod places;
 mod walk;
 
-ghost use Rattle.content_tree.specs.Value.{enum_tree, struct_tree, tree_of};
-ghost use Rattle.content_ser.specs.TreeLaw.{tree_lawful};
-ghost use Rattle.content_ser.specs.TreeScript.{sent_tree};
-ghost use Rattle.content_ser.specs.Loose.{loose};
+ghost use Rattle.content_tree.specs.Values.Value.{enum_tree, struct_tree, tree_of};
+ghost use Rattle.content_ser.specs.Laws.TreeScripts.{tree_lawful};
+ghost use Rattle.content_ser.specs.Sending.TreeScript.{loose_script};
+ghost use Rattle.content_ser.specs.Sending.Loose.{loose};
 
 use crate::serialize::Serialize;
 use crate::serializer::Serializer;
 use content_tree::{Enum, Result, Struct, Value};
 use std::alloc::Global;
 
-/// Each node by its own call and children in order, a struct and a variant as below. The first field
-/// with an owned key among what is sent stops it: all calls before are made, and the error is `Custom`.
+/// Each node by its own call and children in order, a struct and a variant as below. The first
+/// field with an owned key among what is sent stops it: all calls before are made, and the error is
+/// `Custom`.
 impl<'a> Serialize for Value<'a> {
-    ghost script = { λ v. sent_tree (tree_of v) };
+    ghost script = { λ v. loose_script (tree_of v) };
 
     ghost lawful = { λ v readable. tree_lawful (loose (tree_of v)) };
 
@@ -30,7 +31,7 @@ impl<'a> Serialize for Value<'a> {
 /// Under its name where that is static; else what it holds alone: a unit, a value, a sequence, or a
 /// map with text keys in their order.
 impl<'a> Serialize for Struct<'a> {
-    ghost script = { λ v. sent_tree (struct_tree v) };
+    ghost script = { λ v. loose_script (struct_tree v) };
 
     ghost lawful = { λ v readable. tree_lawful (loose (struct_tree v)) };
 
@@ -39,11 +40,11 @@ impl<'a> Serialize for Struct<'a> {
     }
 }
 
-/// Under its names where both are static; else its name as a text, or a map from it to what it holds:
-/// a value, a sequence, or a map sorted by the bytes of its text keys, of equal keys the last alone.
-/// Memory is taken for that sorting alone.
+/// Under its names where both are static; else its name as a text, or a map from it to what it
+/// holds: a value, a sequence, or a map sorted by the bytes of its text keys, of equal keys the
+/// last alone. Memory is taken for that sorting alone.
 impl<'a> Serialize for Enum<'a> {
-    ghost script = { λ v. sent_tree (enum_tree v) };
+    ghost script = { λ v. loose_script (enum_tree v) };
 
     ghost lawful = { λ v readable. tree_lawful (loose (enum_tree v)) };
 

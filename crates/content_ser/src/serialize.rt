@@ -1,7 +1,8 @@
 //! The trait of what serialisers take.
 
 ghost use Rattle.std.specs.Prelude.{Bool};
-ghost use Rattle.content_ser.specs.Lawful.{IsLawful, Script, Sends};
+ghost use Rattle.content_ser.specs.Scripts.Script.{IsLawful, Script};
+ghost use Rattle.content_ser.specs.Scripts.Sends.{Sends};
 
 use crate::serializer::Serializer;
 use content_tree::Result;
@@ -25,6 +26,7 @@ pub trait Serialize {
         ensures { Sends S.step S.refuses (S.seen serializer.old)
             (script self.now) result (S.seen serializer.new) };
 
-    /// Without a stop the calls spell a tree; with a stop some calls can follow that make them spell one.
+    /// Without a stop the calls spell a tree; with a stop some calls can follow that make them
+    /// spell one.
     ghost lawful: { (x : Self) (readable : Bool) → IsLawful (script x readable) };
 }

@@ -2,9 +2,14 @@
 
 ghost use Rattle.std.specs.Prelude.{◌≡◌, Some};
 ghost use Rattle.content_tree.specs.declared.number.Number.TheVariants as num;
-ghost use Rattle.content_ser.specs.Event.{boolean, number, character, text, octets, unit, none, some, unit_struct, unit_variant, newtype_struct, newtype_variant, seq, tuple, tuple_struct, tuple_variant, map, structure, struct_variant, element, tuple_field, field, key, value, entry, end as end_};
-ghost use Rattle.content_ser.specs.Call.{event_of};
-ghost use Rattle.content_ser.specs.Lawful.{Collects, Refuses, Seen, Step, Takes};
+ghost use Rattle.content_ser.specs.Calls.Event.{boolean, number, character, text, octets, unit};
+ghost use Rattle.content_ser.specs.Calls.Event.{none, some, unit_struct, unit_variant};
+ghost use Rattle.content_ser.specs.Calls.Event.{newtype_struct, newtype_variant, seq, tuple};
+ghost use Rattle.content_ser.specs.Calls.Event.{tuple_struct, tuple_variant, map, structure};
+ghost use Rattle.content_ser.specs.Calls.Event.{struct_variant, element, tuple_field, field, key};
+ghost use Rattle.content_ser.specs.Calls.Event.{value, entry, end as end_};
+ghost use Rattle.content_ser.specs.Calls.Call.{event_of};
+ghost use Rattle.content_ser.specs.Serializers.Step.{Collects, RefusalRule, Seen, Step, Takes};
 
 use crate::call::Call;
 use content_tree::{CowBytes, CowStr, Number, Result};
@@ -15,14 +20,14 @@ use std::fmt::Display;
 ///
 /// An implementation names its state as plain data, which no code has to make, and the step that
 /// each call takes in it. A call that answers `Ok` takes that step and leaves the serialiser not
-/// failed. A call other than `collect_str` that answers `Err` leaves it failed: the step is none, or
-/// an allocation failed. A failed serialiser refuses every call and stays failed. No call changes
-/// whether it is for people to read.
+/// failed. A call other than `collect_str` that answers `Err` leaves it failed: the step is none,
+/// or an allocation failed. A failed serialiser refuses every call and stays failed. No call
+/// changes whether it is for people to read.
 ///
 /// Names live as long as the program. `variant_index` is the variant's place in its enum, from 0. A
-/// length counts items; that of a sequence or a map is a hint, which may be left out. Errors are those
-/// that `refuses` names; whether a call takes memory is the implementation's. The calls are Serde's,
-/// but that items are announced and that `end` is one call.
+/// length counts items; that of a sequence or a map is a hint, which may be left out. Errors are
+/// those that `refuses` names; whether a call takes memory is the implementation's. The calls are
+/// Serde's, but that items are announced and that `end` is one call.
 pub trait Serializer {
     /// What the calls so far have come to.
     ghost State: { Type 0 };
@@ -34,7 +39,7 @@ pub trait Serializer {
     ghost step: { Step State };
 
     /// With which error a call is refused, and what state is kept.
-    ghost refuses: { Refuses State };
+    ghost refuses: { RefusalRule State };
 
     /// Makes this call. The others are each one of it.
     fn call(&mut self, call: Call<'_>) -> Result<()>

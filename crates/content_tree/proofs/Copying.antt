@@ -1,7 +1,8 @@
 -- One more pair of a map, copied.
-use Rattle.std.proofs.Common.{◌≡◌, ℕ, ◌+◌, ◌<◌, List, [], ◌∷◌, ◌++◌, length, get_or, take, map, sym, ap, ◌∙◌}
+use Rattle.std.proofs.Common.{◌≡◌, ℕ, ◌+◌, ◌<◌, List, [], ◌∷◌, ◌++◌, length, get_or, take, map, sym}
+use Rattle.std.proofs.Common.{ap, ◌∙◌}
 use Rattle.std.proofs.lemmas.List.{map-append, map_more}
-use Rattle.content_tree.specs.Value.{tree_of, pair_tree}
+use Rattle.content_tree.specs.Values.Value.{tree_of, pair_tree}
 use Rattle.content_tree.specs.declared.value.NamedValue.{NamedValue}
 
 pub copied_more : (pairs copies : List (NamedValue × NamedValue)) (i : ℕ) (none : NamedValue × NamedValue) (key value : NamedValue)

@@ -2,10 +2,10 @@
 use Rattle.std.proofs.Common.{◌≡◌, refl, ap, Option, None, Some, String, Global}
 use Rattle.std.specs.Ordering.{ordering_then}
 use Rattle.std.specs.Option.{option_cmp}
-use Rattle.content_tree.specs.Found.{image_view}
-use Rattle.content_tree.specs.Order.{number_cmp}
-use Rattle.content_tree.specs.ImageOrder.{string_cmp, image_cmp}
-use Rattle.content_tree.specs.ErrorOrder.{type_cmp, expected_cmp, kind_cmp, error_cmp}
+use Rattle.content_tree.specs.Images.Found.{image_view}
+use Rattle.content_tree.specs.Orders.Trees.{number_cmp}
+use Rattle.content_tree.specs.Orders.Images.{string_cmp, image_cmp}
+use Rattle.content_tree.specs.Orders.Errors.{type_cmp, expected_cmp, kind_cmp, error_cmp}
 use Rattle.content_tree.specs.declared.number.Number.{Number}
 use Rattle.content_tree.specs.declared.number.Number.TheVariants as num
 use Rattle.content_tree.specs.declared.expected.DataType.{DataType}

@@ -1,18 +1,21 @@
 -- What `==` decides where it is derived.
-use Rattle.std.proofs.Common.{◌≡◌, ℕ, List, refl, ap, sym, subst, ◌∙◌, Option, None, Some, String, Global, Ordering, nat_cmp}
+use Rattle.std.proofs.Common.{◌≡◌, ℕ, List, refl, ap, sym, subst, ◌∙◌, Option, None, Some, String}
+use Rattle.std.proofs.Common.{Global, Ordering, nat_cmp}
 use Rattle.std.specs.Prelude.{string_bytes, option_map}
 use Rattle.std.specs.Bool.{Decides}
 use Rattle.std.specs.Ordering.{is_eq, ordering_then}
 use Rattle.std.specs.Option.{option_cmp}
 use Rattle.content_tree.proofs.Decide.{Ties, along, both, nats_tie, bytes_tie, numbers_tie}
 use Rattle.content_tree.proofs.SameImage.{images_tie}
-use Rattle.content_tree.proofs.DerivedOrders.{number_order, type_order, expected_order, kind_order, error_order}
-use Rattle.content_tree.specs.Found.{image_view}
-use Rattle.content_tree.specs.Fault.{name_view, expected_view, structure, enumeration, kind_view, unexpected, custom}
-use Rattle.content_tree.specs.Kind.{kind_of}
-use Rattle.content_tree.specs.Order.{number_cmp}
-use Rattle.content_tree.specs.ImageOrder.{string_cmp, image_cmp}
-use Rattle.content_tree.specs.ErrorOrder.{type_cmp, expected_cmp, kind_cmp, error_cmp}
+use Rattle.content_tree.proofs.DerivedOrders.{number_order, type_order, expected_order, kind_order}
+use Rattle.content_tree.proofs.DerivedOrders.{error_order}
+use Rattle.content_tree.specs.Images.Found.{image_view}
+use Rattle.content_tree.specs.Errors.Cause.{name_view, expectation_of, structure, enumeration}
+use Rattle.content_tree.specs.Errors.Cause.{cause_of, unexpected, custom}
+use Rattle.content_tree.specs.Errors.Kind.{kind_of}
+use Rattle.content_tree.specs.Orders.Trees.{number_cmp}
+use Rattle.content_tree.specs.Orders.Images.{string_cmp, image_cmp}
+use Rattle.content_tree.specs.Orders.Errors.{type_cmp, expected_cmp, kind_cmp, error_cmp}
 use Rattle.content_tree.specs.declared.number.Number.{Number}
 use Rattle.content_tree.specs.declared.expected.DataType.{DataType}
 use Rattle.content_tree.specs.declared.expected.DataType.TheVariants as kind
@@ -72,7 +75,7 @@ named_tie n m t u =
     both (option_cmp string_cmp n m) (option_cmp type_cmp t u) names (optional_types_tie t u)
 
 -- expectations
-expected_tie : (a b : Expected) → Ties (expected_cmp a b) (expected_view a ≡ expected_view b)
+expected_tie : (a b : Expected) → Ties (expected_cmp a b) (expectation_of a ≡ expectation_of b)
 expected_tie want.Unit want.Unit = (λ e. refl, λ e. refl)
 expected_tie want.Bool want.Bool = (λ e. refl, λ e. refl)
 expected_tie want.Char want.Char = (λ e. refl, λ e. refl)
@@ -97,13 +100,13 @@ expected_tie want.I128 want.I128 = (λ e. refl, λ e. refl)
 expected_tie want.U128 want.U128 = (λ e. refl, λ e. refl)
 expected_tie a b = (λ e. absurd (cc e), λ e. absurd (cc e))
 
-pub equal_expected : (a b : Expected) → Decides ((expected_eq.ghosts).eq a b) (expected_view a ≡ expected_view b)
+pub equal_expected : (a b : Expected) → Decides ((expected_eq.ghosts).eq a b) (expectation_of a ≡ expectation_of b)
 equal_expected a b =
     let same = expected_laws.matches_eq-law a b ∙ ap is_eq (expected_order a b) in
-    subst (λ t. Decides t (expected_view a ≡ expected_view b)) (sym same) (expected_tie a b)
+    subst (λ t. Decides t (expectation_of a ≡ expectation_of b)) (sym same) (expected_tie a b)
 
 -- kinds of errors
-kinds_tie : (a b : ErrorKind) → Ties (kind_cmp a b) (kind_view a ≡ kind_view b)
+kinds_tie : (a b : ErrorKind) → Ties (kind_cmp a b) (cause_of a ≡ cause_of b)
 kinds_tie (error.Unexpected f e) (error.Unexpected g d) =
     along _ (both (image_cmp (image_view f) (image_view g)) (expected_cmp e d) (images_tie (image_view f) (image_view g)) (expected_tie e d))
     (λ p. cc) (λ p. (cc, cc))
@@ -114,13 +117,13 @@ kinds_tie error.Failed error.Failed = (λ e. refl, λ e. refl)
 kinds_tie error.Unfinished error.Unfinished = (λ e. refl, λ e. refl)
 kinds_tie a b = (λ e. absurd (cc e), λ e. absurd (cc e))
 
-pub equal_kinds : (a b : ErrorKind) → Decides ((kind_eq.ghosts).eq a b) (kind_view a ≡ kind_view b)
+pub equal_kinds : (a b : ErrorKind) → Decides ((kind_eq.ghosts).eq a b) (cause_of a ≡ cause_of b)
 equal_kinds a b =
     let same = kind_laws.matches_eq-law a b ∙ ap is_eq (kind_order a b) in
-    subst (λ t. Decides t (kind_view a ≡ kind_view b)) (sym same) (kinds_tie a b)
+    subst (λ t. Decides t (cause_of a ≡ cause_of b)) (sym same) (kinds_tie a b)
 
 -- errors
-pub equal_errors : (a b : Error) → Decides ((error_eq.ghosts).eq a b) (kind_view (kind_of a) ≡ kind_view (kind_of b))
+pub equal_errors : (a b : Error) → Decides ((error_eq.ghosts).eq a b) (cause_of (kind_of a) ≡ cause_of (kind_of b))
 equal_errors a b =
     let same = error_laws.matches_eq-law a b ∙ ap is_eq (error_order a b) in
-    subst (λ t. Decides t (kind_view (kind_of a) ≡ kind_view (kind_of b))) (sym same) (kinds_tie (kind_of a) (kind_of b))
+    subst (λ t. Decides t (cause_of (kind_of a) ≡ cause_of (kind_of b))) (sym same) (kinds_tie (kind_of a) (kind_of b))

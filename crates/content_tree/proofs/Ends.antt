@@ -1,5 +1,6 @@
 -- Where two lists are compared item by item and one ends, their lengths decide.
-use Rattle.std.proofs.Common.{◌≡◌, ℕ, zero, suc, ◌<◌, ◌≤◌, List, [], ◌∷◌, length, drop, Ordering, Less, Equal, Greater, nat_cmp, refl, sym, ◌∙◌, arith}
+use Rattle.std.proofs.Common.{◌≡◌, ℕ, zero, suc, ◌<◌, ◌≤◌, List, [], ◌∷◌, length, drop, Ordering}
+use Rattle.std.proofs.Common.{Less, Equal, Greater, nat_cmp, refl, sym, ◌∙◌, arith}
 use Rattle.std.specs.Ordering.{MatchOrdering}
 use Rattle.std.specs.Cmp.{ranked, nat_cmp_is}
 

@@ -1,24 +1,24 @@
 -- Lists of values, each as its image.
 use Rattle.std.proofs.Common.{◌≡◌, ℕ, List, [], ◌∷◌, map, refl, ap}
-use Rattle.content_tree.specs.Text.{text_of}
-use Rattle.content_tree.specs.Value.{tree_of, trees_view, pairs_view, fields_view}
+use Rattle.content_tree.specs.Values.Text.{text_of}
+use Rattle.content_tree.specs.Values.Value.{tree_of, trees_view, pairs_view, fields_view}
 use Rattle.content_tree.specs.declared.cow.CowStr.{CowStr}
 use Rattle.content_tree.specs.declared.value.NamedValue.{NamedValue}
-use Rattle.content_tree.specs.Image as image
-use Rattle.content_tree.specs.Image.{Image, image, image_each, image_pairs, image_fields}
-use Rattle.content_tree.specs.Found.{images_of, entries_of, members_of}
+use Rattle.content_tree.specs.Images.Image as image
+use Rattle.content_tree.specs.Images.Image.{Image, image, image_each, image_pairs, image_fields}
+use Rattle.content_tree.specs.Images.Found.{images_of, image_pairs_of, image_fields_of}
 
 -- the image of a value
 abbrev pub value_image : NamedValue → Image
 value_image v = image (tree_of v)
 
 -- the images of a pair
-abbrev pub pair_image : NamedValue × NamedValue → Image × Image
-pair_image p = (image (tree_of p.0), image (tree_of p.1))
+abbrev pub value_pair_image : NamedValue × NamedValue → Image × Image
+value_pair_image p = (image (tree_of p.0), image (tree_of p.1))
 
 -- the key and the image of a field
-abbrev pub field_image : CowStr × NamedValue → List ℕ × Image
-field_image f = ((text_of f.0).content, image (tree_of f.1))
+abbrev pub value_field_image : CowStr × NamedValue → List ℕ × Image
+value_field_image f = ((text_of f.0).content, image (tree_of f.1))
 
 -- the images of values, one by one
 pub items_found : (vs : List NamedValue) → images_of (map value_image vs) ≡ image_each (trees_view vs)
@@ -26,11 +26,11 @@ items_found [] = refl
 items_found (v ∷ vs) = ap (image.image_then (image (tree_of v))) (items_found vs)
 
 -- the images of pairs, one by one
-pub pairs_found : (ps : List (NamedValue × NamedValue)) → entries_of (map pair_image ps) ≡ image_pairs (pairs_view ps)
+pub pairs_found : (ps : List (NamedValue × NamedValue)) → image_pairs_of (map value_pair_image ps) ≡ image_pairs (pairs_view ps)
 pairs_found [] = refl
-pairs_found (p ∷ ps) = ap (image.entry_then (image (tree_of p.0)) (image (tree_of p.1))) (pairs_found ps)
+pairs_found (p ∷ ps) = ap (image.image_pair_then (image (tree_of p.0)) (image (tree_of p.1))) (pairs_found ps)
 
 -- the images of fields, one by one
-pub fields_found : (fs : List (CowStr × NamedValue)) → members_of (map field_image fs) ≡ image_fields (fields_view fs)
+pub fields_found : (fs : List (CowStr × NamedValue)) → image_fields_of (map value_field_image fs) ≡ image_fields (fields_view fs)
 fields_found [] = refl
-fields_found (f ∷ fs) = ap (image.member_then (text_of f.0).content (image (tree_of f.1))) (fields_found fs)
+fields_found (f ∷ fs) = ap (image.image_field_then (text_of f.0).content (image (tree_of f.1))) (fields_found fs)

@@ -1,9 +1,12 @@
 -- Lists of values, each owned.
-use Rattle.std.proofs.Common.{◌≡◌, List, [], ◌∷◌, ◌++◌, map, length, refl, ap, ◌∙◌, arith, append-nil}
-use Rattle.content_tree.specs.Text.{Text, text_of, to_owned}
-use Rattle.content_tree.specs.Tree as tree
-use Rattle.content_tree.specs.Tree.{Tree, owned, at_texts_each, at_texts_pairs, at_texts_fields}
-use Rattle.content_tree.specs.Value.{tree_of, trees_of, pairs_of, fields_of, trees_view, pairs_view, fields_view}
+use Rattle.std.proofs.Common.{◌≡◌, List, [], ◌∷◌, ◌++◌, map, length, refl, ap, ◌∙◌, arith}
+use Rattle.std.proofs.Common.{append-nil}
+use Rattle.content_tree.specs.Values.Text.{Text, text_of, to_owned}
+use Rattle.content_tree.specs.Values.Tree as tree
+use Rattle.content_tree.specs.Values.Tree.{Tree, owned, at_texts_each, at_texts_pairs}
+use Rattle.content_tree.specs.Values.Tree.{at_texts_fields}
+use Rattle.content_tree.specs.Values.Value.{tree_of, trees_of, pairs_of, fields_of, trees_view}
+use Rattle.content_tree.specs.Values.Value.{pairs_view, fields_view}
 use Rattle.content_tree.specs.declared.cow.CowStr.{CowStr}
 use Rattle.content_tree.specs.declared.value.NamedValue.{NamedValue}
 

@@ -1,7 +1,10 @@
 -- Lists that are being printed, item by item.
-use Rattle.std.proofs.Common.{◌≡◌, refl, ℕ, suc, ◌+◌, ◌<◌, List, [], ◌∷◌, ◌++◌, codes, flat_map, length, drop, get_or, sym, ap, ◌∙◌, append-nil, append_assoc, add-one, drop-cons, Option, Some, None}
+use Rattle.std.proofs.Common.{◌≡◌, refl, ℕ, suc, ◌+◌, ◌<◌, List, [], ◌∷◌, ◌++◌, codes, flat_map}
+use Rattle.std.proofs.Common.{length, drop, get_or, sym, ap, ◌∙◌, append-nil, append_assoc, add-one}
+use Rattle.std.proofs.Common.{drop-cons, Option, Some, None}
 use Rattle.std.specs.Prelude.{IsOk}
-use Rattle.std.specs.Fmt.{decimal, HasWrittenStyled, WritesStyledOnOk, DisplaysStyledOnOk, WritesText}
+use Rattle.std.specs.Fmt.{decimal, HasWrittenStyled, WritesStyledOnOk, DisplaysStyledOnOk}
+use Rattle.std.specs.Fmt.{WritesText}
 use Rattle.std.specs.declared.fmt.Error.{Error}
 use Rattle.std.specs.declared.fmt.Formatter.{Formatter}
 use Rattle.std.specs.declared.result.Result.{Result}
@@ -12,8 +15,10 @@ use Rattle.std.specs.List.{concat, FoldsTo}
 use Rattle.std.specs.Prelude.{string_bytes}
 use Rattle.std.specs.declared.alloc.Global.{Global}
 use Rattle.std.specs.declared.string.String.{String}
-use Rattle.content_tree.specs.Printed.{printed, printed_list, printed_entries, printed_members, byte_list}
-use Rattle.content_tree.specs.Found.{image_view, images_view, entries_view, members_view}
+use Rattle.content_tree.specs.Printed.Images.{printed, printed_list, printed_pairs, printed_fields}
+use Rattle.content_tree.specs.Printed.Images.{byte_list}
+use Rattle.content_tree.specs.Images.Found.{image_view, images_view, image_pairs_view}
+use Rattle.content_tree.specs.Images.Found.{image_fields_view}
 use Rattle.content_tree.specs.declared.found.Found.{Found}
 
 -- one more character
@@ -44,23 +49,23 @@ next_item done lead xs i x whole here so_far =
     append_assoc done _ _ ∙ ap (λ r. done ++ r) (append_assoc lead _ _) ∙ ap (λ r. done ++ printed_list lead (images_view r)) (sym here) ∙ so_far
 
 -- one more pair
-pub next_entry : (done lead : List ℕ) (xs : List (Found × Found)) (i : ℕ) (x : Found × Found) (whole : List ℕ) → drop i xs ≡ x ∷ drop (i + 1) xs
-    → done ++ printed_entries lead (entries_view (drop i xs)) ≡ whole
-    → (done ++ ((lead ++ printed (image_view x.0)) ++ (codes ": " ++ printed (image_view x.1)))) ++ printed_entries (codes ", ") (entries_view (drop (i + 1) xs)) ≡ whole
-next_entry done lead xs i x whole here so_far =
+pub next_pair : (done lead : List ℕ) (xs : List (Found × Found)) (i : ℕ) (x : Found × Found) (whole : List ℕ) → drop i xs ≡ x ∷ drop (i + 1) xs
+    → done ++ printed_pairs lead (image_pairs_view (drop i xs)) ≡ whole
+    → (done ++ ((lead ++ printed (image_view x.0)) ++ (codes ": " ++ printed (image_view x.1)))) ++ printed_pairs (codes ", ") (image_pairs_view (drop (i + 1) xs)) ≡ whole
+next_pair done lead xs i x whole here so_far =
     let k = printed (image_view x.0) in
     let v = printed (image_view x.1) in
-    let rest = printed_entries (codes ", ") (entries_view (drop (i + 1) xs)) in
+    let rest = printed_pairs (codes ", ") (image_pairs_view (drop (i + 1) xs)) in
     append_assoc done _ _ ∙ ap (λ r. done ++ r) (append_assoc (lead ++ k) (codes ": " ++ v) rest ∙ append_assoc lead k _ ∙ ap (λ r. lead ++ (k ++ r)) (append_assoc (codes ": ") v rest))
-    ∙ ap (λ r. done ++ printed_entries lead (entries_view r)) (sym here) ∙ so_far
+    ∙ ap (λ r. done ++ printed_pairs lead (image_pairs_view r)) (sym here) ∙ so_far
 
 -- one more field
-pub next_member : (done lead : List ℕ) (xs : List (String Global × Found)) (i : ℕ) (x : String Global × Found) (whole : List ℕ) → drop i xs ≡ x ∷ drop (i + 1) xs
-    → done ++ printed_members lead (members_view (drop i xs)) ≡ whole
-    → (done ++ (lead ++ (string_bytes x.0 ++ (codes ": " ++ printed (image_view x.1))))) ++ printed_members (codes ", ") (members_view (drop (i + 1) xs)) ≡ whole
-next_member done lead xs i x whole here so_far =
-    append_assoc done _ _ ∙ ap (λ r. done ++ r) (append_assoc lead _ _ ∙ ap (λ r. lead ++ r) (append_assoc (string_bytes x.0) _ _ ∙ ap (λ r. string_bytes x.0 ++ r) (append_assoc (codes ": ") (printed (image_view x.1)) (printed_members (codes ", ") (members_view (drop (i + 1) xs))))))
-    ∙ ap (λ r. done ++ printed_members lead (members_view r)) (sym here) ∙ so_far
+pub next_field : (done lead : List ℕ) (xs : List (String Global × Found)) (i : ℕ) (x : String Global × Found) (whole : List ℕ) → drop i xs ≡ x ∷ drop (i + 1) xs
+    → done ++ printed_fields lead (image_fields_view (drop i xs)) ≡ whole
+    → (done ++ (lead ++ (string_bytes x.0 ++ (codes ": " ++ printed (image_view x.1))))) ++ printed_fields (codes ", ") (image_fields_view (drop (i + 1) xs)) ≡ whole
+next_field done lead xs i x whole here so_far =
+    append_assoc done _ _ ∙ ap (λ r. done ++ r) (append_assoc lead _ _ ∙ ap (λ r. lead ++ r) (append_assoc (string_bytes x.0) _ _ ∙ ap (λ r. string_bytes x.0 ++ r) (append_assoc (codes ": ") (printed (image_view x.1)) (printed_fields (codes ", ") (image_fields_view (drop (i + 1) xs))))))
+    ∙ ap (λ r. done ++ printed_fields lead (image_fields_view r)) (sym here) ∙ so_far
 
 -- two to four writes in a row, under any options
 module _ {W : Type 0} (took : W → List ℕ → W → Type 0) where

@@ -1,9 +1,16 @@
 -- The order finds neither of two trees less exactly if they are equal with the marks taken off.
 use Rattle.std.proofs.Common.{◌≡◌, refl, ap, nat_cmp}
-use Rattle.content_tree.proofs.Decide.{Ties, along, both, nats_tie, bools_tie, texts_tie, numbers_tie}
-use Rattle.content_tree.specs.Text.{to_owned}
-use Rattle.content_tree.specs.Tree.{unmarked, unmarked_payload, at_texts_each, at_texts_pairs, at_texts_fields, Tree, unit, boolean, number, character, text, octets, seq, map, absent, present, structure, enumeration, tuple, Payload, no_payload, one, many, named, Trees, no_trees, tree_then, Pairs, no_pairs, pair_then, Fields, no_fields, field_then}
-use Rattle.content_tree.specs.Order.{text_cmp, tree_cmp, payload_cmp, trees_cmp, pairs_cmp, fields_cmp}
+use Rattle.content_tree.proofs.Decide.{Ties, along, both, nats_tie, bools_tie, texts_tie}
+use Rattle.content_tree.proofs.Decide.{numbers_tie}
+use Rattle.content_tree.specs.Values.Text.{to_owned}
+use Rattle.content_tree.specs.Values.Tree.{unmarked, unmarked_data, at_texts_each, at_texts_pairs}
+use Rattle.content_tree.specs.Values.Tree.{at_texts_fields, Tree, unit, boolean, number, character}
+use Rattle.content_tree.specs.Values.Tree.{text, octets, seq, map, absent, present, structure}
+use Rattle.content_tree.specs.Values.Tree.{enumeration, tuple, TreeData, no_data, one, many, named}
+use Rattle.content_tree.specs.Values.Tree.{Trees, no_trees, tree_then, Pairs, no_pairs, pair_then}
+use Rattle.content_tree.specs.Values.Tree.{Fields, no_fields, field_then}
+use Rattle.content_tree.specs.Orders.Trees.{text_cmp, tree_cmp, tree_data_cmp, trees_cmp, pairs_cmp}
+use Rattle.content_tree.specs.Orders.Trees.{fields_cmp}
 
 -- trees, payloads, and the lists in them
 mutual
@@ -19,20 +26,20 @@ mutual
   trees_tie absent absent = (λ e. refl, λ e. refl)
   trees_tie (present a) (present b) = along _ (trees_tie a b) (ap present) (λ e. cc)
   trees_tie (structure n p) (structure m q) =
-      along _ (both (text_cmp n m) (payload_cmp p q) (texts_tie n m) (payloads_tie p q)) (λ e. cc) (λ e. (cc, cc))
+      along _ (both (text_cmp n m) (tree_data_cmp p q) (texts_tie n m) (tree_data_tie p q)) (λ e. cc) (λ e. (cc, cc))
   trees_tie (enumeration n i v p) (enumeration m j w q) =
-      let held = both (text_cmp v w) (payload_cmp p q) (texts_tie v w) (payloads_tie p q) in
+      let held = both (text_cmp v w) (tree_data_cmp p q) (texts_tie v w) (tree_data_tie p q) in
       let placed = both (nat_cmp i j) _ (nats_tie i j) held in
       along _ (both (text_cmp n m) _ (texts_tie n m) placed) (λ e. cc) (λ e. (cc, (cc, (cc, cc))))
   trees_tie (tuple a) (tuple b) = along _ (lists_tie a b) (ap tuple) (λ e. cc)
   trees_tie t u = (λ e. absurd (cc e), λ e. absurd (cc e))
 
-  pub payloads_tie : (p q : Payload) → Ties (payload_cmp p q) (unmarked_payload p ≡ unmarked_payload q)
-  payloads_tie no_payload no_payload = (λ e. refl, λ e. refl)
-  payloads_tie (one a) (one b) = along _ (trees_tie a b) (ap one) (λ e. cc)
-  payloads_tie (many a) (many b) = along _ (lists_tie a b) (ap many) (λ e. cc)
-  payloads_tie (named a) (named b) = along _ (fields_tie a b) (ap named) (λ e. cc)
-  payloads_tie p q = (λ e. absurd (cc e), λ e. absurd (cc e))
+  pub tree_data_tie : (p q : TreeData) → Ties (tree_data_cmp p q) (unmarked_data p ≡ unmarked_data q)
+  tree_data_tie no_data no_data = (λ e. refl, λ e. refl)
+  tree_data_tie (one a) (one b) = along _ (trees_tie a b) (ap one) (λ e. cc)
+  tree_data_tie (many a) (many b) = along _ (lists_tie a b) (ap many) (λ e. cc)
+  tree_data_tie (named a) (named b) = along _ (fields_tie a b) (ap named) (λ e. cc)
+  tree_data_tie p q = (λ e. absurd (cc e), λ e. absurd (cc e))
 
   lists_tie : (ts us : Trees) → Ties (trees_cmp ts us) (at_texts_each to_owned to_owned ts ≡ at_texts_each to_owned to_owned us)
   lists_tie no_trees no_trees = (λ e. refl, λ e. refl)

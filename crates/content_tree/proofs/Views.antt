@@ -1,9 +1,12 @@
 -- What each case of a value stands for.
-use Rattle.std.proofs.Common.{◌≡◌, ℕ, Bool, List, [], ◌∷◌, map, Option, Some, None, Vec, Box, Global, refl, ap, rules}
-use Rattle.content_tree.specs.Text.{Text, text_of, bytes_of}
-use Rattle.content_tree.specs.Tree as tree
-use Rattle.content_tree.specs.Tree.{Tree}
-use Rattle.content_tree.specs.Value.{tree_of, payload_of, struct_tree, enum_tree, held_view, trees_view, pairs_view, fields_view, field_tree}
+use Rattle.std.proofs.Common.{◌≡◌, ℕ, Bool, List, [], ◌∷◌, map, Option, Some, None, Vec, Box}
+use Rattle.std.proofs.Common.{Global, refl, ap, rules}
+use Rattle.content_tree.specs.Values.Text.{Text, text_of, bytes_of}
+use Rattle.content_tree.specs.Values.Tree as tree
+use Rattle.content_tree.specs.Values.Tree.{Tree}
+use Rattle.content_tree.specs.Values.Value.{tree_of, tree_data_of, struct_tree, enum_tree}
+use Rattle.content_tree.specs.Values.Value.{held_view, trees_view, pairs_view, fields_view}
+use Rattle.content_tree.specs.Values.Value.{field_tree}
 use Rattle.content_tree.specs.declared.cow.CowStr.{CowStr}
 use Rattle.content_tree.specs.declared.cow.CowBytes.{CowBytes}
 use Rattle.content_tree.specs.declared.number.Number.{Number}
@@ -56,25 +59,25 @@ tree_of-Struct b = search (rules, the_lemmas)
 pub tree_of-Enum : (b : Box NamedEnum Global) → tree_of (value.Enum b) ≡ enum_tree b.value
 tree_of-Enum b = search (rules, the_lemmas)
 
-pub payload_of-Unit : payload_of held.Unit ≡ tree.no_payload
-payload_of-Unit = search (rules, the_lemmas)
+pub tree_data_of-Unit : tree_data_of held.Unit ≡ tree.no_data
+tree_data_of-Unit = search (rules, the_lemmas)
 
-pub payload_of-Tuple : (v : Vec NamedValue Global) → payload_of (held.Tuple v) ≡ tree.many (trees_view v.items)
-payload_of-Tuple v = search (rules, the_lemmas)
+pub tree_data_of-Tuple : (v : Vec NamedValue Global) → tree_data_of (held.Tuple v) ≡ tree.many (trees_view v.items)
+tree_data_of-Tuple v = search (rules, the_lemmas)
 
-pub payload_of-NewType : (v : NamedValue) → payload_of (held.NewType v) ≡ tree.one (tree_of v)
-payload_of-NewType v = search (rules, the_lemmas)
+pub tree_data_of-NewType : (v : NamedValue) → tree_data_of (held.NewType v) ≡ tree.one (tree_of v)
+tree_data_of-NewType v = search (rules, the_lemmas)
 
 fused : (fs : List (CowStr × NamedValue)) →
     map {B = Text × Tree} (λ f. (text_of f.0, f.1)) (map {B = CowStr × Tree} (λ f. (f.0, tree_of f.1)) fs) ≡ map field_tree fs
 fused [] = refl
 fused (f ∷ fs) = ap (λ r. field_tree f ∷ r) (fused fs)
 
-pub payload_of-Struct : (v : Vec (CowStr × NamedValue) Global) → payload_of (held.Struct v) ≡ tree.named (fields_view v.items)
-payload_of-Struct v = search (rules, the_lemmas, fused)
+pub tree_data_of-Struct : (v : Vec (CowStr × NamedValue) Global) → tree_data_of (held.Struct v) ≡ tree.named (fields_view v.items)
+tree_data_of-Struct v = search (rules, the_lemmas, fused)
 
-pub struct_tree-is : (s : NamedStruct) → struct_tree s ≡ tree.structure (text_of (out-NamedStruct s).name) (payload_of (out-NamedStruct s).«data»)
+pub struct_tree-is : (s : NamedStruct) → struct_tree s ≡ tree.structure (text_of (out-NamedStruct s).name) (tree_data_of (out-NamedStruct s).«data»)
 struct_tree-is s = search (rules, the_lemmas)
 
-pub enum_tree-is : (e : NamedEnum) → enum_tree e ≡ tree.enumeration (text_of (out-NamedEnum e).name) (out-NamedEnum e).variant_index (text_of (out-NamedEnum e).variant) (payload_of (out-NamedEnum e).«data»)
+pub enum_tree-is : (e : NamedEnum) → enum_tree e ≡ tree.enumeration (text_of (out-NamedEnum e).name) (out-NamedEnum e).variant_index (text_of (out-NamedEnum e).variant) (tree_data_of (out-NamedEnum e).«data»)
 enum_tree-is e = search (rules, the_lemmas)

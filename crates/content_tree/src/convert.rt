@@ -1,9 +1,10 @@
-//! Values from the types that they hold. No conversion takes memory: a reference is borrowed, a text or a vector is owned.
+//! Values from the types that they hold. No conversion takes memory: a reference is borrowed, a
+//! text or a vector is owned.
 ghost use Rattle.std.specs.Prelude.{◌≡◌, string_bytes};
-ghost use Rattle.content_tree.specs.Text.{text_of, owned_text};
-ghost use Rattle.content_tree.specs.Cases.{borrowed_text};
-ghost use Rattle.content_tree.specs.Tree as tree;
-ghost use Rattle.content_tree.specs.Value.{tree_of};
+ghost use Rattle.content_tree.specs.Values.Text.{text_of, owned_text};
+ghost use Rattle.content_tree.specs.Values.Cases.{borrowed_text};
+ghost use Rattle.content_tree.specs.Values.Tree as tree;
+ghost use Rattle.content_tree.specs.Values.Value.{tree_of};
 ghost use Rattle.content_tree.specs.declared.number.Number.{Number};
 
 use crate::cow::{CowBytes, CowStr};
@@ -156,7 +157,8 @@ impl<'a, 'n> From<&'a str> for NamedValue<'a, 'n> {
 
 /// A text, borrowed. It takes no memory.
 impl<'a, 'n> From<&'a String> for NamedValue<'a, 'n> {
-    ghost from_gives = { λ text value. tree_of value ≡ tree.text (borrowed_text (string_bytes text.now)) };
+    ghost from_gives = { λ text value. tree_of value ≡ tree.text
+        (borrowed_text (string_bytes text.now)) };
 
     fn from(text: &'a String) -> NamedValue<'a, 'n> {
         NamedValue::String(CowStr::Borrowed(text.as_str()))
@@ -183,7 +185,8 @@ impl<'a, 'n> From<&'a [u8]> for NamedValue<'a, 'n> {
 
 /// An array of bytes, borrowed; no sequence of numbers. It takes no memory.
 impl<'a, 'n> From<&'a Vec<u8>> for NamedValue<'a, 'n> {
-    ghost from_gives = { λ bytes value. tree_of value ≡ tree.octets (borrowed_text bytes.now.items) };
+    ghost from_gives = { λ bytes value. tree_of value ≡ tree.octets
+        (borrowed_text bytes.now.items) };
 
     fn from(bytes: &'a Vec<u8>) -> NamedValue<'a, 'n> {
         NamedValue::Bytes(CowBytes::Borrowed(bytes.as_slice()))

@@ -1,8 +1,8 @@
 //! Copies of expectations and errors.
 ghost use Rattle.std.specs.Prelude.{◌≡◌, None, IsTrue, IsOk, IfOk, IfErr};
-ghost use Rattle.content_tree.specs.Fault.{expected_view, kind_view, name_view};
-ghost use Rattle.content_tree.specs.Kind.{kind_of, IsOutOfMemory};
-ghost use Rattle.content_tree.specs.Memory.{is_free_expecting, is_free_fault};
+ghost use Rattle.content_tree.specs.Errors.Cause.{expectation_of, cause_of, name_view};
+ghost use Rattle.content_tree.specs.Errors.Kind.{kind_of, IsOutOfMemory};
+ghost use Rattle.content_tree.specs.Memory.{is_free_expectation, is_free_cause};
 
 use crate::error::{Error, ErrorKind, Result};
 use crate::expected::Expected;
@@ -14,8 +14,8 @@ impl Expected {
     /// It takes memory for owned texts, vectors and boxes, and nothing for the rest; where that is
     /// refused: an error of kind `OutOfMemory`.
     pub fn try_clone(&self, alloc: Global) -> Result<Expected>
-        ensures value { IfOk result (λ copy. expected_view copy ≡ expected_view self.now) }
-        ensures succeeds { IsTrue (is_free_expecting (expected_view self.now)) → IsOk result }
+        ensures value { IfOk result (λ copy. expectation_of copy ≡ expectation_of self.now) }
+        ensures succeeds { IsTrue (is_free_expectation (expectation_of self.now)) → IsOk result }
         ensures memory { IfErr result (λ e. IsOutOfMemory e) }
     {
         match self {
@@ -68,8 +68,8 @@ impl ErrorKind {
     /// It takes memory for owned texts, vectors and boxes, and nothing for the rest; where that is
     /// refused: an error of kind `OutOfMemory`.
     pub fn try_clone(&self, alloc: Global) -> Result<ErrorKind>
-        ensures value { IfOk result (λ copy. kind_view copy ≡ kind_view self.now) }
-        ensures succeeds { IsTrue (is_free_fault (kind_view self.now)) → IsOk result }
+        ensures value { IfOk result (λ copy. cause_of copy ≡ cause_of self.now) }
+        ensures succeeds { IsTrue (is_free_cause (cause_of self.now)) → IsOk result }
         ensures memory { IfErr result (λ e. IsOutOfMemory e) }
     {
         match self {
@@ -96,8 +96,8 @@ impl Error {
     /// refused: an error of kind `OutOfMemory`.
     pub fn try_clone(&self, alloc: Global) -> Result<Error>
         ensures value { IfOk result
-            (λ copy. kind_view (kind_of copy) ≡ kind_view (kind_of self.now)) }
-        ensures succeeds { IsTrue (is_free_fault (kind_view (kind_of self.now))) → IsOk result }
+            (λ copy. cause_of (kind_of copy) ≡ cause_of (kind_of self.now)) }
+        ensures succeeds { IsTrue (is_free_cause (cause_of (kind_of self.now))) → IsOk result }
         ensures memory { IfErr result (λ e. IsOutOfMemory e) }
     {
         let kind = self.kind().try_clone(alloc)?;

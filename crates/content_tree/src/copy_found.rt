@@ -1,8 +1,9 @@
 //! Copies of images.
 ghost use Rattle.std.specs.Prelude.{◌≡◌, None, IsTrue, IsOk, IfOk, IfErr};
-ghost use Rattle.content_tree.specs.Found.{image_view, content_view, images_view, entries_view, members_view, held_image};
-ghost use Rattle.content_tree.specs.Kind.{IsOutOfMemory};
-ghost use Rattle.content_tree.specs.Memory.{is_free_image, is_free_content};
+ghost use Rattle.content_tree.specs.Images.Found.{image_view, image_data_view, images_view};
+ghost use Rattle.content_tree.specs.Images.Found.{image_pairs_view, image_fields_view, held_image};
+ghost use Rattle.content_tree.specs.Errors.Kind.{IsOutOfMemory};
+ghost use Rattle.content_tree.specs.Memory.{is_free_image, is_free_image_data};
 
 use crate::error::Result;
 use crate::found::{Found, FoundData};
@@ -67,8 +68,8 @@ impl FoundData {
     /// refused: an error of kind `OutOfMemory`.
     #[cycle(copy_found)]
     pub fn try_clone(&self, alloc: Global) -> Result<FoundData>
-        ensures value { IfOk result (λ copy. content_view copy ≡ content_view self.now) }
-        ensures succeeds { IsTrue (is_free_content (content_view self.now)) → IsOk result }
+        ensures value { IfOk result (λ copy. image_data_view copy ≡ image_data_view self.now) }
+        ensures succeeds { IsTrue (is_free_image_data (image_data_view self.now)) → IsOk result }
         ensures memory { IfErr result (λ e. IsOutOfMemory e) }
     {
         match self {
@@ -106,7 +107,8 @@ fn clone_items(alloc: Global, items: &Vec<Found>) -> Result<Vec<Found>>
 
 #[cycle(copy_found)]
 fn clone_pairs(alloc: Global, pairs: &Vec<(Found, Found)>) -> Result<Vec<(Found, Found)>>
-    ensures value { IfOk result (λ copies. entries_view copies.items ≡ entries_view pairs.now.items) }
+    ensures value { IfOk result (λ copies. image_pairs_view copies.items ≡ image_pairs_view
+        pairs.now.items) }
     ensures memory { IfErr result (λ e. IsOutOfMemory e) }
 {
     let mut copies = Vec::new(alloc);
@@ -120,7 +122,8 @@ fn clone_pairs(alloc: Global, pairs: &Vec<(Found, Found)>) -> Result<Vec<(Found,
 
 #[cycle(copy_found)]
 fn clone_fields(alloc: Global, fields: &Vec<(String, Found)>) -> Result<Vec<(String, Found)>>
-    ensures value { IfOk result (λ copies. members_view copies.items ≡ members_view fields.now.items) }
+    ensures value { IfOk result (λ copies. image_fields_view copies.items ≡ image_fields_view
+        fields.now.items) }
     ensures memory { IfErr result (λ e. IsOutOfMemory e) }
 {
     let mut copies = Vec::new(alloc);

@@ -1,9 +1,10 @@
 //! Copies of values: the same tree, each text and name in the same case.
 ghost use Rattle.std.specs.Prelude.{◌≡◌, None, IsOk, IfOk, IfErr};
-ghost use Rattle.content_tree.specs.Kind.{IsOutOfMemory};
+ghost use Rattle.content_tree.specs.Errors.Kind.{IsOutOfMemory};
 ghost use Rattle.content_tree.specs.Memory.{CopyTakesNoMemory, StructCopyTakesNoMemory};
-ghost use Rattle.content_tree.specs.Memory.{PayloadCopyTakesNoMemory};
-ghost use Rattle.content_tree.specs.Value.{tree_of, payload_of, struct_tree, enum_tree, held_view, trees_view, pairs_view, fields_view};
+ghost use Rattle.content_tree.specs.Memory.{DataCopyTakesNoMemory};
+ghost use Rattle.content_tree.specs.Values.Value.{tree_of, tree_data_of, struct_tree, enum_tree};
+ghost use Rattle.content_tree.specs.Values.Value.{held_view, trees_view, pairs_view, fields_view};
 
 use crate::cow::CowStr;
 use crate::error::Result;
@@ -91,8 +92,8 @@ impl<'a, 'n> NamedData<'a, 'n> {
     /// refused: an error of kind `OutOfMemory`.
     #[cycle(copy_value)]
     pub fn try_clone(&self, alloc: Global) -> Result<NamedData<'a, 'n>>
-        ensures value { IfOk result (λ copy. payload_of copy ≡ payload_of self.now) }
-        ensures succeeds { PayloadCopyTakesNoMemory (payload_of self.now) → IsOk result }
+        ensures value { IfOk result (λ copy. tree_data_of copy ≡ tree_data_of self.now) }
+        ensures succeeds { DataCopyTakesNoMemory (tree_data_of self.now) → IsOk result }
         ensures memory { IfErr result (λ e. IsOutOfMemory e) }
     {
         match self {
@@ -162,7 +163,8 @@ fn clone_fields<'a, 'n>(
     alloc: Global,
     fields: &Vec<(CowStr<'n>, NamedValue<'a, 'n>)>,
 ) -> Result<Vec<(CowStr<'n>, NamedValue<'a, 'n>)>>
-    ensures value { IfOk result (λ copies. fields_view copies.items ≡ fields_view fields.now.items) }
+    ensures value { IfOk result (λ copies. fields_view copies.items ≡ fields_view
+        fields.now.items) }
     ensures memory { IfErr result (λ e. IsOutOfMemory e) }
 {
     let mut copies = Vec::new(alloc);

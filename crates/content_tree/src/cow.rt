@@ -1,8 +1,8 @@
 //! Texts and bytes that are borrowed or owned.
 ghost use Rattle.std.specs.Prelude.{◌≡◌, IsTrue, Ok, IfOk, IfErr, IsOk, IfSome, string_bytes};
-ghost use Rattle.content_tree.specs.Text.{text_of, bytes_of, text_content, bytes_content};
-ghost use Rattle.content_tree.specs.Cases.{string_in, vec_in};
-ghost use Rattle.content_tree.specs.Kind.{IsOutOfMemory};
+ghost use Rattle.content_tree.specs.Values.Text.{text_of, bytes_of, text_content, bytes_content};
+ghost use Rattle.content_tree.specs.Values.Cases.{string_in, vec_in};
+ghost use Rattle.content_tree.specs.Errors.Kind.{IsOutOfMemory};
 
 use crate::error::Result;
 use std::alloc::Global;
@@ -47,8 +47,8 @@ impl<'a> CowStr<'a> {
         }
     }
 
-    /// The text as one that is owned. An owned one is moved, without memory; a borrowed one is copied.
-    /// Where that copy is refused: an error of kind `OutOfMemory`.
+    /// The text as one that is owned. An owned one is moved, without memory; a borrowed one is
+    /// copied. Where that copy is refused: an error of kind `OutOfMemory`.
     pub fn into_owned(self, alloc: Global) -> Result<String>
         ensures value { IfOk result (λ text. string_bytes text ≡ text_content self.entry) }
         ensures moved { IfSome (string_in self.entry) (λ text. result ≡ Ok text) }
@@ -60,8 +60,8 @@ impl<'a> CowStr<'a> {
         }
     }
 
-    /// A copy of the same case: a borrowed text is borrowed again, without memory, and an owned one is
-    /// copied. Where that copy is refused: an error of kind `OutOfMemory`.
+    /// A copy of the same case: a borrowed text is borrowed again, without memory, and an owned one
+    /// is copied. Where that copy is refused: an error of kind `OutOfMemory`.
     pub fn try_clone(&self, alloc: Global) -> Result<CowStr<'a>>
         ensures value { IfOk result (λ copy. text_of copy ≡ text_of self.now) }
         ensures succeeds { IsTrue (text_of self.now).borrowed → IsOk result }
@@ -108,8 +108,8 @@ impl<'a> CowBytes<'a> {
         }
     }
 
-    /// A copy of the same case: borrowed bytes are borrowed again, without memory, and owned ones are
-    /// copied. Where that copy is refused: an error of kind `OutOfMemory`.
+    /// A copy of the same case: borrowed bytes are borrowed again, without memory, and owned ones
+    /// are copied. Where that copy is refused: an error of kind `OutOfMemory`.
     pub fn try_clone(&self, alloc: Global) -> Result<CowBytes<'a>>
         ensures value { IfOk result (λ copy. bytes_of copy ≡ bytes_of self.now) }
         ensures succeeds { IsTrue (bytes_of self.now).borrowed → IsOk result }

@@ -3,9 +3,12 @@
 
 ghost use Rattle.std.specs.Prelude.{Some, string_bytes, codes, encode_utf8, ◌++◌, []};
 ghost use Rattle.std.specs.Fmt.{WritesStyledOnOk, DisplaysStyledOnOk, decimal};
-ghost use Rattle.content_tree.specs.Printed.{printed, printed_content, printed_list, printed_entries, printed_members, byte_list, number_text};
-ghost use Rattle.content_tree.specs.Image.{named};
-ghost use Rattle.content_tree.specs.Found.{image_view, content_view, images_view, entries_view, members_view, held_image};
+ghost use Rattle.content_tree.specs.Printed.Images.{printed, printed_data, printed_list};
+ghost use Rattle.content_tree.specs.Printed.Images.{printed_pairs, printed_fields, byte_list};
+ghost use Rattle.content_tree.specs.Printed.Images.{number_text};
+ghost use Rattle.content_tree.specs.Images.Image.{named};
+ghost use Rattle.content_tree.specs.Images.Found.{image_view, image_data_view, images_view};
+ghost use Rattle.content_tree.specs.Images.Found.{image_pairs_view, image_fields_view, held_image};
 
 use crate::found::{Found, FoundData};
 use crate::number::Number;
@@ -27,7 +30,8 @@ impl fmt::Display for Found {
 
 #[cycle(print)]
 fn write_found<W: fmt::Write>(found: &Found, f: &mut fmt::Formatter<W>) -> fmt::Result
-    ensures { WritesStyledOnOk W.write_str_gives f.old result (printed (image_view found.now)) f.new }
+    ensures { WritesStyledOnOk W.write_str_gives f.old result
+        (printed (image_view found.now)) f.new }
 {
     match found {
         Found::Unit => f.write_str("()"),
@@ -52,7 +56,8 @@ fn write_found<W: fmt::Write>(found: &Found, f: &mut fmt::Formatter<W>) -> fmt::
 
 #[cycle(print)]
 fn write_held<W: fmt::Write>(held: &Option<Box<Found>>, f: &mut fmt::Formatter<W>) -> fmt::Result
-    ensures { WritesStyledOnOk W.write_str_gives f.old result (printed (held_image held.now)) f.new }
+    ensures { WritesStyledOnOk W.write_str_gives f.old result
+        (printed (held_image held.now)) f.new }
 {
     match held {
         None => f.write_str("None"),
@@ -82,7 +87,7 @@ fn write_list<W: fmt::Write>(
 #[cycle(print)]
 fn write_map<W: fmt::Write>(pairs: &Vec<(Found, Found)>, f: &mut fmt::Formatter<W>) -> fmt::Result
     ensures { WritesStyledOnOk W.write_str_gives f.old result
-        (codes "{ " ++ (printed_entries [] (entries_view pairs.now.items) ++ codes " }")) f.new }
+        (codes "{ " ++ (printed_pairs [] (image_pairs_view pairs.now.items) ++ codes " }")) f.new }
 {
     f.write_str("{ ")?;
     write_pairs(pairs, f)?;
@@ -106,7 +111,7 @@ fn write_struct<W: fmt::Write>(
     f: &mut fmt::Formatter<W>,
 ) -> fmt::Result
     ensures { WritesStyledOnOk W.write_str_gives f.old result
-        (string_bytes name.now ++ printed_content (content_view inside.now)) f.new }
+        (string_bytes name.now ++ printed_data (image_data_view inside.now)) f.new }
 {
     f.write_str(name.as_str())?;
     write_data(inside, f)
@@ -121,7 +126,7 @@ fn write_enum<W: fmt::Write>(
 ) -> fmt::Result
     ensures { WritesStyledOnOk W.write_str_gives f.old result
         (string_bytes name.now ++ (codes "::"
-        ++ (string_bytes variant.now ++ printed_content (content_view inside.now)))) f.new }
+        ++ (string_bytes variant.now ++ printed_data (image_data_view inside.now)))) f.new }
 {
     f.write_str(name.as_str())?;
     f.write_str("::")?;
@@ -131,7 +136,8 @@ fn write_enum<W: fmt::Write>(
 /// Writes what follows the name of a struct or a variant.
 #[cycle(print)]
 fn write_data<W: fmt::Write>(inside: &FoundData, f: &mut fmt::Formatter<W>) -> fmt::Result
-    ensures { WritesStyledOnOk W.write_str_gives f.old result (printed_content (content_view inside.now)) f.new }
+    ensures { WritesStyledOnOk W.write_str_gives f.old result
+        (printed_data (image_data_view inside.now)) f.new }
 {
     match inside {
         FoundData::Unit => Ok(()),
@@ -146,7 +152,8 @@ fn write_named<W: fmt::Write>(
     fields: &Vec<(String, Found)>,
     f: &mut fmt::Formatter<W>,
 ) -> fmt::Result
-    ensures { WritesStyledOnOk W.write_str_gives f.old result (printed_content (named (members_view fields.now.items))) f.new }
+    ensures { WritesStyledOnOk W.write_str_gives f.old result
+        (printed_data (named (image_fields_view fields.now.items))) f.new }
 {
     f.write_str(" { ")?;
     write_fields(fields, f)?;
@@ -156,7 +163,8 @@ fn write_named<W: fmt::Write>(
 /// Writes what leads to an item, nothing or a comma, and the item.
 #[cycle(print)]
 fn write_item<W: fmt::Write>(lead: &str, item: &Found, f: &mut fmt::Formatter<W>) -> fmt::Result
-    ensures { WritesStyledOnOk W.write_str_gives f.old result (lead.now ++ printed (image_view item.now)) f.new }
+    ensures { WritesStyledOnOk W.write_str_gives f.old result
+        (lead.now ++ printed (image_view item.now)) f.new }
 {
     f.write_str(lead)?;
     write_found(item, f)
@@ -170,7 +178,9 @@ fn write_field<W: fmt::Write>(
     value: &Found,
     f: &mut fmt::Formatter<W>,
 ) -> fmt::Result
-    ensures { WritesStyledOnOk W.write_str_gives f.old result (lead.now ++ (string_bytes key.now ++ (codes ": " ++ printed (image_view value.now)))) f.new }
+    ensures { WritesStyledOnOk W.write_str_gives f.old result
+        (lead.now ++ (string_bytes key.now ++ (codes ": " ++ printed
+        (image_view value.now)))) f.new }
 {
     f.write_str(lead)?;
     f.write_str(key.as_str())?;
@@ -187,7 +197,8 @@ fn write_byte<W: fmt::Write>(lead: &str, byte: u8, f: &mut fmt::Formatter<W>) ->
 
 #[cycle(print)]
 fn write_items<W: fmt::Write>(items: &Vec<Found>, f: &mut fmt::Formatter<W>) -> fmt::Result
-    ensures { WritesStyledOnOk W.write_str_gives f.old result (printed_list [] (images_view items.now.items)) f.new }
+    ensures { WritesStyledOnOk W.write_str_gives f.old result
+        (printed_list [] (images_view items.now.items)) f.new }
 {
     let mut lead = "";
     for item in items {
@@ -199,7 +210,8 @@ fn write_items<W: fmt::Write>(items: &Vec<Found>, f: &mut fmt::Formatter<W>) -> 
 
 #[cycle(print)]
 fn write_pairs<W: fmt::Write>(pairs: &Vec<(Found, Found)>, f: &mut fmt::Formatter<W>) -> fmt::Result
-    ensures { WritesStyledOnOk W.write_str_gives f.old result (printed_entries [] (entries_view pairs.now.items)) f.new }
+    ensures { WritesStyledOnOk W.write_str_gives f.old result
+        (printed_pairs [] (image_pairs_view pairs.now.items)) f.new }
 {
     let mut lead = "";
     for (key, value) in pairs {
@@ -215,7 +227,8 @@ fn write_fields<W: fmt::Write>(
     fields: &Vec<(String, Found)>,
     f: &mut fmt::Formatter<W>,
 ) -> fmt::Result
-    ensures { WritesStyledOnOk W.write_str_gives f.old result (printed_members [] (members_view fields.now.items)) f.new }
+    ensures { WritesStyledOnOk W.write_str_gives f.old result
+        (printed_fields [] (image_fields_view fields.now.items)) f.new }
 {
     let mut lead = "";
     for (key, value) in fields {
@@ -226,7 +239,8 @@ fn write_fields<W: fmt::Write>(
 }
 
 fn write_bytes<W: fmt::Write>(bytes: &[u8], f: &mut fmt::Formatter<W>) -> fmt::Result
-    ensures { WritesStyledOnOk W.write_str_gives f.old result (codes "&[" ++ (byte_list [] bytes.now ++ codes "]")) f.new }
+    ensures { WritesStyledOnOk W.write_str_gives f.old result
+        (codes "&[" ++ (byte_list [] bytes.now ++ codes "]")) f.new }
 {
     f.write_str("&[")?;
     write_byte_list(bytes, f)?;
@@ -245,7 +259,8 @@ fn write_byte_list<W: fmt::Write>(bytes: &[u8], f: &mut fmt::Formatter<W>) -> fm
 }
 
 fn write_character<W: fmt::Write>(character: char, f: &mut fmt::Formatter<W>) -> fmt::Result
-    ensures { WritesStyledOnOk W.write_str_gives f.old result (codes "'" ++ (encode_utf8 character ++ codes "'")) f.new }
+    ensures { WritesStyledOnOk W.write_str_gives f.old result
+        (codes "'" ++ (encode_utf8 character ++ codes "'")) f.new }
 {
     f.write_str("'")?;
     f.write_char(character)?;

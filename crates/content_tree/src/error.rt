@@ -2,9 +2,9 @@
 #![tactic(auto, using(crate::proofs::Printing::two_writes, crate::proofs::Printing::three_writes, crate::proofs::Printing::four_writes))]
 
 ghost use Rattle.std.specs.Prelude.{◌≡◌, Some};
-ghost use Rattle.content_tree.specs.Kind.{kind_of, IsOutOfMemory, IsCustomOrMemory};
+ghost use Rattle.content_tree.specs.Errors.Kind.{kind_of, IsOutOfMemory, IsCustomOrMemory};
 ghost use Rattle.content_tree.specs.declared.error.ErrorKind.TheVariants.{Unexpected};
-ghost use Rattle.content_tree.specs.Texts.{kind_text, error_text};
+ghost use Rattle.content_tree.specs.Printed.Errors.{kind_text, error_text};
 
 use crate::expected::Expected;
 use crate::found::Found;
@@ -27,7 +27,7 @@ pub enum ErrorKind {
     },
     /// A text of the caller's or the library's own.
     Custom(String),
-    /// A growth was refused.
+    /// A allocation failed.
     OutOfMemory,
     /// A call after which no list of calls can spell a tree.
     Misplaced,
@@ -37,8 +37,8 @@ pub enum ErrorKind {
     Unfinished,
 }
 
-/// An error: one [`ErrorKind`], with no box. `Unexpected` and `Custom` are `serde-content`'s kinds, the
-/// other four are ours.
+/// An error: one [`ErrorKind`], with no box. `Unexpected` and `Custom` are `serde-content`'s kinds,
+/// the other four are ours.
 ///
 /// ```rust
 /// let error = Error::unexpected(Found::Bool(true), Expected::Unit);
@@ -80,7 +80,8 @@ impl<T: Drop> From<AllocFailed<T>> for Error {
 }
 
 impl Error {
-    /// The error of finding something else than what was expected, of kind [`ErrorKind::Unexpected`]. It takes no memory.
+    /// The error of finding something else than what was expected, of kind
+    /// [`ErrorKind::Unexpected`]. It takes no memory.
     pub fn unexpected(found: Found, expected: Expected) -> Error
         ensures { kind_of result ≡ Unexpected found expected }
     {

@@ -3,7 +3,7 @@
 
 ghost use Rattle.std.specs.Prelude.{Some};
 ghost use Rattle.std.specs.Fmt.{WritesStyledOnOk};
-ghost use Rattle.content_tree.specs.Texts.{type_text, typed, with_name, expected_text};
+ghost use Rattle.content_tree.specs.Printed.Errors.{type_text, typed, with_name, expected_text};
 
 use crate::display::write_bare;
 use std::fmt;
@@ -141,7 +141,8 @@ fn write_typed<W: fmt::Write>(
     typ: &Option<DataType>,
     f: &mut fmt::Formatter<W>,
 ) -> fmt::Result
-    ensures { WritesStyledOnOk W.write_str_gives f.old result (typed alone.now noun.now typ.now) f.new }
+    ensures { WritesStyledOnOk W.write_str_gives f.old result
+        (typed alone.now noun.now typ.now) f.new }
 {
     match typ {
         None => f.write_str(alone),

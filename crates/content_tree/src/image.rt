@@ -1,11 +1,14 @@
 //! The image of a value.
 ghost use Rattle.std.specs.Prelude.{◌≡◌, None, Ok, IsOk, IfOk, IfErr, IfSome};
-ghost use Rattle.content_tree.specs.Value.{tree_of, payload_of, struct_tree, enum_tree, held_view, trees_view, pairs_view, fields_view};
-ghost use Rattle.content_tree.specs.Image.{image, image_payload, image_each, image_pairs, image_fields};
-ghost use Rattle.content_tree.specs.Found.{image_view, content_view, images_view, entries_view, members_view, held_image};
-ghost use Rattle.content_tree.specs.Kind.{IsOutOfMemory};
+ghost use Rattle.content_tree.specs.Values.Value.{tree_of, tree_data_of, struct_tree, enum_tree};
+ghost use Rattle.content_tree.specs.Values.Value.{held_view, trees_view, pairs_view, fields_view};
+ghost use Rattle.content_tree.specs.Images.Image.{image, image_data, image_each, image_pairs};
+ghost use Rattle.content_tree.specs.Images.Image.{image_fields};
+ghost use Rattle.content_tree.specs.Images.Found.{image_view, image_data_view, images_view};
+ghost use Rattle.content_tree.specs.Images.Found.{image_pairs_view, image_fields_view, held_image};
+ghost use Rattle.content_tree.specs.Errors.Kind.{IsOutOfMemory};
 ghost use Rattle.content_tree.specs.Memory.{OwningTakesNoMemory};
-ghost use Rattle.content_tree.specs.Cases.{string_at, vec_at};
+ghost use Rattle.content_tree.specs.Values.Cases.{string_at, vec_at};
 ghost use Rattle.content_tree.specs.declared.found.Found as found;
 
 use crate::cow::CowStr;
@@ -15,12 +18,12 @@ use crate::value::{NamedData, NamedEnum, NamedStruct, NamedValue};
 use std::alloc::Global;
 
 impl<'a, 'n> NamedValue<'a, 'n> {
-    /// The image of the value, for an error: the same shape without the indices of variants. Owned texts, bytes and
-    /// names are moved, borrowed ones copied.
+    /// The image of the value, for an error: the same shape without the indices of variants. Owned
+    /// texts, bytes and names are moved, borrowed ones copied.
     ///
     /// # Errors
     ///
-    /// Out of memory, where a growth was refused.
+    /// Out of memory, where an allocation failed.
     #[cycle(image)]
     pub fn into_found(self, alloc: Global) -> Result<Found>
         ensures value { IfOk result (λ f. image_view f ≡ image (tree_of self.entry)) }
@@ -82,7 +85,7 @@ pub(crate) fn found_enum<'a, 'n>(alloc: Global, inner: NamedEnum<'a, 'n>) -> Res
 
 #[cycle(image)]
 fn found_data<'a, 'n>(alloc: Global, inner: NamedData<'a, 'n>) -> Result<FoundData>
-    ensures value { IfOk result (λ f. content_view f ≡ image_payload (payload_of inner.entry)) }
+    ensures value { IfOk result (λ f. image_data_view f ≡ image_data (tree_data_of inner.entry)) }
     ensures memory { IfErr result (λ e. IsOutOfMemory e) }
 {
     match inner {
@@ -113,7 +116,8 @@ fn found_option<'a, 'n>(
 
 #[cycle(image)]
 fn found_items<'a, 'n>(alloc: Global, items: Vec<NamedValue<'a, 'n>>) -> Result<Vec<Found>>
-    ensures value { IfOk result (λ f. images_view f.items ≡ image_each (trees_view items.entry.items)) }
+    ensures value { IfOk result (λ f. images_view f.items ≡ image_each
+        (trees_view items.entry.items)) }
     ensures memory { IfErr result (λ e. IsOutOfMemory e) }
 {
     let mut found = Vec::new(alloc);
@@ -128,7 +132,8 @@ fn found_pairs<'a, 'n>(
     alloc: Global,
     pairs: Vec<(NamedValue<'a, 'n>, NamedValue<'a, 'n>)>,
 ) -> Result<Vec<(Found, Found)>>
-    ensures value { IfOk result (λ f. entries_view f.items ≡ image_pairs (pairs_view pairs.entry.items)) }
+    ensures value { IfOk result (λ f. image_pairs_view f.items ≡ image_pairs
+        (pairs_view pairs.entry.items)) }
     ensures memory { IfErr result (λ e. IsOutOfMemory e) }
 {
     let mut found = Vec::new(alloc);
@@ -145,7 +150,8 @@ fn found_fields<'a, 'n>(
     alloc: Global,
     fields: Vec<(CowStr<'n>, NamedValue<'a, 'n>)>,
 ) -> Result<Vec<(String, Found)>>
-    ensures value { IfOk result (λ f. members_view f.items ≡ image_fields (fields_view fields.entry.items)) }
+    ensures value { IfOk result (λ f. image_fields_view f.items ≡ image_fields
+        (fields_view fields.entry.items)) }
     ensures memory { IfErr result (λ e. IsOutOfMemory e) }
 {
     let mut found = Vec::new(alloc);

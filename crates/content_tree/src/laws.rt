@@ -2,14 +2,14 @@
 
 ghost use Rattle.std.specs.Prelude.{◌≡◌};
 ghost use Rattle.std.specs.Bool.{Decides};
-ghost use Rattle.content_tree.specs.Fault.{expected_view, kind_view};
-ghost use Rattle.content_tree.specs.Found.{image_view, content_view};
-ghost use Rattle.content_tree.specs.Kind.{kind_of};
-ghost use Rattle.content_tree.specs.Order.{number_cmp};
-ghost use Rattle.content_tree.specs.ErrorOrder.{type_cmp, expected_cmp, kind_cmp, error_cmp};
-ghost use Rattle.content_tree.specs.Text.{text_content, bytes_content};
-ghost use Rattle.content_tree.specs.Tree.{unmarked, unmarked_payload};
-ghost use Rattle.content_tree.specs.Value.{tree_of, payload_of, struct_tree, enum_tree};
+ghost use Rattle.content_tree.specs.Errors.Cause.{expectation_of, cause_of};
+ghost use Rattle.content_tree.specs.Images.Found.{image_view, image_data_view};
+ghost use Rattle.content_tree.specs.Errors.Kind.{kind_of};
+ghost use Rattle.content_tree.specs.Orders.Trees.{number_cmp};
+ghost use Rattle.content_tree.specs.Orders.Errors.{type_cmp, expected_cmp, kind_cmp, error_cmp};
+ghost use Rattle.content_tree.specs.Values.Text.{text_content, bytes_content};
+ghost use Rattle.content_tree.specs.Values.Tree.{unmarked, unmarked_data};
+ghost use Rattle.content_tree.specs.Values.Value.{tree_of, tree_data_of, struct_tree, enum_tree};
 
 use crate::cow::{CowBytes, CowStr};
 use crate::error::{Error, ErrorKind};
@@ -51,10 +51,10 @@ pub fn equal_enums<'a, 'n>(variant: &NamedEnum<'a, 'n>, other_variant: &NamedEnu
 
 /// What `==` of the data of structs and variants answers: whether they are equal with every mark
 /// taken off. It takes no memory.
-#[tactic(auto, using(crate::proofs::SameTree::payloads_tie))]
+#[tactic(auto, using(crate::proofs::SameTree::tree_data_tie))]
 pub fn equal_data<'a, 'n>(held: &NamedData<'a, 'n>, other_held: &NamedData<'a, 'n>) -> bool
     ensures { Decides result
-        (unmarked_payload (payload_of held.now) ≡ unmarked_payload (payload_of other_held.now)) }
+        (unmarked_data (tree_data_of held.now) ≡ unmarked_data (tree_data_of other_held.now)) }
 {
     *held == *other_held
 }
@@ -82,9 +82,9 @@ pub fn equal_images(left: &Found, right: &Found) -> bool
 }
 
 /// What `==` of the data of images answers: whether they are the same. It takes no memory.
-#[tactic(auto, using(crate::proofs::SameImage::contents_tie))]
+#[tactic(auto, using(crate::proofs::SameImage::image_data_tie))]
 pub fn equal_found_data(found: &FoundData, other_found: &FoundData) -> bool
-    ensures { Decides result (content_view found.now ≡ content_view other_found.now) }
+    ensures { Decides result (image_data_view found.now ≡ image_data_view other_found.now) }
 {
     *found == *other_found
 }
@@ -108,7 +108,7 @@ pub fn equal_types(typ: &DataType, other_typ: &DataType) -> bool
 /// What `==` of expectations answers: whether they say the same. It takes no memory.
 #[tactic(auto, using(crate::proofs::DerivedTies::equal_expected))]
 pub fn equal_expected(expected: &Expected, other_expected: &Expected) -> bool
-    ensures { Decides result (expected_view expected.now ≡ expected_view other_expected.now) }
+    ensures { Decides result (expectation_of expected.now ≡ expectation_of other_expected.now) }
 {
     *expected == *other_expected
 }
@@ -116,7 +116,7 @@ pub fn equal_expected(expected: &Expected, other_expected: &Expected) -> bool
 /// What `==` of kinds of errors answers: whether they say the same. It takes no memory.
 #[tactic(auto, using(crate::proofs::DerivedTies::equal_kinds))]
 pub fn equal_kinds(kind: &ErrorKind, other_kind: &ErrorKind) -> bool
-    ensures { Decides result (kind_view kind.now ≡ kind_view other_kind.now) }
+    ensures { Decides result (cause_of kind.now ≡ cause_of other_kind.now) }
 {
     *kind == *other_kind
 }
@@ -125,7 +125,7 @@ pub fn equal_kinds(kind: &ErrorKind, other_kind: &ErrorKind) -> bool
 #[tactic(auto, using(crate::proofs::DerivedTies::equal_errors))]
 pub fn equal_errors(error: &Error, other_error: &Error) -> bool
     ensures { Decides result
-        (kind_view (kind_of error.now) ≡ kind_view (kind_of other_error.now)) }
+        (cause_of (kind_of error.now) ≡ cause_of (kind_of other_error.now)) }
 {
     *error == *other_error
 }

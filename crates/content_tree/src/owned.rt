@@ -1,15 +1,17 @@
 //! Values that own their texts and bytes.
 ghost use Rattle.std.specs.Prelude.{◌≡◌, None, Ok, IsOk, IfOk, IfErr, IfSome};
-ghost use Rattle.content_tree.specs.Kind.{IsOutOfMemory};
+ghost use Rattle.content_tree.specs.Errors.Kind.{IsOutOfMemory};
 ghost use Rattle.content_tree.specs.Memory.{OwningTakesNoMemory, StructOwningTakesNoMemory};
-ghost use Rattle.content_tree.specs.Memory.{PayloadOwningTakesNoMemory};
-ghost use Rattle.content_tree.specs.Cases.{string_at, vec_at, struct_name, enum_names};
+ghost use Rattle.content_tree.specs.Memory.{DataOwningTakesNoMemory};
+ghost use Rattle.content_tree.specs.Values.Cases.{string_at, vec_at, struct_name, enum_names};
 ghost use Rattle.content_tree.specs.declared.cow.CowStr.TheVariants as text;
 ghost use Rattle.content_tree.specs.declared.cow.CowBytes.TheVariants as bytes;
 ghost use Rattle.content_tree.specs.declared.value.NamedValue as value;
-ghost use Rattle.content_tree.specs.Text.{to_owned};
-ghost use Rattle.content_tree.specs.Tree.{owned, owned_payload, at_texts_each, at_texts_pairs, at_texts_fields};
-ghost use Rattle.content_tree.specs.Value.{tree_of, payload_of, struct_tree, enum_tree, held_view, trees_view, pairs_view, fields_view};
+ghost use Rattle.content_tree.specs.Values.Text.{to_owned};
+ghost use Rattle.content_tree.specs.Values.Tree.{owned, owned_data, at_texts_each, at_texts_pairs};
+ghost use Rattle.content_tree.specs.Values.Tree.{at_texts_fields};
+ghost use Rattle.content_tree.specs.Values.Value.{tree_of, tree_data_of, struct_tree, enum_tree};
+ghost use Rattle.content_tree.specs.Values.Value.{held_view, trees_view, pairs_view, fields_view};
 
 use crate::cow::{CowBytes, CowStr};
 use crate::error::Result;
@@ -17,9 +19,9 @@ use crate::value::{NamedData, NamedEnum, NamedStruct, NamedValue};
 use std::alloc::Global;
 
 impl<'a, 'n> NamedValue<'a, 'n> {
-    /// The same tree with every text and byte value owned; names, variants and keys stay as they were.
-    /// Owned texts and bytes are moved, borrowed ones copied; vectors and boxes are made anew. Where
-    /// memory is refused: an error of kind `OutOfMemory`.
+    /// The same tree with every text and byte value owned; names, variants and keys stay as they
+    /// were. Owned texts and bytes are moved, borrowed ones copied; vectors and boxes are made
+    /// anew. Where memory is refused: an error of kind `OutOfMemory`.
     #[cycle(own_value)]
     pub fn into_owned(self, alloc: Global) -> Result<NamedValue<'static, 'n>>
         ensures value { IfOk result (λ own. tree_of own ≡ owned (tree_of self.entry)) }
@@ -60,9 +62,9 @@ impl<'a, 'n> NamedValue<'a, 'n> {
 }
 
 impl<'a, 'n> NamedStruct<'a, 'n> {
-    /// The same tree with every text and byte value owned; names, variants and keys stay as they were.
-    /// Owned texts and bytes are moved, borrowed ones copied; vectors and boxes are made anew. Where
-    /// memory is refused: an error of kind `OutOfMemory`.
+    /// The same tree with every text and byte value owned; names, variants and keys stay as they
+    /// were. Owned texts and bytes are moved, borrowed ones copied; vectors and boxes are made
+    /// anew. Where memory is refused: an error of kind `OutOfMemory`.
     #[cycle(own_value)]
     pub fn into_owned(self, alloc: Global) -> Result<NamedStruct<'static, 'n>>
         ensures value { IfOk result (λ own. struct_tree own ≡ owned (struct_tree self.entry)) }
@@ -77,9 +79,9 @@ impl<'a, 'n> NamedStruct<'a, 'n> {
 }
 
 impl<'a, 'n> NamedEnum<'a, 'n> {
-    /// The same tree with every text and byte value owned; names, variants and keys stay as they were.
-    /// Owned texts and bytes are moved, borrowed ones copied; vectors and boxes are made anew. Where
-    /// memory is refused: an error of kind `OutOfMemory`.
+    /// The same tree with every text and byte value owned; names, variants and keys stay as they
+    /// were. Owned texts and bytes are moved, borrowed ones copied; vectors and boxes are made
+    /// anew. Where memory is refused: an error of kind `OutOfMemory`.
     #[cycle(own_value)]
     pub fn into_owned(self, alloc: Global) -> Result<NamedEnum<'static, 'n>>
         ensures value { IfOk result (λ own. enum_tree own ≡ owned (enum_tree self.entry)) }
@@ -104,13 +106,14 @@ impl<'a, 'n> NamedEnum<'a, 'n> {
 }
 
 impl<'a, 'n> NamedData<'a, 'n> {
-    /// The same tree with every text and byte value owned; names, variants and keys stay as they were.
-    /// Owned texts and bytes are moved, borrowed ones copied; vectors and boxes are made anew. Where
-    /// memory is refused: an error of kind `OutOfMemory`.
+    /// The same tree with every text and byte value owned; names, variants and keys stay as they
+    /// were. Owned texts and bytes are moved, borrowed ones copied; vectors and boxes are made
+    /// anew. Where memory is refused: an error of kind `OutOfMemory`.
     #[cycle(own_value)]
     pub fn into_owned(self, alloc: Global) -> Result<NamedData<'static, 'n>>
-        ensures value { IfOk result (λ own. payload_of own ≡ owned_payload (payload_of self.entry)) }
-        ensures succeeds { PayloadOwningTakesNoMemory (payload_of self.entry) → IsOk result }
+        ensures value { IfOk result (λ own. tree_data_of own ≡ owned_data
+            (tree_data_of self.entry)) }
+        ensures succeeds { DataOwningTakesNoMemory (tree_data_of self.entry) → IsOk result }
         ensures memory { IfErr result (λ e. IsOutOfMemory e) }
     {
         match self {
@@ -151,7 +154,8 @@ fn own_items<'a, 'n>(
     alloc: Global,
     items: Vec<NamedValue<'a, 'n>>,
 ) -> Result<Vec<NamedValue<'static, 'n>>>
-    ensures value { IfOk result (λ own. trees_view own.items ≡ at_texts_each to_owned (λ n. n) (trees_view items.entry.items)) }
+    ensures value { IfOk result (λ own. trees_view own.items ≡ at_texts_each to_owned (λ n. n)
+        (trees_view items.entry.items)) }
     ensures memory { IfErr result (λ e. IsOutOfMemory e) }
 {
     let mut owned = Vec::new(alloc);
@@ -166,7 +170,8 @@ fn own_pairs<'a, 'n>(
     alloc: Global,
     pairs: Vec<(NamedValue<'a, 'n>, NamedValue<'a, 'n>)>,
 ) -> Result<Vec<(NamedValue<'static, 'n>, NamedValue<'static, 'n>)>>
-    ensures value { IfOk result (λ own. pairs_view own.items ≡ at_texts_pairs to_owned (λ n. n) (pairs_view pairs.entry.items)) }
+    ensures value { IfOk result (λ own. pairs_view own.items ≡ at_texts_pairs to_owned (λ n. n)
+        (pairs_view pairs.entry.items)) }
     ensures memory { IfErr result (λ e. IsOutOfMemory e) }
 {
     let mut owned = Vec::new(alloc);
@@ -183,7 +188,8 @@ fn own_fields<'a, 'n>(
     alloc: Global,
     fields: Vec<(CowStr<'n>, NamedValue<'a, 'n>)>,
 ) -> Result<Vec<(CowStr<'n>, NamedValue<'static, 'n>)>>
-    ensures value { IfOk result (λ own. fields_view own.items ≡ at_texts_fields to_owned (λ n. n) (fields_view fields.entry.items)) }
+    ensures value { IfOk result (λ own. fields_view own.items ≡ at_texts_fields to_owned (λ n. n)
+        (fields_view fields.entry.items)) }
     ensures memory { IfErr result (λ e. IsOutOfMemory e) }
 {
     let mut owned = Vec::new(alloc);

@@ -4,7 +4,7 @@
 ghost use Rattle.std.specs.Prelude.{flat_map};
 ghost use Rattle.std.specs.Str.{chars};
 ghost use Rattle.std.specs.Fmt.{WritesStyledOnOk};
-ghost use Rattle.content_tree.specs.Printed.{quoted, escaped};
+ghost use Rattle.content_tree.specs.Printed.Images.{quoted, escaped};
 
 use crate::display::write_bare;
 use std::fmt;
@@ -19,7 +19,8 @@ pub(crate) fn write_quoted<W: fmt::Write>(text: &str, f: &mut fmt::Formatter<W>)
 }
 
 fn write_escaped<W: fmt::Write>(text: &str, f: &mut fmt::Formatter<W>) -> fmt::Result
-    ensures { WritesStyledOnOk W.write_str_gives f.old result (flat_map escaped (chars text.now)) f.new }
+    ensures { WritesStyledOnOk W.write_str_gives f.old result
+        (flat_map escaped (chars text.now)) f.new }
 {
     for c in text.chars() {
         write_char(c, f)?;

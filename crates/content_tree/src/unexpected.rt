@@ -1,10 +1,10 @@
 //! Errors of finding something else than what was expected.
 ghost use Rattle.std.specs.Prelude.{Bool, true, false, ◌≡◌, MatchResult};
 ghost use Rattle.content_tree.specs.declared.error.ErrorKind.TheVariants as kind;
-ghost use Rattle.content_tree.specs.Value.{tree_of, struct_tree, enum_tree};
-ghost use Rattle.content_tree.specs.Image.{Image, image, number};
-ghost use Rattle.content_tree.specs.Kind.{kind_of};
-ghost use Rattle.content_tree.specs.Unexpected.{IsUnexpected};
+ghost use Rattle.content_tree.specs.Values.Value.{tree_of, struct_tree, enum_tree};
+ghost use Rattle.content_tree.specs.Images.Image.{Image, image, number};
+ghost use Rattle.content_tree.specs.Errors.Kind.{kind_of};
+ghost use Rattle.content_tree.specs.Errors.Unexpected.{IsUnexpected};
 
 use crate::error::{Error, Result};
 use crate::expected::Expected;
@@ -22,8 +22,9 @@ pub trait Unexpected {
     /// Whether the error takes memory.
     ghost takes_memory: { Bool };
 
-    /// The error of finding this where `expected` was expected: of kind [`ErrorKind::Unexpected`](crate::ErrorKind) with
-    /// the image of this, or of kind `OutOfMemory` where a growth was refused.
+    /// The error of finding this where `expected` was expected: of kind
+    /// [`ErrorKind::Unexpected`](crate::ErrorKind) with the image of this, or of kind `OutOfMemory`
+    /// where an allocation failed.
     fn unexpected(self, alloc: Global, expected: Expected) -> Error
         ensures { IsUnexpected (seen self) takes_memory expected (kind_of result) };
 }
@@ -71,7 +72,8 @@ impl<'a, 'n> Unexpected for Box<NamedEnum<'a, 'n>> {
 
 /// The error of an image, or the error of making it.
 fn refusal(found: Result<Found>, expected: Expected) -> Error
-    ensures { MatchResult found (λ f. kind_of result ≡ kind.Unexpected f expected) (λ e. result ≡ e) }
+    ensures { MatchResult found (λ f. kind_of result ≡ kind.Unexpected f expected)
+        (λ e. result ≡ e) }
 {
     match found {
         Ok(found) => Error::unexpected(found, expected),

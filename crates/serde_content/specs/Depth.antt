@@ -1,12 +1,12 @@
 -- How deep calls nest, up to 255: how many calls that open something are not closed yet.
 use Rattle.std.specs.Prelude.{◌≡◌, ℕ, ◌+◌, ◌-◌, nat_eq, if◌then◌else◌, Option, Some, None}
-use Rattle.content_tree.specs.Kind.{kind_of}
+use Rattle.content_tree.specs.Errors.Kind.{kind_of}
 use Rattle.content_tree.specs.declared.error.Error.{Error}
 use Rattle.content_tree.specs.declared.error.ErrorKind.TheVariants.{Failed, Misplaced}
-use Rattle.content_ser.specs.Event.{Event}
-use Rattle.content_ser.specs.Kind as kind
-use Rattle.content_ser.specs.Kind.{Kind}
-use Rattle.content_ser.specs.Lawful.{Refusal, after_failure, out_of_place, no_memory}
+use Rattle.content_ser.specs.Calls.Event.{Event}
+use Rattle.content_ser.specs.Grammar.Token as token
+use Rattle.content_ser.specs.Grammar.Token.{Token}
+use Rattle.content_ser.specs.Serializers.Step.{Refusal, after_failure, out_of_place, no_memory}
 
 -- one deeper; none at 255
 abbrev pub deeper : ℕ → Option ℕ
@@ -16,23 +16,23 @@ deeper depth = if nat_eq depth 255 then None else Some (depth + 1)
 abbrev pub shallower : ℕ → Option ℕ
 shallower depth = if nat_eq depth 0 then None else Some (depth - 1)
 
--- the depth after a call of this kind
-abbrev pub depth_after_kind : ℕ → Kind → Option ℕ
-depth_after_kind depth (kind.leaf t) = Some depth
-depth_after_kind depth (kind.wrap w) = Some depth
-depth_after_kind depth (kind.open_row r) = deeper depth
-depth_after_kind depth kind.open_map = deeper depth
-depth_after_kind depth (kind.open_record r) = deeper depth
-depth_after_kind depth (kind.item m) = Some depth
-depth_after_kind depth (kind.field k) = Some depth
-depth_after_kind depth kind.key = Some depth
-depth_after_kind depth kind.value = Some depth
-depth_after_kind depth kind.entry = Some depth
-depth_after_kind depth kind.finish = shallower depth
+-- the depth after a call of this token
+abbrev pub depth_after_token : ℕ → Token → Option ℕ
+depth_after_token depth (token.leaf t) = Some depth
+depth_after_token depth (token.wrap w) = Some depth
+depth_after_token depth (token.open_row r) = deeper depth
+depth_after_token depth token.open_map = deeper depth
+depth_after_token depth (token.open_record r) = deeper depth
+depth_after_token depth (token.item m) = Some depth
+depth_after_token depth (token.field k) = Some depth
+depth_after_token depth token.key = Some depth
+depth_after_token depth token.value = Some depth
+depth_after_token depth token.entry = Some depth
+depth_after_token depth token.finish = shallower depth
 
 -- the depth after a call
 abbrev pub depth_after : ℕ → Event → Option ℕ
-depth_after depth call = depth_after_kind depth (kind.kind call)
+depth_after depth call = depth_after_token depth (token.token_of call)
 
 -- with which error a call is refused; the depth stays
 abbrev pub keeps_depth : Refusal → ℕ → Error → ℕ → Type 0

@@ -2,7 +2,7 @@
 //! what the comparisons mean.
 #![tactic(auto, using(content_build::proofs::Agreement::one_tree, content_build::proofs::Agreement::unique_cut))]
 
-ghost use Rattle.content_ser.specs.Laws.{OneTree, UniqueCut};
+ghost use Rattle.content_ser.specs.Laws.Lists.{OneTree, UniqueCut};
 
 pub use content_build::{canonical_is_built, canonical_is_missing};
 pub use content_ser::laws::equal_by_contents;

@@ -1,8 +1,8 @@
 //! Optional values and boxes.
 #![tactic(auto, using(crate::proofs::Sending::sending))]
 
-ghost use Rattle.content_ser.specs.Scripts.{option_script};
-ghost use Rattle.content_ser.specs.Lawfulness.{option_lawful};
+ghost use Rattle.content_ser.specs.Scripts.Standard.{option_script};
+ghost use Rattle.content_ser.specs.Laws.StandardScripts.{option_lawful};
 
 use crate::serialize::Serialize;
 use crate::serializer::Serializer;

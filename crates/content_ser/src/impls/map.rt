@@ -1,8 +1,8 @@
 //! Maps, their pairs in the order of the keys.
 #![tactic(auto, using(crate::proofs::Sending::sending))]
 
-ghost use Rattle.content_ser.specs.Scripts.{map_script};
-ghost use Rattle.content_ser.specs.Lawfulness.{map_lawful};
+ghost use Rattle.content_ser.specs.Scripts.Standard.{map_script};
+ghost use Rattle.content_ser.specs.Laws.StandardScripts.{map_lawful};
 
 use crate::serialize::Serialize;
 use crate::serializer::Serializer;

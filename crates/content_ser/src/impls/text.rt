@@ -2,9 +2,9 @@
 #![tactic(auto, using(crate::proofs::Sending::sending))]
 
 ghost use Rattle.std.specs.Prelude.{refl, string_bytes};
-ghost use Rattle.content_ser.specs.Event.{boolean, character, text, unit};
-ghost use Rattle.content_ser.specs.Scripts.{only};
-ghost use Rattle.content_ser.specs.Lawfulness.{leaf_lawful};
+ghost use Rattle.content_ser.specs.Calls.Event.{boolean, character, text, unit};
+ghost use Rattle.content_ser.specs.Scripts.Standard.{only};
+ghost use Rattle.content_ser.specs.Laws.StandardScripts.{leaf_lawful};
 
 use crate::serialize::Serialize;
 use crate::serializer::Serializer;

@@ -1,9 +1,9 @@
 //! Tuples of one to four values.
 #![tactic(auto, using(crate::proofs::Sending::sending))]
 
-ghost use Rattle.content_ser.specs.Event.{end};
-ghost use Rattle.content_ser.specs.Scripts.{element_first, only, tuple_script};
-ghost use Rattle.content_ser.specs.Lawfulness.{element_fits, end_fits, tuple_lawful};
+ghost use Rattle.content_ser.specs.Calls.Event.{end};
+ghost use Rattle.content_ser.specs.Scripts.Standard.{element_first, only, tuple_script};
+ghost use Rattle.content_ser.specs.Laws.StandardScripts.{element_fits, end_fits, tuple_lawful};
 
 use crate::serialize::Serialize;
 use crate::serializer::Serializer;
@@ -24,9 +24,11 @@ impl<A: Serialize> Serialize for (A,) {
 }
 
 impl<A: Serialize, B: Serialize> Serialize for (A, B) {
-    ghost script = { λ t. tuple_script 2 (element_first (A.script t.0) (element_first (B.script t.1) (only end))) };
+    ghost script = { λ t. tuple_script 2 (element_first (A.script t.0)
+        (element_first (B.script t.1) (only end))) };
 
-    ghost lawful = { λ t readable. tuple_lawful (element_fits (A.lawful t.0 readable) (element_fits (B.lawful t.1 readable) end_fits)) };
+    ghost lawful = { λ t readable. tuple_lawful
+        (element_fits (A.lawful t.0 readable) (element_fits (B.lawful t.1 readable) end_fits)) };
 
     fn serialize<S: Serializer>(&self, alloc: Global, serializer: &mut S) -> Result<()> {
         serializer.serialize_tuple(2)?;
@@ -39,9 +41,12 @@ impl<A: Serialize, B: Serialize> Serialize for (A, B) {
 }
 
 impl<A: Serialize, B: Serialize, C: Serialize> Serialize for (A, B, C) {
-    ghost script = { λ t. tuple_script 3 (element_first (A.script t.0) (element_first (B.script t.1) (element_first (C.script t.2) (only end)))) };
+    ghost script = { λ t. tuple_script 3 (element_first (A.script t.0)
+        (element_first (B.script t.1) (element_first (C.script t.2) (only end)))) };
 
-    ghost lawful = { λ t readable. tuple_lawful (element_fits (A.lawful t.0 readable) (element_fits (B.lawful t.1 readable) (element_fits (C.lawful t.2 readable) end_fits))) };
+    ghost lawful = { λ t readable. tuple_lawful
+        (element_fits (A.lawful t.0 readable) (element_fits (B.lawful t.1 readable)
+        (element_fits (C.lawful t.2 readable) end_fits))) };
 
     fn serialize<S: Serializer>(&self, alloc: Global, serializer: &mut S) -> Result<()> {
         serializer.serialize_tuple(3)?;
@@ -56,9 +61,14 @@ impl<A: Serialize, B: Serialize, C: Serialize> Serialize for (A, B, C) {
 }
 
 impl<A: Serialize, B: Serialize, C: Serialize, D: Serialize> Serialize for (A, B, C, D) {
-    ghost script = { λ t. tuple_script 4 (element_first (A.script t.0) (element_first (B.script t.1) (element_first (C.script t.2) (element_first (D.script t.3) (only end))))) };
+    ghost script = { λ t. tuple_script 4 (element_first (A.script t.0)
+        (element_first (B.script t.1) (element_first (C.script t.2)
+        (element_first (D.script t.3) (only end))))) };
 
-    ghost lawful = { λ t readable. tuple_lawful (element_fits (A.lawful t.0 readable) (element_fits (B.lawful t.1 readable) (element_fits (C.lawful t.2 readable) (element_fits (D.lawful t.3 readable) end_fits)))) };
+    ghost lawful = { λ t readable. tuple_lawful
+        (element_fits (A.lawful t.0 readable) (element_fits (B.lawful t.1 readable)
+        (element_fits (C.lawful t.2 readable)
+        (element_fits (D.lawful t.3 readable) end_fits)))) };
 
     fn serialize<S: Serializer>(&self, alloc: Global, serializer: &mut S) -> Result<()> {
         serializer.serialize_tuple(4)?;

@@ -1,8 +1,8 @@
 //! Vectors, as sequences.
 #![tactic(auto, using(crate::proofs::Sending::sending))]
 
-ghost use Rattle.content_ser.specs.Scripts.{seq_script};
-ghost use Rattle.content_ser.specs.Lawfulness.{seq_lawful};
+ghost use Rattle.content_ser.specs.Scripts.Standard.{seq_script};
+ghost use Rattle.content_ser.specs.Laws.StandardScripts.{seq_lawful};
 
 use crate::serialize::Serialize;
 use crate::serializer::Serializer;

@@ -1,11 +1,11 @@
 //! Numbers, each by the call of its kind.
 #![tactic(auto, using(crate::proofs::Sending::sending))]
 
-ghost use Rattle.content_ser.specs.Event.{number};
-ghost use Rattle.content_ser.specs.Scripts.{only};
+ghost use Rattle.content_ser.specs.Calls.Event.{number};
+ghost use Rattle.content_ser.specs.Scripts.Standard.{only};
 ghost use Rattle.content_tree.specs.declared.number.Number.TheVariants as num;
 ghost use Rattle.std.specs.Prelude.{refl};
-ghost use Rattle.content_ser.specs.Lawfulness.{leaf_lawful};
+ghost use Rattle.content_ser.specs.Laws.StandardScripts.{leaf_lawful};
 
 use crate::serialize::Serialize;
 use crate::serializer::Serializer;

@@ -1,9 +1,10 @@
 //! The calls of a head.
 #![tactic(auto)]
 
-ghost use Rattle.content_ser.specs.Head.{head_of};
-ghost use Rattle.content_ser.specs.Lawful.{Takes};
-ghost use Rattle.content_ser.specs.TreeScript.{newtype_call, struct_call, tuple_call, unit_call};
+ghost use Rattle.content_ser.specs.Calls.Head.{head_of};
+ghost use Rattle.content_ser.specs.Serializers.Step.{Takes};
+ghost use Rattle.content_ser.specs.Sending.TreeScript.{newtype_call, struct_call, tuple_call};
+ghost use Rattle.content_ser.specs.Sending.TreeScript.{unit_call};
 
 use crate::head::Head;
 use crate::serializer::Serializer;

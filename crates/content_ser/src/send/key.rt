@@ -2,9 +2,9 @@
 #![tactic(auto, using(crate::proofs::Sending::sending))]
 
 ghost use Rattle.std.specs.Prelude.{◌≡◌, IfOk, string_bytes};
-ghost use Rattle.content_tree.specs.Text.{text_of};
-ghost use Rattle.content_ser.specs.Lawful.{Sends};
-ghost use Rattle.content_ser.specs.TreeScript.{key_script, owned_key_text};
+ghost use Rattle.content_tree.specs.Values.Text.{text_of};
+ghost use Rattle.content_ser.specs.Scripts.Sends.{Sends};
+ghost use Rattle.content_ser.specs.Sending.TreeScript.{key_script, owned_key_text};
 
 use crate::serializer::Serializer;
 use content_tree::{CowStr, Error, ErrorKind, Found, Result};

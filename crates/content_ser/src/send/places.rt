@@ -2,8 +2,8 @@
 #![tactic(auto)]
 
 ghost use Rattle.std.specs.Prelude.{map, IfOk};
-ghost use Rattle.content_ser.specs.Loose.{sorted};
-ghost use Rattle.content_ser.specs.Places.{entry_of, StandsFor};
+ghost use Rattle.content_ser.specs.Sending.Loose.{sorted};
+ghost use Rattle.content_ser.specs.Sending.Places.{keyed_tree_of, StandsFor};
 
 use content_tree::{CowStr, Value};
 use std::alloc::{AllocError, Global};
@@ -16,7 +16,7 @@ pub fn last_places<'a>(
 ) -> Result<BTreeMap<&'a str, usize>, AllocError>
     ensures { IfOk result
         (λ places. StandsFor fields.now.items places.entries
-        (sorted (map entry_of fields.now.items))) }
+        (sorted (map keyed_tree_of fields.now.items))) }
 {
     let mut places = BTreeMap::new(alloc);
     for i in 0..fields.len() {

@@ -1,14 +1,19 @@
 //! How a value is sent, level by level.
 #![tactic(auto, using(crate::proofs::Sending::sending))]
 
-ghost use Rattle.content_tree.specs.Text.{text_of};
-ghost use Rattle.content_tree.specs.Tree.{map, seq};
-ghost use Rattle.content_tree.specs.Value.{enum_tree, fields_view, held_view, pairs_view, payload_of, struct_tree, tree_of, trees_view};
-ghost use Rattle.content_ser.specs.Event.{element, tuple_field};
-ghost use Rattle.content_ser.specs.Head.{head_of};
-ghost use Rattle.content_ser.specs.Lawful.{Sends};
-ghost use Rattle.content_ser.specs.Loose.{keyed, loose_each, loose_entries, loose_fields, loose_pairs, loose_payload, loose_struct, loose_variant, sorted, text_pairs};
-ghost use Rattle.content_ser.specs.TreeScript.{script_of, script_of_each, script_of_fields, script_of_pairs, script_of_payload, sent_tree, single_head};
+ghost use Rattle.content_tree.specs.Values.Text.{text_of};
+ghost use Rattle.content_tree.specs.Values.Tree.{map, seq};
+ghost use Rattle.content_tree.specs.Values.Value.{enum_tree, fields_view, held_view, pairs_view};
+ghost use Rattle.content_tree.specs.Values.Value.{tree_data_of, struct_tree, tree_of, trees_view};
+ghost use Rattle.content_ser.specs.Calls.Event.{element, tuple_field};
+ghost use Rattle.content_ser.specs.Calls.Head.{head_of};
+ghost use Rattle.content_ser.specs.Scripts.Sends.{Sends};
+ghost use Rattle.content_ser.specs.Sending.Loose.{keyed, loose_each, loose_field_pairs};
+ghost use Rattle.content_ser.specs.Sending.Loose.{loose_fields, loose_pairs, loose_data};
+ghost use Rattle.content_ser.specs.Sending.Loose.{loose_struct, loose_variant, sorted, text_pairs};
+ghost use Rattle.content_ser.specs.Sending.TreeScript.{script_of, script_of_each, script_of_fields};
+ghost use Rattle.content_ser.specs.Sending.TreeScript.{script_of_pairs, script_of_data};
+ghost use Rattle.content_ser.specs.Sending.TreeScript.{loose_script, single_head};
 
 use crate::head::Head;
 use crate::send::head::{call_newtype, call_struct, call_tuple, call_unit};
@@ -19,11 +24,12 @@ use crate::serializer::Serializer;
 use content_tree::{CowStr, Data, Enum, Result, Struct, Value};
 use std::alloc::Global;
 
-/// Sends a value: each node by its call, its children in order, structs and variants by their names.
+/// Sends a value: each node by its call, its children in order, structs and variants by their
+/// names.
 #[cycle(send)]
 pub fn send<S: Serializer>(value: &Value<'_>, alloc: Global, serializer: &mut S) -> Result<()>
     ensures { Sends S.step S.refuses (S.seen serializer.old)
-        (sent_tree (tree_of value.now)) result (S.seen serializer.new) }
+        (loose_script (tree_of value.now)) result (S.seen serializer.new) }
 {
     match value {
         Value::Unit => serializer.serialize_unit(),
@@ -55,7 +61,7 @@ fn send_held<S: Serializer>(
     serializer: &mut S,
 ) -> Result<()>
     ensures { Sends S.step S.refuses (S.seen serializer.old)
-        (sent_tree (held_view held.now)) result (S.seen serializer.new) }
+        (loose_script (held_view held.now)) result (S.seen serializer.new) }
 {
     match held {
         None => serializer.serialize_none(),
@@ -122,7 +128,7 @@ pub fn send_struct<S: Serializer>(
     serializer: &mut S,
 ) -> Result<()>
     ensures { Sends S.step S.refuses (S.seen serializer.old)
-        (sent_tree (struct_tree inner.now)) result (S.seen serializer.new) }
+        (loose_script (struct_tree inner.now)) result (S.seen serializer.new) }
 {
     match &inner.name {
         CowStr::Borrowed(name) => send_named(&inner.data, Head::Struct(name), alloc, serializer),
@@ -134,7 +140,7 @@ pub fn send_struct<S: Serializer>(
 #[cycle(send)]
 pub fn send_enum<S: Serializer>(inner: &Enum<'_>, alloc: Global, serializer: &mut S) -> Result<()>
     ensures { Sends S.step S.refuses (S.seen serializer.old)
-        (sent_tree (enum_tree inner.now)) result (S.seen serializer.new) }
+        (loose_script (enum_tree inner.now)) result (S.seen serializer.new) }
 {
     match &inner.name {
         CowStr::Borrowed(name) => match &inner.variant {
@@ -151,16 +157,16 @@ pub fn send_enum<S: Serializer>(inner: &Enum<'_>, alloc: Global, serializer: &mu
 // What a struct or a variant with static names holds, with its head.
 #[cycle(send)]
 fn send_named<S: Serializer>(
-    payload: &Data<'_>,
+    held: &Data<'_>,
     head: Head,
     alloc: Global,
     serializer: &mut S,
 ) -> Result<()>
     ensures { Sends S.step S.refuses (S.seen serializer.old)
-        (λ readable. script_of_payload (head_of head) (loose_payload (payload_of payload.now)))
+        (λ readable. script_of_data (head_of head) (loose_data (tree_data_of held.now)))
         result (S.seen serializer.new) }
 {
-    match payload {
+    match held {
         Data::Unit => call_unit(head, serializer),
         Data::NewType { value } => {
             call_newtype(head, serializer)?;
@@ -179,12 +185,12 @@ fn send_named<S: Serializer>(
 
 // What a struct with an owned name holds.
 #[cycle(send)]
-fn send_unnamed<S: Serializer>(payload: &Data<'_>, alloc: Global, serializer: &mut S) -> Result<()>
+fn send_unnamed<S: Serializer>(held: &Data<'_>, alloc: Global, serializer: &mut S) -> Result<()>
     ensures { Sends S.step S.refuses (S.seen serializer.old)
-        (λ readable. script_of (loose_struct (payload_of payload.now)))
+        (λ readable. script_of (loose_struct (tree_data_of held.now)))
         result (S.seen serializer.new) }
 {
-    match payload {
+    match held {
         Data::Unit => serializer.serialize_unit(),
         Data::NewType { value } => send(value, alloc, serializer),
         Data::Tuple { values } => send_seq(values, alloc, serializer),
@@ -198,16 +204,16 @@ fn send_unnamed<S: Serializer>(payload: &Data<'_>, alloc: Global, serializer: &m
 // A variant that isn't sent under static names.
 #[cycle(send)]
 fn send_variant<S: Serializer>(
-    payload: &Data<'_>,
+    held: &Data<'_>,
     variant: &CowStr<'static>,
     alloc: Global,
     serializer: &mut S,
 ) -> Result<()>
     ensures { Sends S.step S.refuses (S.seen serializer.old)
-        (λ readable. script_of (loose_variant (text_of variant.now) (payload_of payload.now)))
+        (λ readable. script_of (loose_variant (text_of variant.now) (tree_data_of held.now)))
         result (S.seen serializer.new) }
 {
-    match payload {
+    match held {
         Data::Unit => serializer.serialize_str(variant.as_str()),
         Data::NewType { value } => {
             open_single(variant, serializer)?;
@@ -281,7 +287,7 @@ fn send_entries<S: Serializer>(
     serializer: &mut S,
 ) -> Result<()>
     ensures { Sends S.step S.refuses (S.seen serializer.old)
-        (λ readable. script_of_pairs (loose_entries (fields_view fields.now.items)))
+        (λ readable. script_of_pairs (loose_field_pairs (fields_view fields.now.items)))
         result (S.seen serializer.new) }
 {
     for (key, value) in fields {

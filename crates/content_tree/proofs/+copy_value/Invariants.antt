@@ -1,5 +1,5 @@
 use Rattle.std.proofs.Common.{◌≡◌, take, map}
-use Rattle.content_tree.specs.Value.{tree_of, pair_tree, field_tree}
+use Rattle.content_tree.specs.Values.Value.{tree_of, pair_tree, field_tree}
 use Rattle.content_tree.proofs.+copy_value.Given as goal
 
 abbrev pub invariant-copy_value::clone_fields-loop-key : goal.invariant-copy_value::clone_fields-loop-key

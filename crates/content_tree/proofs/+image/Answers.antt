@@ -1,9 +1,9 @@
 use Rattle.std.proofs.Common.{◌≡◌, sym, ap, ◌∙◌, arith, rules}
-use Rattle.content_tree.proofs.Views.{payload_of-Struct}
-use Rattle.content_tree.proofs.FoundViews.{content_view-Struct}
-use Rattle.content_tree.specs.Value.{trees_view, pairs_view, fields_view}
-use Rattle.content_tree.specs.Image.{image_each, image_pairs, image_fields}
-use Rattle.content_tree.specs.Found.{images_of, entries_of, members_of}
+use Rattle.content_tree.proofs.Views.{tree_data_of-Struct}
+use Rattle.content_tree.proofs.FoundViews.{image_data_view-Struct}
+use Rattle.content_tree.specs.Values.Value.{trees_view, pairs_view, fields_view}
+use Rattle.content_tree.specs.Images.Image.{image_each, image_pairs, image_fields}
+use Rattle.content_tree.specs.Images.Found.{images_of, image_pairs_of, image_fields_of}
 use Rattle.content_tree.proofs.Images.{items_found, pairs_found, fields_found}
 use Rattle.content_tree.proofs.Owning.{nothing_left}
 use Rattle.content_tree.proofs.+image.Goals as goal
@@ -16,13 +16,13 @@ image::found_items-returns-clause-value t c =
 pub image::found_pairs-returns-clause-value : goal.image::found_pairs-returns-clause-value
 image::found_pairs-returns-clause-value t c =
     let all : c.args.pairs.items ≡ c.loop-key.yielded = nothing_left _ _ _ c.loop-key.invariant.2 (omega (arith, c.in-None.ensures.steps.0)) in
-    ap entries_of c.loop-key.invariant.3 ∙ pairs_found c.loop-key.yielded ∙ ap (λ ps. image_pairs (pairs_view ps)) (sym all)
+    ap image_pairs_of c.loop-key.invariant.3 ∙ pairs_found c.loop-key.yielded ∙ ap (λ ps. image_pairs (pairs_view ps)) (sym all)
 
 pub image::found_fields-returns-clause-value : goal.image::found_fields-returns-clause-value
 image::found_fields-returns-clause-value t c =
     let all : c.args.fields.items ≡ c.loop-key.yielded = nothing_left _ _ _ c.loop-key.invariant.2 (omega (arith, c.in-None.ensures.steps.0)) in
-    ap members_of c.loop-key.invariant.3 ∙ fields_found c.loop-key.yielded ∙ ap (λ fs. image_fields (fields_view fs)) (sym all)
+    ap image_fields_of c.loop-key.invariant.3 ∙ fields_found c.loop-key.yielded ∙ ap (λ fs. image_fields (fields_view fs)) (sym all)
 
 pub image::found_data-returns-in_ok-found_fields-in-Struct-clause-value :
     goal.image::found_data-returns-in_ok-found_fields-in-Struct-clause-value
-image::found_data-returns-in_ok-found_fields-in-Struct-clause-value t c = grind (rules, payload_of-Struct, content_view-Struct)
+image::found_data-returns-in_ok-found_fields-in-Struct-clause-value t c = grind (rules, tree_data_of-Struct, image_data_view-Struct)

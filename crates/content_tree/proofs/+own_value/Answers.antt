@@ -1,14 +1,15 @@
 use Rattle.std.proofs.Common.{◌≡◌, sym, ap, ◌∙◌, rules, arith}
-use Rattle.content_tree.specs.Text.{to_owned}
-use Rattle.content_tree.specs.Tree.{at_texts_each, at_texts_pairs, at_texts_fields}
-use Rattle.content_tree.specs.Value.{trees_of, pairs_of, fields_of, trees_view, pairs_view, fields_view}
+use Rattle.content_tree.specs.Values.Text.{to_owned}
+use Rattle.content_tree.specs.Values.Tree.{at_texts_each, at_texts_pairs, at_texts_fields}
+use Rattle.content_tree.specs.Values.Value.{trees_of, pairs_of, fields_of, trees_view, pairs_view}
+use Rattle.content_tree.specs.Values.Value.{fields_view}
 use Rattle.content_tree.proofs.Owning.{trees_owned, pairs_owned, fields_owned, nothing_left}
-use Rattle.content_tree.proofs.Views.{payload_of-Struct}
+use Rattle.content_tree.proofs.Views.{tree_data_of-Struct}
 use Rattle.content_tree.proofs.+own_value.Goals as goal
 
 pub value::NamedData::into_owned-returns-in_ok-own_fields-in-Struct-clause-value :
     goal.value::NamedData::into_owned-returns-in_ok-own_fields-in-Struct-clause-value
-value::NamedData::into_owned-returns-in_ok-own_fields-in-Struct-clause-value t c = grind (rules, payload_of-Struct)
+value::NamedData::into_owned-returns-in_ok-own_fields-in-Struct-clause-value t c = grind (rules, tree_data_of-Struct)
 
 pub owned::own_fields-returns-clause-value : goal.owned::own_fields-returns-clause-value
 owned::own_fields-returns-clause-value t c =

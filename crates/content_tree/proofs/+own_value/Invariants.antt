@@ -1,6 +1,6 @@
 use Rattle.std.proofs.Common.{◌≡◌, ◌++◌, map}
-use Rattle.content_tree.specs.Tree.{owned}
-use Rattle.content_tree.specs.Value.{tree_of, pair_tree, field_tree}
+use Rattle.content_tree.specs.Values.Tree.{owned}
+use Rattle.content_tree.specs.Values.Value.{tree_of, pair_tree, field_tree}
 use Rattle.content_tree.proofs.Owning.{owned_pair, owned_field}
 use Rattle.content_tree.proofs.+own_value.Given as goal
 

@@ -1,12 +1,16 @@
 //! Images are compared case by case, and then by contents.
 
-// Two are equal exactly if they stand for the same image: `images_tie` and `contents_tie` of `proofs/SameImage.antt`.
+// Two are equal exactly if they stand for the same image: `images_tie` and `contents_tie` of
+// `proofs/SameImage.antt`.
 
 ghost use Rattle.std.specs.Prelude.{Some, refl};
 ghost use Rattle.std.specs.Cmp.{on_per, on_equiv, on_po, on_total, partial_equiv_from_equiv};
-ghost use Rattle.content_tree.specs.Found.{image_view, content_view};
-ghost use Rattle.content_tree.specs.ImageOrder.{image_cmp, content_cmp, same_image, same_content};
-ghost use Rattle.content_tree.specs.RankedImage.{image_total, image_equiv, image_partial_order, content_total, content_equiv, content_partial_order};
+ghost use Rattle.content_tree.specs.Images.Found.{image_view, image_data_view};
+ghost use Rattle.content_tree.specs.Orders.Images.{image_cmp, image_data_cmp, same_image};
+ghost use Rattle.content_tree.specs.Orders.Images.{same_image_data};
+ghost use Rattle.content_tree.specs.Laws.RankedImage.{image_total, image_equiv};
+ghost use Rattle.content_tree.specs.Laws.RankedImage.{image_partial_order, image_data_total};
+ghost use Rattle.content_tree.specs.Laws.RankedImage.{image_data_equiv, image_data_partial_order};
 
 use crate::compare::image::{compare, compare_data};
 use crate::found::{Found, FoundData};
@@ -51,9 +55,9 @@ impl Ord for Found {
 }
 
 impl PartialEq for FoundData {
-    ghost eq = { λ a b. same_content (content_view a) (content_view b) };
+    ghost eq = { λ a b. same_image_data (image_data_view a) (image_data_view b) };
 
-    ghost laws = { on_per content_view (partial_equiv_from_equiv content_equiv) };
+    ghost laws = { on_per image_data_view (partial_equiv_from_equiv image_data_equiv) };
 
     fn eq(&self, other: &FoundData) -> bool {
         self.cmp(other).is_eq()
@@ -61,13 +65,13 @@ impl PartialEq for FoundData {
 }
 
 impl Eq for FoundData {
-    ghost laws = { on_equiv content_view content_equiv };
+    ghost laws = { on_equiv image_data_view image_data_equiv };
 }
 
 impl PartialOrd for FoundData {
-    ghost partial_cmp = { λ a b. Some (content_cmp (content_view a) (content_view b)) };
+    ghost partial_cmp = { λ a b. Some (image_data_cmp (image_data_view a) (image_data_view b)) };
 
-    ghost laws = { on_po content_view content_partial_order };
+    ghost laws = { on_po image_data_view image_data_partial_order };
 
     fn partial_cmp(&self, other: &FoundData) -> Option<Ordering> {
         Some(self.cmp(other))
@@ -75,9 +79,9 @@ impl PartialOrd for FoundData {
 }
 
 impl Ord for FoundData {
-    ghost cmp = { λ a b. content_cmp (content_view a) (content_view b) };
+    ghost cmp = { λ a b. image_data_cmp (image_data_view a) (image_data_view b) };
 
-    ghost total = { on_total content_view content_total };
+    ghost total = { on_total image_data_view image_data_total };
 
     ghost matches_partial_cmp = { λ a b. refl };
 

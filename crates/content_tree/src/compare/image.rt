@@ -2,8 +2,11 @@
 
 ghost use Rattle.std.specs.Prelude.{◌≡◌};
 ghost use Rattle.std.specs.Ordering.{ordering_then};
-ghost use Rattle.content_tree.specs.Found.{image_view, content_view, held_image, images_view, entries_view, members_view};
-ghost use Rattle.content_tree.specs.ImageOrder.{string_cmp, image_rank, content_rank, image_cmp, content_cmp, images_cmp, entries_cmp, members_cmp};
+ghost use Rattle.content_tree.specs.Images.Found.{image_view, image_data_view, held_image};
+ghost use Rattle.content_tree.specs.Images.Found.{images_view, image_pairs_view, image_fields_view};
+ghost use Rattle.content_tree.specs.Orders.Images.{string_cmp, image_rank, image_data_rank};
+ghost use Rattle.content_tree.specs.Orders.Images.{image_cmp, image_data_cmp, images_cmp};
+ghost use Rattle.content_tree.specs.Orders.Images.{image_pairs_cmp, image_fields_cmp};
 
 use crate::compare::tree::compare_numbers;
 use crate::found::{Found, FoundData};
@@ -36,7 +39,7 @@ fn rank(found: &Found) -> u8
 
 /// The place of a content's case.
 fn rank_of_data(content: &FoundData) -> u8
-    ensures { result ≡ content_rank (content_view content.now) }
+    ensures { result ≡ image_data_rank (image_data_view content.now) }
 {
     match content {
         FoundData::Unit => 0,
@@ -106,7 +109,8 @@ fn compare_named(
     other_name: &String,
     other: &FoundData,
 ) -> Ordering
-    ensures { result ≡ ordering_then (string_cmp name.now other_name.now) (content_cmp (content_view content.now) (content_view other.now)) }
+    ensures { result ≡ ordering_then (string_cmp name.now other_name.now)
+        (image_data_cmp (image_data_view content.now) (image_data_view other.now)) }
 {
     match name.cmp(other_name) {
         Ordering::Equal => compare_data(content, other),
@@ -117,7 +121,7 @@ fn compare_named(
 /// What two structs or variants were found to hold: by case, then by contents.
 #[cycle(compare)]
 pub(crate) fn compare_data(a: &FoundData, b: &FoundData) -> Ordering
-    ensures { result ≡ content_cmp (content_view a.now) (content_view b.now) }
+    ensures { result ≡ image_data_cmp (image_data_view a.now) (image_data_view b.now) }
 {
     match (a, b) {
         (FoundData::Unit, FoundData::Unit) => Ordering::Equal,
@@ -145,7 +149,8 @@ fn compare_items(xs: &Vec<Found>, ys: &Vec<Found>) -> Ordering
 /// Two lists of pairs: pair by pair, of each the key and then the value.
 #[cycle(compare)]
 fn compare_pairs(xs: &Vec<(Found, Found)>, ys: &Vec<(Found, Found)>) -> Ordering
-    ensures { result ≡ entries_cmp (entries_view xs.now.items) (entries_view ys.now.items) }
+    ensures { result ≡ image_pairs_cmp (image_pairs_view xs.now.items)
+        (image_pairs_view ys.now.items) }
 {
     for i in 0..xs.len().min(ys.len()) {
         match compare(&xs[i].0, &ys[i].0) {
@@ -163,7 +168,8 @@ fn compare_pairs(xs: &Vec<(Found, Found)>, ys: &Vec<(Found, Found)>) -> Ordering
 /// Two lists of fields: field by field, of each the key and then the value.
 #[cycle(compare)]
 fn compare_fields(xs: &Vec<(String, Found)>, ys: &Vec<(String, Found)>) -> Ordering
-    ensures { result ≡ members_cmp (members_view xs.now.items) (members_view ys.now.items) }
+    ensures { result ≡ image_fields_cmp (image_fields_view xs.now.items)
+        (image_fields_view ys.now.items) }
 {
     for i in 0..xs.len().min(ys.len()) {
         match xs[i].0.cmp(&ys[i].0) {

@@ -1,8 +1,10 @@
 //! The comparison of two trees, case by case; it stops at the first difference.
 
 ghost use Rattle.std.specs.Prelude.{◌≡◌};
-ghost use Rattle.content_tree.specs.Order.{number_cmp, tree_rank, payload_rank, tree_cmp, payload_cmp, trees_cmp, pairs_cmp, fields_cmp};
-ghost use Rattle.content_tree.specs.Value.{tree_of, payload_of, struct_tree, enum_tree, held_view, trees_view, pairs_view, fields_view};
+ghost use Rattle.content_tree.specs.Orders.Trees.{number_cmp, tree_rank, tree_data_rank, tree_cmp};
+ghost use Rattle.content_tree.specs.Orders.Trees.{tree_data_cmp, trees_cmp, pairs_cmp, fields_cmp};
+ghost use Rattle.content_tree.specs.Values.Value.{tree_of, tree_data_of, struct_tree, enum_tree};
+ghost use Rattle.content_tree.specs.Values.Value.{held_view, trees_view, pairs_view, fields_view};
 
 use crate::cow::CowStr;
 use crate::number::Number;
@@ -37,10 +39,10 @@ fn rank<'a, 'n>(value: &NamedValue<'a, 'n>) -> u8
 }
 
 /// The place of a payload's case.
-fn rank_of_data<'a, 'n>(payload: &NamedData<'a, 'n>) -> u8
-    ensures { result ≡ payload_rank (payload_of payload.now) }
+fn rank_of_data<'a, 'n>(held: &NamedData<'a, 'n>) -> u8
+    ensures { result ≡ tree_data_rank (tree_data_of held.now) }
 {
-    match payload {
+    match held {
         NamedData::Unit => 0,
         NamedData::NewType { value: _ } => 1,
         NamedData::Tuple { values: _ } => 2,
@@ -118,7 +120,7 @@ pub(crate) fn compare_enum<'a, 'n>(a: &NamedEnum<'a, 'n>, b: &NamedEnum<'a, 'n>)
 /// What two structs or variants hold: by case, then by contents.
 #[cycle(compare)]
 pub(crate) fn compare_data<'a, 'n>(a: &NamedData<'a, 'n>, b: &NamedData<'a, 'n>) -> Ordering
-    ensures { result ≡ payload_cmp (payload_of a.now) (payload_of b.now) }
+    ensures { result ≡ tree_data_cmp (tree_data_of a.now) (tree_data_of b.now) }
 {
     match (a, b) {
         (NamedData::Unit, NamedData::Unit) => Ordering::Equal,

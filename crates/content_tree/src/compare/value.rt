@@ -1,13 +1,17 @@
 //! Values, structs, variants and their data are compared as trees, without marks.
 
-// Two are equal exactly if their trees are equal with the marks taken off: `trees_tie` and `payloads_tie` of
-// `proofs/SameTree.antt`. So the order finds neither less exactly if they are equal.
+// Two are equal exactly if their trees are equal with the marks taken off: `trees_tie` and
+// `payloads_tie` of `proofs/SameTree.antt`. So the order finds neither less exactly if they are
+// equal.
 
 ghost use Rattle.std.specs.Prelude.{◌≡◌, Some, refl};
 ghost use Rattle.std.specs.Cmp.{on_per, on_equiv, on_po, on_total, partial_equiv_from_equiv};
-ghost use Rattle.content_tree.specs.Order.{tree_cmp, payload_cmp, same_tree, same_payload};
-ghost use Rattle.content_tree.specs.RankedTree.{tree_total, tree_equiv, tree_partial_order, payload_total, payload_equiv, payload_partial_order};
-ghost use Rattle.content_tree.specs.Value.{tree_of, payload_of, struct_tree, enum_tree};
+ghost use Rattle.content_tree.specs.Orders.Trees.{tree_cmp, tree_data_cmp, same_tree};
+ghost use Rattle.content_tree.specs.Orders.Trees.{same_tree_data};
+ghost use Rattle.content_tree.specs.Laws.RankedTree.{tree_total, tree_equiv, tree_partial_order};
+ghost use Rattle.content_tree.specs.Laws.RankedTree.{tree_data_total, tree_data_equiv};
+ghost use Rattle.content_tree.specs.Laws.RankedTree.{tree_data_partial_order};
+ghost use Rattle.content_tree.specs.Values.Value.{tree_of, tree_data_of, struct_tree, enum_tree};
 
 use crate::compare::tree::{compare, compare_data, compare_enum, compare_struct};
 use crate::value::{NamedData, NamedEnum, NamedStruct, NamedValue};
@@ -128,9 +132,9 @@ impl<'a, 'n> Ord for NamedEnum<'a, 'n> {
 }
 
 impl<'a, 'n> PartialEq for NamedData<'a, 'n> {
-    ghost eq = { λ a b. same_payload (payload_of a) (payload_of b) };
+    ghost eq = { λ a b. same_tree_data (tree_data_of a) (tree_data_of b) };
 
-    ghost laws = { on_per payload_of (partial_equiv_from_equiv payload_equiv) };
+    ghost laws = { on_per tree_data_of (partial_equiv_from_equiv tree_data_equiv) };
 
     fn eq(&self, other: &NamedData<'a, 'n>) -> bool {
         self.cmp(other).is_eq()
@@ -138,13 +142,13 @@ impl<'a, 'n> PartialEq for NamedData<'a, 'n> {
 }
 
 impl<'a, 'n> Eq for NamedData<'a, 'n> {
-    ghost laws = { on_equiv payload_of payload_equiv };
+    ghost laws = { on_equiv tree_data_of tree_data_equiv };
 }
 
 impl<'a, 'n> PartialOrd for NamedData<'a, 'n> {
-    ghost partial_cmp = { λ a b. Some (payload_cmp (payload_of a) (payload_of b)) };
+    ghost partial_cmp = { λ a b. Some (tree_data_cmp (tree_data_of a) (tree_data_of b)) };
 
-    ghost laws = { on_po payload_of payload_partial_order };
+    ghost laws = { on_po tree_data_of tree_data_partial_order };
 
     fn partial_cmp(&self, other: &NamedData<'a, 'n>) -> Option<Ordering> {
         Some(self.cmp(other))
@@ -152,9 +156,9 @@ impl<'a, 'n> PartialOrd for NamedData<'a, 'n> {
 }
 
 impl<'a, 'n> Ord for NamedData<'a, 'n> {
-    ghost cmp = { λ a b. payload_cmp (payload_of a) (payload_of b) };
+    ghost cmp = { λ a b. tree_data_cmp (tree_data_of a) (tree_data_of b) };
 
-    ghost total = { on_total payload_of payload_total };
+    ghost total = { on_total tree_data_of tree_data_total };
 
     ghost matches_partial_cmp = { λ a b. refl };
 

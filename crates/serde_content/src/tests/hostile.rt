@@ -23,7 +23,7 @@ fn is_stuck(builder: Builder<'_>, cause: &ErrorKind) -> bool {
 #[test]
 fn a_refused_builder_has_failed(rt: HostRuntime) -> Result<(), Fail> {
     let alloc = rt.alloc();
-    let mut builder: Builder<'_> = Builder::new(alloc, false);
+    let mut builder: Builder<'static> = Builder::new(alloc, false);
     builder.serialize_seq(None)?;
     assert!(rt; !builder.is_failed());
     assert!(rt; is_refused(builder.serialize_unit(), &ErrorKind::Misplaced));
@@ -31,7 +31,7 @@ fn a_refused_builder_has_failed(rt: HostRuntime) -> Result<(), Fail> {
     assert!(rt; is_refused(builder.end(), &ErrorKind::Failed));
     assert!(rt; is_stuck(builder, &ErrorKind::Failed));
     assert!(rt; is_stuck(Builder::new(alloc, false), &ErrorKind::Unfinished));
-    let mut builder: Builder<'_> = Builder::new(alloc, false);
+    let mut builder: Builder<'static> = Builder::new(alloc, false);
     builder.serialize_map(None)?;
     assert!(rt; is_stuck(builder, &ErrorKind::Unfinished));
     Ok(())
@@ -60,7 +60,7 @@ fn is_stopped(answer: Answer<()>) -> bool {
 fn a_swallowed_stop_has_made_its_calls(rt: HostRuntime) -> Result<(), Fail> {
     let alloc = rt.alloc();
     let value = with_owned_key(alloc)?;
-    let mut builder: Builder<'_> = Builder::new(alloc, false);
+    let mut builder: Builder<'static> = Builder::new(alloc, false);
     builder.serialize_seq(None)?;
     builder.serialize_element()?;
     assert!(rt; is_stopped(value.serialize(alloc, &mut builder)));

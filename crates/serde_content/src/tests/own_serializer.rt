@@ -1,7 +1,7 @@
 //! A serialiser of a caller's own: it counts how deep calls nest, and refuses a depth of 256.
 
 ghost use Rattle.std.specs.Prelude.{◌≡◌, ℕ, false};
-ghost use Rattle.content_ser.specs.Call.{event_of};
+ghost use Rattle.content_ser.specs.Calls.Call.{event_of};
 ghost use Rattle.serde_content.specs.Depth.{deeper, depth_after, keeps_depth, shallower};
 
 use content_ser::{Call, Serializer, replay};

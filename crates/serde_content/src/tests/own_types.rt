@@ -1,9 +1,16 @@
 //! A struct and an enum of a caller's own, as calls and as trees.
 
 ghost use Rattle.std.specs.Prelude.{codes, refl};
-ghost use Rattle.content_ser.specs.Lawfulness.{leaf_lawful};
-ghost use Rattle.content_ser.specs.OwnScripts.{end_script, field_first, newtype_variant_script, struct_script, struct_variant_script, tuple_field_first, tuple_variant_script, unit_variant_script};
-ghost use Rattle.content_ser.specs.OwnLaws.{field_fits, newtype_variant_lawful, struct_end_fits, struct_lawful, struct_variant_lawful, tuple_end_fits, tuple_field_fits, tuple_variant_lawful, unit_variant_lawful};
+ghost use Rattle.content_ser.specs.Laws.StandardScripts.{leaf_lawful};
+ghost use Rattle.content_ser.specs.Scripts.Own.{end_script, field_first, newtype_variant_script};
+ghost use Rattle.content_ser.specs.Scripts.Own.{struct_script, struct_variant_script};
+ghost use Rattle.content_ser.specs.Scripts.Own.{tuple_field_first, tuple_variant_script};
+ghost use Rattle.content_ser.specs.Scripts.Own.{unit_variant_script};
+ghost use Rattle.content_ser.specs.Laws.OwnScripts.{field_fits, newtype_variant_lawful};
+ghost use Rattle.content_ser.specs.Laws.OwnScripts.{struct_end_fits, struct_lawful};
+ghost use Rattle.content_ser.specs.Laws.OwnScripts.{struct_variant_lawful, tuple_end_fits};
+ghost use Rattle.content_ser.specs.Laws.OwnScripts.{tuple_field_fits, tuple_variant_lawful};
+ghost use Rattle.content_ser.specs.Laws.OwnScripts.{unit_variant_lawful};
 ghost use Rattle.serde_content.specs.declared.tests.own_types.Shape.TheVariants as shape;
 
 use content_build::Recorder;
@@ -29,8 +36,8 @@ impl Serialize for Point {
 
     fn serialize<S: Serializer>(&self, alloc: Global, serializer: &mut S) -> Answer<()> {
         Call::Struct("Point", 2)
-            .field("x", &self.x)
-            .field("y", &self.y)
+            .with(Call::Field("x"), &self.x)
+            .with(Call::Field("y"), &self.y)
             .end(alloc, serializer)
     }
 }
@@ -74,12 +81,12 @@ impl Serialize for Shape {
                 Call::NewtypeVariant("Shape", 1, "Ring").around(r, alloc, serializer)
             }
             Shape::Span(a, b) => Call::TupleVariant("Shape", 2, "Span", 2)
-                .tuple_field(a)
-                .tuple_field(b)
+                .with(Call::TupleField, a)
+                .with(Call::TupleField, b)
                 .end(alloc, serializer),
             Shape::Area { w, h } => Call::StructVariant("Shape", 3, "Area", 2)
-                .field("w", w)
-                .field("h", h)
+                .with(Call::Field("w"), w)
+                .with(Call::Field("h"), h)
                 .end(alloc, serializer),
         }
     }

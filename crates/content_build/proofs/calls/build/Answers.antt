@@ -1,9 +1,10 @@
 use Rattle.std.proofs.Common.{Ok, Err, ap, subst, ◌∙◌}
-use Rattle.content_ser.specs.Call.{event_of, events_of}
-use Rattle.content_ser.specs.Lawful.{Takes}
+use Rattle.content_ser.specs.Calls.Call.{event_of, events_of}
+use Rattle.content_ser.specs.Serializers.Step.{Takes}
 use Rattle.content_build.specs.Partial.{step}
 use Rattle.content_build.specs.Builder.{seen_of, refuses, Finishes}
-use Rattle.content_build.proofs.Headline.{length-events, refused, onward, finished, unfinished, whole_run}
+use Rattle.content_build.proofs.Headline.{length-events, refused, onward, finished, unfinished}
+use Rattle.content_build.proofs.Headline.{whole_run}
 use Rattle.content_build.proofs.calls.build.Goals as goal
 
 pub returns-in-Err : goal.returns-in-Err

@@ -1,5 +1,5 @@
 use Rattle.std.proofs.Common.{◌≡◌, false, Some, take}
-use Rattle.content_ser.specs.Call.{events_of}
+use Rattle.content_ser.specs.Calls.Call.{events_of}
 use Rattle.content_build.specs.Partial.{fresh, run}
 use Rattle.content_build.specs.Builder.{seen_of}
 use Rattle.content_build.proofs.calls.build.Given as goal

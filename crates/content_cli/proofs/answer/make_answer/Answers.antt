@@ -1,6 +1,6 @@
 use Rattle.std.proofs.Common.{rules}
-use Rattle.content_tree.specs.Kind.{kind_of}
-use Rattle.content_ser.specs.Call.{events_of}
+use Rattle.content_tree.specs.Errors.Kind.{kind_of}
+use Rattle.content_ser.specs.Calls.Call.{events_of}
 use Rattle.content_cli.proofs.Earned.{refused_earns}
 use Rattle.content_cli.proofs.answer.make_answer.Goals as goal
 

@@ -1,7 +1,8 @@
 use Rattle.std.proofs.Common.{drop}
-use Rattle.content_ser.specs.Call.{events_of}
-use Rattle.content_ser.specs.Lawful.{Answer, Seen, Sends}
-use Rattle.content_ser.specs.Replay.{calls_script}
+use Rattle.content_ser.specs.Calls.Call.{events_of}
+use Rattle.content_ser.specs.Serializers.Step.{Answer, Seen}
+use Rattle.content_ser.specs.Scripts.Sends.{Sends}
+use Rattle.content_ser.specs.Scripts.Replay.{calls_script}
 use Rattle.content_ser.proofs.replaying.replay.Given as goal
 
 -- whatever ends the rest from here ends the whole from the start

@@ -2,7 +2,7 @@ use Rattle.std.proofs.Common.{◌≡◌, ℕ, List, [], ◌++◌, drop}
 use denote.Text.{Utf8}
 use denote.Shadow.{shadow}
 use Rattle.std.specs.Fmt.{HasWrittenStyled, IsFlush}
-use Rattle.content_tree.specs.Printed.{byte_list}
+use Rattle.content_tree.specs.Printed.Images.{byte_list}
 use Rattle.content_tree.proofs.display.write_byte_list.Given as goal
 
 abbrev pub invariant-loop-byte : goal.invariant-loop-byte

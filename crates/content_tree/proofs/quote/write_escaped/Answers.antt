@@ -2,7 +2,7 @@ use Rattle.std.proofs.Common.{flat_map, sym, ap, ◌∙◌, map-id, rules}
 use Rattle.std.proofs.Output.{has_written_styled_append, has_written_styled_of_eq}
 use Rattle.std.proofs.lemmas.Iterator.{YieldsList-from_chars}
 use Rattle.std.proofs.lemmas.Iterator.Consumers.{YieldsList-end}
-use Rattle.content_tree.specs.Printed.{escaped}
+use Rattle.content_tree.specs.Printed.Images.{escaped}
 use Rattle.content_tree.proofs.Printing.{flat_map-last}
 use Rattle.content_tree.proofs.quote.write_escaped.Goals as goal
 

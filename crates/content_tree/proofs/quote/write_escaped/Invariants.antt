@@ -1,6 +1,6 @@
 use Rattle.std.proofs.Common.{flat_map}
 use Rattle.std.specs.Fmt.{HasWrittenStyled, IsFlush}
-use Rattle.content_tree.specs.Printed.{escaped}
+use Rattle.content_tree.specs.Printed.Images.{escaped}
 use Rattle.content_tree.proofs.quote.write_escaped.Given as goal
 
 abbrev pub invariant-loop-c : goal.invariant-loop-c

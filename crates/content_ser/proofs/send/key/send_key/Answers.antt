@@ -1,5 +1,5 @@
 use Rattle.std.proofs.Common.{◌≡◌, ◌∙◌, ap, string_bytes}
-use Rattle.content_ser.specs.TreeScript.{owned_key_text}
+use Rattle.content_ser.specs.Sending.TreeScript.{owned_key_text}
 use Rattle.content_ser.proofs.Walking.{stopped}
 use Rattle.content_ser.proofs.send.key.send_key.Goals as goal
 

@@ -1,6 +1,6 @@
 use Rattle.std.proofs.Common.{◌≡◌, drop}
-use Rattle.content_tree.specs.ImageOrder.{images_cmp, entries_cmp, members_cmp}
-use Rattle.content_tree.specs.Found.{images_view, entries_view, members_view}
+use Rattle.content_tree.specs.Orders.Images.{images_cmp, image_pairs_cmp, image_fields_cmp}
+use Rattle.content_tree.specs.Images.Found.{images_view, image_pairs_view, image_fields_view}
 use Rattle.content_tree.proofs.compare.image.+compare.Given as goal
 
 abbrev pub invariant-compare_items-loop-i : goal.invariant-compare_items-loop-i
@@ -10,10 +10,10 @@ invariant-compare_items-loop-i l =
 
 abbrev pub invariant-compare_pairs-loop-i : goal.invariant-compare_pairs-loop-i
 invariant-compare_pairs-loop-i l =
-    entries_cmp (entries_view l.xs.items) (entries_view l.ys.items)
-    ≡ entries_cmp (entries_view (drop l.i l.xs.items)) (entries_view (drop l.i l.ys.items))
+    image_pairs_cmp (image_pairs_view l.xs.items) (image_pairs_view l.ys.items)
+    ≡ image_pairs_cmp (image_pairs_view (drop l.i l.xs.items)) (image_pairs_view (drop l.i l.ys.items))
 
 abbrev pub invariant-compare_fields-loop-i : goal.invariant-compare_fields-loop-i
 invariant-compare_fields-loop-i l =
-    members_cmp (members_view l.xs.items) (members_view l.ys.items)
-    ≡ members_cmp (members_view (drop l.i l.xs.items)) (members_view (drop l.i l.ys.items))
+    image_fields_cmp (image_fields_view l.xs.items) (image_fields_view l.ys.items)
+    ≡ image_fields_cmp (image_fields_view (drop l.i l.xs.items)) (image_fields_view (drop l.i l.ys.items))

@@ -1,12 +1,12 @@
 use Rattle.std.proofs.Common.{refl, arith, rules}
-use Rattle.content_tree.specs.Order.{trees_cmp, pairs_cmp, fields_cmp}
-use Rattle.content_tree.specs.Value.{trees_view, pairs_view, fields_view}
+use Rattle.content_tree.specs.Orders.Trees.{trees_cmp, pairs_cmp, fields_cmp}
+use Rattle.content_tree.specs.Values.Value.{trees_view, pairs_view, fields_view}
 use Rattle.content_tree.proofs.Ends.{at_the_end}
-use Rattle.content_tree.proofs.Views.{payload_of-Struct}
+use Rattle.content_tree.proofs.Views.{tree_data_of-Struct}
 use Rattle.content_tree.proofs.compare.tree.+compare.Goals as goal
 
 pub compare_data-returns-in-Struct-Struct : goal.compare_data-returns-in-Struct-Struct
-compare_data-returns-in-Struct-Struct t c = grind (rules, payload_of-Struct)
+compare_data-returns-in-Struct-Struct t c = grind (rules, tree_data_of-Struct)
 
 pub compare_items-returns : goal.compare_items-returns
 compare_items-returns t c =

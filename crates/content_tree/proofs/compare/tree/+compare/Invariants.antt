@@ -1,6 +1,6 @@
 use Rattle.std.proofs.Common.{◌≡◌, drop}
-use Rattle.content_tree.specs.Order.{trees_cmp, pairs_cmp, fields_cmp}
-use Rattle.content_tree.specs.Value.{trees_view, pairs_view, fields_view}
+use Rattle.content_tree.specs.Orders.Trees.{trees_cmp, pairs_cmp, fields_cmp}
+use Rattle.content_tree.specs.Values.Value.{trees_view, pairs_view, fields_view}
 use Rattle.content_tree.proofs.compare.tree.+compare.Given as goal
 
 abbrev pub invariant-compare_items-loop-i : goal.invariant-compare_items-loop-i

@@ -1,6 +1,7 @@
 use Rattle.std.proofs.Common.{◌≡◌, [], length, Some, rules}
-use Rattle.content_ser.specs.Event as event
-use Rattle.content_ser.proofs.Sending.{took_only, took_then, took_err, sent_then, sent_err, at_exit, told_then, told_err}
+use Rattle.content_ser.specs.Calls.Event as event
+use Rattle.content_ser.proofs.Sending.{takes_only, takes_then, takes_err, sends_then, sends_err}
+use Rattle.content_ser.proofs.Sending.{at_exit, told_then, told_err}
 use Rattle.content_ser.proofs.impls.map.BTreeMapSerialize.serialize.Goals as goal
 
 pub returns-in_err-serialize_map : goal.returns-in_err-serialize_map
@@ -15,26 +16,26 @@ pub returns-in_err-serialize_entry : goal.returns-in_err-serialize_entry
 returns-in_err-serialize_entry g c =
     let n : c.len.result ≡ length c.args.self.now.entries = search rules in
     at_exit _ _ c.from_residual-in_err-serialize_entry.ensures.1 (told_then (λ n. event.map (Some n)) n c.in_ok-serialize_map.ensures
-    (c.loop-key.invariant _ _ (rw c.in-Some.ensures.steps (took_err c.in_err-serialize_entry.ensures))))
+    (c.loop-key.invariant _ _ (rw c.in-Some.ensures.steps (takes_err c.in_err-serialize_entry.ensures))))
 
 pub returns-in_err-serialize : goal.returns-in_err-serialize
 returns-in_err-serialize g c =
     let n : c.len.result ≡ length c.args.self.now.entries = search rules in
     at_exit _ _ c.from_residual-in_err-serialize.ensures.1 (told_then (λ n. event.map (Some n)) n c.in_ok-serialize_map.ensures
-    (c.loop-key.invariant _ _ (rw c.in-Some.ensures.steps (took_then c.in_ok-serialize_entry.ensures (sent_err _ c.in_err-serialize.ensures)))))
+    (c.loop-key.invariant _ _ (rw c.in-Some.ensures.steps (takes_then c.in_ok-serialize_entry.ensures (sends_err _ c.in_err-serialize.ensures)))))
 
 pub returns-in_err-serialize-2 : goal.returns-in_err-serialize-2
 returns-in_err-serialize-2 g c =
     let n : c.len.result ≡ length c.args.self.now.entries = search rules in
     at_exit _ _ c.from_residual-in_err-serialize-2.ensures.1 (told_then (λ n. event.map (Some n)) n c.in_ok-serialize_map.ensures
-    (c.loop-key.invariant _ _ (rw c.in-Some.ensures.steps (took_then c.in_ok-serialize_entry.ensures (sent_then c.in_ok-serialize.ensures (sent_err _ c.in_err-serialize-2.ensures))))))
+    (c.loop-key.invariant _ _ (rw c.in-Some.ensures.steps (takes_then c.in_ok-serialize_entry.ensures (sends_then c.in_ok-serialize.ensures (sends_err _ c.in_err-serialize-2.ensures))))))
 
 pub loop-key-preserved : goal.loop-key-preserved
 loop-key-preserved g c = λ r new rest.
-    c.loop-key.invariant r new (rw c.in-Some.ensures.steps (took_then c.in_ok-serialize_entry.ensures (sent_then c.in_ok-serialize.ensures (sent_then c.in_ok-serialize-2.ensures rest))))
+    c.loop-key.invariant r new (rw c.in-Some.ensures.steps (takes_then c.in_ok-serialize_entry.ensures (sends_then c.in_ok-serialize.ensures (sends_then c.in_ok-serialize-2.ensures rest))))
 
 pub returns : goal.returns
 returns g c =
     let n : c.len.result ≡ length c.args.self.now.entries = search rules in
     let none : c.loop-key.key-iterator ≡ [] = c.in-None.ensures.steps.0 in
-    told_then (λ n. event.map (Some n)) n c.in_ok-serialize_map.ensures (c.loop-key.invariant _ _ (rw none (took_only c.end.ensures)))
+    told_then (λ n. event.map (Some n)) n c.in_ok-serialize_map.ensures (c.loop-key.invariant _ _ (rw none (takes_only c.end.ensures)))

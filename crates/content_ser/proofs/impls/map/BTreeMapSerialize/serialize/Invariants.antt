@@ -1,5 +1,6 @@
-use Rattle.content_ser.specs.Lawful.{Answer, Seen, Sends}
-use Rattle.content_ser.specs.Scripts.{entries_script}
+use Rattle.content_ser.specs.Serializers.Step.{Answer, Seen}
+use Rattle.content_ser.specs.Scripts.Sends.{Sends}
+use Rattle.content_ser.specs.Scripts.Standard.{entries_script}
 use Rattle.content_ser.proofs.impls.map.BTreeMapSerialize.serialize.Given as goal
 
 -- whatever ends the rest from here ends the whole from the start

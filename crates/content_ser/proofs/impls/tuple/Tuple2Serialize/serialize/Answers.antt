@@ -1,31 +1,32 @@
-use Rattle.content_ser.proofs.Sending.{took_only, took_then, took_err, sent_then, sent_err, at_exit}
+use Rattle.content_ser.proofs.Sending.{takes_only, takes_then, takes_err, sends_then, sends_err}
+use Rattle.content_ser.proofs.Sending.{at_exit}
 use Rattle.content_ser.proofs.impls.tuple.Tuple2Serialize.serialize.Goals as goal
 
 pub returns-in_err-serialize_tuple : goal.returns-in_err-serialize_tuple
 returns-in_err-serialize_tuple g c =
     at_exit _ _ c.from_residual.ensures.1
-    (took_err c.in_err-serialize_tuple.ensures)
+    (takes_err c.in_err-serialize_tuple.ensures)
 
 pub returns-in_err-serialize_element : goal.returns-in_err-serialize_element
 returns-in_err-serialize_element g c =
     at_exit _ _ c.from_residual-in_err-serialize_element.ensures.1
-    (took_then c.in_ok-serialize_tuple.ensures (took_err c.in_err-serialize_element.ensures))
+    (takes_then c.in_ok-serialize_tuple.ensures (takes_err c.in_err-serialize_element.ensures))
 
 pub returns-in_err-serialize : goal.returns-in_err-serialize
 returns-in_err-serialize g c =
     at_exit _ _ c.from_residual-in_err-serialize.ensures.1
-    (took_then c.in_ok-serialize_tuple.ensures (took_then c.in_ok-serialize_element.ensures (sent_err _ c.in_err-serialize.ensures)))
+    (takes_then c.in_ok-serialize_tuple.ensures (takes_then c.in_ok-serialize_element.ensures (sends_err _ c.in_err-serialize.ensures)))
 
 pub returns-in_err-serialize_element-2 : goal.returns-in_err-serialize_element-2
 returns-in_err-serialize_element-2 g c =
     at_exit _ _ c.from_residual-in_err-serialize_element-2.ensures.1
-    (took_then c.in_ok-serialize_tuple.ensures (took_then c.in_ok-serialize_element.ensures (sent_then c.in_ok-serialize.ensures (took_err c.in_err-serialize_element-2.ensures))))
+    (takes_then c.in_ok-serialize_tuple.ensures (takes_then c.in_ok-serialize_element.ensures (sends_then c.in_ok-serialize.ensures (takes_err c.in_err-serialize_element-2.ensures))))
 
 pub returns-in_err-serialize-2 : goal.returns-in_err-serialize-2
 returns-in_err-serialize-2 g c =
     at_exit _ _ c.from_residual-in_err-serialize-2.ensures.1
-    (took_then c.in_ok-serialize_tuple.ensures (took_then c.in_ok-serialize_element.ensures (sent_then c.in_ok-serialize.ensures (took_then c.in_ok-serialize_element-2.ensures (sent_err _ c.in_err-serialize-2.ensures)))))
+    (takes_then c.in_ok-serialize_tuple.ensures (takes_then c.in_ok-serialize_element.ensures (sends_then c.in_ok-serialize.ensures (takes_then c.in_ok-serialize_element-2.ensures (sends_err _ c.in_err-serialize-2.ensures)))))
 
 pub returns : goal.returns
 returns g c =
-    took_then c.in_ok-serialize_tuple.ensures (took_then c.in_ok-serialize_element.ensures (sent_then c.in_ok-serialize.ensures (took_then c.in_ok-serialize_element-2.ensures (sent_then c.in_ok-serialize-2.ensures (took_only c.end.ensures)))))
+    takes_then c.in_ok-serialize_tuple.ensures (takes_then c.in_ok-serialize_element.ensures (sends_then c.in_ok-serialize.ensures (takes_then c.in_ok-serialize_element-2.ensures (sends_then c.in_ok-serialize-2.ensures (takes_only c.end.ensures)))))

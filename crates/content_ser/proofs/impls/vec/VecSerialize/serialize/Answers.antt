@@ -1,7 +1,8 @@
 use Rattle.std.proofs.Common.{◌≡◌, [], length, drop, Some, arith, rules}
 use Rattle.std.proofs.lemmas.List.{drop_all}
-use Rattle.content_ser.specs.Event as event
-use Rattle.content_ser.proofs.Sending.{took_only, took_then, took_err, sent_then, sent_err, at_exit, told_then, told_err}
+use Rattle.content_ser.specs.Calls.Event as event
+use Rattle.content_ser.proofs.Sending.{takes_only, takes_then, takes_err, sends_then, sends_err}
+use Rattle.content_ser.proofs.Sending.{at_exit, told_then, told_err}
 use Rattle.content_ser.proofs.Lists.{drop_here}
 use Rattle.content_ser.proofs.impls.vec.VecSerialize.serialize.Goals as goal
 
@@ -16,7 +17,7 @@ returns-in_err-serialize_element g c =
     let n : c.len.result ≡ length xs.result.now = search rules in
     let e = drop_here xs.result.now c.loop-item.item-index c.item-item.result c.loop-item-test.true c.item-item.is in
     at_exit _ _ c.from_residual-in_err-serialize_element.ensures.1 (rw (← xs.ensures.value) (told_then (λ n. event.seq (Some n)) n c.in_ok-serialize_seq.ensures
-    (c.loop-item.invariant _ _ (rw e (took_err c.in_err-serialize_element.ensures)))))
+    (c.loop-item.invariant _ _ (rw e (takes_err c.in_err-serialize_element.ensures)))))
 
 pub returns-in_err-serialize : goal.returns-in_err-serialize
 returns-in_err-serialize g c =
@@ -24,16 +25,16 @@ returns-in_err-serialize g c =
     let n : c.len.result ≡ length xs.result.now = search rules in
     let e = drop_here xs.result.now c.loop-item.item-index c.item-item.result c.loop-item-test.true c.item-item.is in
     at_exit _ _ c.from_residual-in_err-serialize.ensures.1 (rw (← xs.ensures.value) (told_then (λ n. event.seq (Some n)) n c.in_ok-serialize_seq.ensures
-    (c.loop-item.invariant _ _ (rw e (took_then c.in_ok-serialize_element.ensures (sent_err _ c.in_err-serialize.ensures))))))
+    (c.loop-item.invariant _ _ (rw e (takes_then c.in_ok-serialize_element.ensures (sends_err _ c.in_err-serialize.ensures))))))
 
 pub loop-item-preserved : goal.loop-item-preserved
 loop-item-preserved g c = λ r new rest.
     let e = drop_here c.deref-item-items.result.now c.loop-item.item-index c.item-item.result c.loop-item-test.true c.item-item.is in
-    c.loop-item.invariant r new (rw e (took_then c.in_ok-serialize_element.ensures (sent_then c.in_ok-serialize.ensures rest)))
+    c.loop-item.invariant r new (rw e (takes_then c.in_ok-serialize_element.ensures (sends_then c.in_ok-serialize.ensures rest)))
 
 pub returns : goal.returns
 returns g c =
     let xs = c.deref-item-items in
     let n : c.len.result ≡ length xs.result.now = search rules in
     let none : drop c.loop-item.item-index xs.result.now ≡ [] = drop_all c.loop-item.item-index xs.result.now (omega arith) in
-    rw (← xs.ensures.value) (told_then (λ n. event.seq (Some n)) n c.in_ok-serialize_seq.ensures (c.loop-item.invariant _ _ (rw none (took_only c.end.ensures))))
+    rw (← xs.ensures.value) (told_then (λ n. event.seq (Some n)) n c.in_ok-serialize_seq.ensures (c.loop-item.invariant _ _ (rw none (takes_only c.end.ensures))))

@@ -1,0 +1,112 @@
+//! What each call is in a list: the table of calls.
+
+ghost use Rattle.std.specs.Prelude.{◌≡◌, IfOk};
+ghost use Rattle.content_tree.specs.Values.Value.{tree_of};
+ghost use Rattle.content_ser.specs.Calls.Call.{event_of};
+ghost use Rattle.content_ser.specs.Grammar.Token.{token_of};
+ghost use Rattle.content_build.specs.Inner.Tokens.{token_view, leaf_tree};
+
+use crate::parts::{Row, Wrap, under};
+use content_ser::{Call, Head};
+use content_tree::{CowBytes, CowStr, NamedData, NamedValue, Number, Value};
+use std::alloc::{AllocError, Global};
+
+/// A call whose tree is whole.
+#[derive(Drop)]
+pub(crate) enum Leaf<'a> {
+    Unit,
+    Bool(bool),
+    Number(Number),
+    Char(char),
+    Text(&'a str),
+    Bytes(&'a [u8]),
+    Absent,
+    Head(Head),
+}
+
+/// A call that announces an item.
+#[derive(Drop)]
+pub(crate) enum Announcement {
+    Element,
+    TupleField,
+    Field(&'static str),
+    Key,
+    Value,
+    Entry,
+}
+
+/// What a call is in a list; hints and lengths are not in it.
+#[derive(Drop)]
+pub(crate) enum Token<'a> {
+    Leaf(Leaf<'a>),
+    Wrap(Wrap),
+    Row(Row),
+    Map,
+    Record(Head),
+    Item(Announcement),
+    End,
+}
+
+impl<'b> Token<'b> {
+    /// What the call is in a list.
+    pub(crate) fn of(call: &'b Call<'_>) -> Token<'b>
+        ensures { token_view result ≡ token_of (event_of call.now) }
+    {
+        match call {
+            Call::Bool(v) => Token::Leaf(Leaf::Bool(*v)),
+            Call::Number(v) => Token::Leaf(Leaf::Number(*v)),
+            Call::Char(v) => Token::Leaf(Leaf::Char(*v)),
+            Call::Str(text) => Token::Leaf(Leaf::Text(text.as_str())),
+            Call::Bytes(bytes) => Token::Leaf(Leaf::Bytes(bytes.as_bytes())),
+            Call::Unit => Token::Leaf(Leaf::Unit),
+            Call::NoneCall => Token::Leaf(Leaf::Absent),
+            Call::SomeCall => Token::Wrap(Wrap::Present),
+            Call::UnitStruct(name) => Token::Leaf(Leaf::Head(Head::Struct(*name))),
+            Call::UnitVariant(name, index, variant) => {
+                Token::Leaf(Leaf::Head(Head::Variant(*name, *index, *variant)))
+            }
+            Call::NewtypeStruct(name) => Token::Wrap(Wrap::Head(Head::Struct(*name))),
+            Call::NewtypeVariant(name, index, variant) => {
+                Token::Wrap(Wrap::Head(Head::Variant(*name, *index, *variant)))
+            }
+            Call::Seq(_) => Token::Row(Row::Seq),
+            Call::Tuple(_) => Token::Row(Row::Tuple),
+            Call::TupleStruct(name, _) => Token::Row(Row::Head(Head::Struct(*name))),
+            Call::TupleVariant(name, index, variant, _) => {
+                Token::Row(Row::Head(Head::Variant(*name, *index, *variant)))
+            }
+            Call::Map(_) => Token::Map,
+            Call::Struct(name, _) => Token::Record(Head::Struct(*name)),
+            Call::StructVariant(name, index, variant, _) => {
+                Token::Record(Head::Variant(*name, *index, *variant))
+            }
+            Call::Element => Token::Item(Announcement::Element),
+            Call::TupleField => Token::Item(Announcement::TupleField),
+            Call::Field(key) => Token::Item(Announcement::Field(*key)),
+            Call::Key => Token::Item(Announcement::Key),
+            Call::Value => Token::Item(Announcement::Value),
+            Call::Entry => Token::Item(Announcement::Entry),
+            Call::End => Token::End,
+        }
+    }
+}
+
+impl<'a> Leaf<'a> {
+    /// The tree of the call: its text and bytes are copied, its names are not.
+    pub(crate) fn make<'v>(self, alloc: Global) -> Result<Value<'v>, AllocError>
+        ensures { IfOk result (λ v. tree_of v ≡ leaf_tree self.entry) }
+    {
+        match self {
+            Leaf::Unit => Ok(NamedValue::Unit),
+            Leaf::Bool(v) => Ok(NamedValue::Bool(v)),
+            Leaf::Number(v) => Ok(NamedValue::Number(v)),
+            Leaf::Char(v) => Ok(NamedValue::Char(v)),
+            Leaf::Text(text) => Ok(NamedValue::String(CowStr::Owned(String::from_str(
+                alloc, text,
+            )?))),
+            Leaf::Bytes(bytes) => Ok(NamedValue::Bytes(CowBytes::Owned(bytes.to_vec(alloc)?))),
+            Leaf::Absent => Ok(NamedValue::Option(None)),
+            Leaf::Head(head) => under(alloc, head, NamedData::Unit),
+        }
+    }
+}

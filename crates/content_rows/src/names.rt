@@ -1,0 +1,19 @@
+//! The names that a row may have static.
+
+use crate::stop::{Result, Stop};
+
+/// The names that a row may have static.
+static NAMES: [&'static str; 29] = [
+    "Foo", "Bar", "Baz", "Point", "Shape", "Dot", "Ring", "Span", "Area", "Other", "E", "K", "N",
+    "S", "T", "V", "a", "b", "c", "h", "k", "p", "q", "w", "x", "y", "z", "bar", "baz",
+];
+
+/// The same name, for as long as the program runs. Of another name: no row.
+pub fn static_name(name: &str) -> Result<&'static str> {
+    for known in &NAMES {
+        if *known == name {
+            return Ok(*known);
+        }
+    }
+    Err(Stop::NoRow)
+}

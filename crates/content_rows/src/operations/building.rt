@@ -1,0 +1,140 @@
+//! Trees that are built of calls.
+
+use crate::for_people::ForPeople;
+use crate::methods::make_call;
+use crate::number::parse;
+use crate::plain::plain;
+use crate::show::write_tree;
+use crate::stop::{Result, Stop};
+use crate::tokens::{Tokens, take_word};
+use crate::tree::{read_image, read_tree};
+use content_build::{Builder, Recorder, Serializer, from_calls};
+use content_ser::{Call, Serializer as _, replay as make_calls};
+use content_tree::{Error, ErrorKind, Value};
+use std::alloc::Global;
+
+/// `ok` and the tree.
+fn taken(alloc: Global, value: &Value<'_>) -> Result<String> {
+    let mut out = String::from_str(alloc, "ok ")?;
+    write_tree(&mut out, value)?;
+    Ok(out)
+}
+
+/// The name of the error's kind, unless memory is its cause.
+fn kind_of(error: &Error) -> Result<&'static str> {
+    match error.kind() {
+        ErrorKind::OutOfMemory => Err(Stop::OutOfMemory),
+        ErrorKind::Unexpected { .. } => Ok("Unexpected"),
+        ErrorKind::Custom(_) => Ok("Custom"),
+        ErrorKind::Misplaced => Ok("Misplaced"),
+        ErrorKind::Failed => Ok("Failed"),
+        ErrorKind::Unfinished => Ok("Unfinished"),
+    }
+}
+
+/// The tree that the calls spell, or where and why they are refused.
+pub fn calls(alloc: Global, calls: &[Call<'_>]) -> Result<String> {
+    match from_calls(alloc, calls) {
+        Ok(value) => taken(alloc, &value),
+        Err(refusal) => {
+            let at = refusal.at;
+            let kind = kind_of(&refusal.error)?;
+            Ok(format!(in alloc; "refused at {at} {kind}")?)
+        }
+    }
+}
+
+/// What is printed of the refusal of the calls.
+pub fn refusal(alloc: Global, calls: &[Call<'_>]) -> Result<String> {
+    match from_calls(alloc, calls) {
+        Ok(value) => taken(alloc, &value),
+        Err(refusal) => {
+            kind_of(&refusal.error)?;
+            plain(alloc, &refusal)
+        }
+    }
+}
+
+/// Adds `Ok`, or the name of the error's kind.
+fn write_answer(out: &mut String, answer: content_tree::Result<()>) -> Result<()> {
+    match answer {
+        Ok(()) => out.push_str("Ok")?,
+        Err(error) => out.push_str(kind_of(&error)?)?,
+    }
+    Ok(())
+}
+
+/// Adds whether the builder has failed and how it finishes.
+fn write_end(alloc: Global, out: &mut String, builder: Builder<'static>) -> Result<()> {
+    out.push_str(if builder.is_failed() {
+        "; failed; "
+    } else {
+        "; works; "
+    })?;
+    match builder.finish() {
+        Ok(value) => out.push_str(taken(alloc, &value)?.as_str())?,
+        Err(error) => out.push_str(kind_of(&error)?)?,
+    }
+    Ok(())
+}
+
+/// What a builder answers to each call, made by its own method, and how it ends.
+pub fn builder(alloc: Global, calls: &[Call<'_>]) -> Result<String> {
+    let mut builder: Builder<'static> = Builder::new(alloc, false);
+    let mut out = String::new(alloc);
+    for (place, call) in calls.iter().enumerate() {
+        if place > 0 {
+            out.push(' ')?;
+        }
+        write_answer(&mut out, make_call(&mut builder, call))?;
+    }
+    write_end(alloc, &mut out, builder)?;
+    Ok(out)
+}
+
+/// What a builder answers to each of two lists, replayed on it in turn, and how it ends.
+pub fn replay(alloc: Global, first: &[Call<'_>], second: &[Call<'_>]) -> Result<String> {
+    let mut builder: Builder<'static> = Builder::new(alloc, false);
+    let mut out = String::new(alloc);
+    write_answer(&mut out, make_calls(first, &mut builder))?;
+    out.push(' ')?;
+    write_answer(&mut out, make_calls(second, &mut builder))?;
+    write_end(alloc, &mut out, builder)?;
+    Ok(out)
+}
+
+/// The canonical form of a tree.
+pub fn canonical(alloc: Global, tokens: &mut Tokens<'_>) -> Result<String> {
+    let value = read_tree(alloc, tokens)?;
+    taken(alloc, &Serializer::new().serialize(alloc, &value)?)
+}
+
+/// The tree of the text that an image prints, collected by a builder.
+pub fn collect(alloc: Global, tokens: &mut Tokens<'_>) -> Result<String> {
+    let image = read_image(alloc, tokens)?;
+    let mut builder: Builder<'static> = Builder::new(alloc, false);
+    builder.collect_str(alloc, &image)?;
+    taken(alloc, &builder.finish()?)
+}
+
+/// The serialiser with this flag.
+fn serializer_of(flag: bool) -> Serializer {
+    let serializer = Serializer::new();
+    if flag {
+        serializer.human_readable()
+    } else {
+        serializer
+    }
+}
+
+/// What a builder and a recorder, made with this flag, say of it, and what a serialiser with it
+/// tells a type that asks.
+pub fn readable(alloc: Global, tokens: &mut Tokens<'_>) -> Result<String> {
+    let flag = parse(take_word(tokens)?)?;
+    let builder: Builder<'static> = Builder::new(alloc, flag);
+    let builder = builder.is_human_readable();
+    let recorder = Recorder::new(alloc, flag).is_human_readable();
+    let told = serializer_of(flag).serialize(alloc, &ForPeople)?;
+    let told = matches!(told, Value::Bool(true));
+    Ok(format!(in alloc; "{builder} {recorder} {told}")?)
+}

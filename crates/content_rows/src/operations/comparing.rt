@@ -1,0 +1,170 @@
+//! The order of two things.
+
+use crate::expectation::{read_expected, read_type};
+use crate::kind::read_kind;
+use crate::stop::{Result, Stop};
+use crate::tokens::{Tokens, take_word};
+use crate::tree::{read_image, read_tree};
+use content_build::Serializer;
+use content_ser::Call;
+use content_ser::laws::equal_by_contents;
+use content_tree::laws::{equal_images, equal_values};
+use content_tree::{Error, Found, Value};
+use std::alloc::Global;
+use std::cmp::Ordering;
+
+/// Whether `==`, `<`, `partial_cmp` and `cmp` the other way round say what this order says.
+fn is_agreed<T: Ord>(left: &T, right: &T, order: Ordering) -> bool {
+    (left == right) == order.is_eq()
+        && (left < right) == order.is_lt()
+        && left.partial_cmp(right) == Some(order)
+        && right.cmp(left) == order.reverse()
+}
+
+/// The order, or nothing where the comparisons contradict each other.
+fn order<T: Ord>(left: &T, right: &T) -> Option<Ordering> {
+    let order = left.cmp(right);
+    if is_agreed(left, right, order) {
+        Some(order)
+    } else {
+        None
+    }
+}
+
+/// The word of an order.
+fn told(alloc: Global, order: Option<Ordering>) -> Result<String> {
+    let word = match order {
+        None => "contradiction",
+        Some(Ordering::Less) => "less",
+        Some(Ordering::Equal) => "equal",
+        Some(Ordering::Greater) => "greater",
+    };
+    Ok(String::from_str(alloc, word)?)
+}
+
+/// The order, where it is `Equal` just if a law says so.
+fn if_lawful(order: Option<Ordering>, equal: bool) -> Option<Ordering> {
+    order.filter(|order| order.is_eq() == equal)
+}
+
+/// Of two trees.
+pub fn values(alloc: Global, tokens: &mut Tokens<'_>) -> Result<String> {
+    let left = read_tree(alloc, tokens)?;
+    let right = read_tree(alloc, tokens)?;
+    told(
+        alloc,
+        if_lawful(order(&left, &right), equal_values(&left, &right)),
+    )
+}
+
+/// Of what two trees hold: texts, bytes, structs or enums.
+pub fn parts(alloc: Global, tokens: &mut Tokens<'_>) -> Result<String> {
+    let left = read_tree(alloc, tokens)?;
+    let right = read_tree(alloc, tokens)?;
+    let order = match (&left, &right) {
+        (Value::String(left), Value::String(right)) => order(left, right),
+        (Value::Bytes(left), Value::Bytes(right)) => order(left, right),
+        (Value::Struct(left), Value::Struct(right)) => order(&**left, &**right),
+        (Value::Enum(left), Value::Enum(right)) => order(&**left, &**right),
+        _ => return Err(Stop::NoRow),
+    };
+    told(alloc, order)
+}
+
+/// Of what two structs or two enums hold.
+pub fn data(alloc: Global, tokens: &mut Tokens<'_>) -> Result<String> {
+    let left = read_tree(alloc, tokens)?;
+    let right = read_tree(alloc, tokens)?;
+    let order = match (&left, &right) {
+        (Value::Struct(left), Value::Struct(right)) => order(&left.data, &right.data),
+        (Value::Enum(left), Value::Enum(right)) => order(&left.data, &right.data),
+        _ => return Err(Stop::NoRow),
+    };
+    told(alloc, order)
+}
+
+/// Of two images.
+pub fn images(alloc: Global, tokens: &mut Tokens<'_>) -> Result<String> {
+    let left = read_image(alloc, tokens)?;
+    let right = read_image(alloc, tokens)?;
+    told(
+        alloc,
+        if_lawful(order(&left, &right), equal_images(&left, &right)),
+    )
+}
+
+/// Of what the images of two structs or enums hold.
+pub fn image_data(alloc: Global, tokens: &mut Tokens<'_>) -> Result<String> {
+    let left = read_image(alloc, tokens)?;
+    let right = read_image(alloc, tokens)?;
+    let order = match (&left, &right) {
+        (Found::Struct { data: left, .. }, Found::Struct { data: right, .. }) => {
+            order(&**left, &**right)
+        }
+        (Found::Enum { data: left, .. }, Found::Enum { data: right, .. }) => {
+            order(&**left, &**right)
+        }
+        _ => return Err(Stop::NoRow),
+    };
+    told(alloc, order)
+}
+
+/// Of two expectations.
+pub fn expected(alloc: Global, tokens: &mut Tokens<'_>) -> Result<String> {
+    let left = read_expected(alloc, tokens)?;
+    let right = read_expected(alloc, tokens)?;
+    told(alloc, order(&left, &right))
+}
+
+/// Of two types.
+pub fn types(alloc: Global, tokens: &mut Tokens<'_>) -> Result<String> {
+    let left = read_type(tokens)?;
+    let right = read_type(tokens)?;
+    told(alloc, order(&left, &right))
+}
+
+/// Of two kinds of errors.
+pub fn kinds(alloc: Global, tokens: &mut Tokens<'_>) -> Result<String> {
+    let left = read_kind(alloc, tokens)?;
+    let right = read_kind(alloc, tokens)?;
+    told(alloc, order(&left, &right))
+}
+
+/// Of two errors of these kinds.
+pub fn errors(alloc: Global, tokens: &mut Tokens<'_>) -> Result<String> {
+    let left = Error::from(read_kind(alloc, tokens)?);
+    let right = Error::from(read_kind(alloc, tokens)?);
+    told(alloc, order(&left, &right))
+}
+
+/// The serialiser that is named.
+fn read_serializer(tokens: &mut Tokens<'_>) -> Result<Serializer> {
+    match take_word(tokens)? {
+        "new" => Ok(Serializer::new()),
+        "default" => Ok(Serializer::default()),
+        "human_readable" => Ok(Serializer::new().human_readable()),
+        _ => Err(Stop::NoRow),
+    }
+}
+
+/// Of two serialisers.
+pub fn serializers(alloc: Global, tokens: &mut Tokens<'_>) -> Result<String> {
+    let left = read_serializer(tokens)?;
+    let right = read_serializer(tokens)?;
+    told(alloc, order(&left, &right))
+}
+
+/// Whether two calls are equal, of which the second is also lent: `true`, `false`, or that `==` and
+/// the law contradict each other.
+pub fn calls(alloc: Global, left: &[Call<'_>], right: &[Call<'_>]) -> Result<String> {
+    let ([left], [right]) = (left, right) else {
+        return Err(Stop::NoRow);
+    };
+    let lent = right.lend();
+    let answer = match (left == right, *left == lent, equal_by_contents(left, &lent)) {
+        (true, true, true) => "true",
+        (false, false, false) => "false",
+        _ => "contradiction",
+    };
+    Ok(String::from_str(alloc, answer)?)
+}

@@ -1,0 +1,3 @@
+-- Which lists of calls spell a tree.
+pub mod Token
+pub mod Spells

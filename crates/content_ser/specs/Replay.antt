@@ -1,9 +1,0 @@
--- The script of a list of calls.
-use Rattle.std.specs.Prelude.{List, [], ◌∷◌}
-use Rattle.content_ser.specs.Event.{Event}
-use Rattle.content_ser.specs.Lawful.{Script, done, call_then}
-
--- these calls, and no stop
-abbrev pub calls_script : List Event → Script
-calls_script [] = done
-calls_script (c ∷ cs) = call_then c (calls_script cs)

@@ -1,0 +1,6 @@
+-- By which calls a tree is sent.
+pub mod Loose
+pub mod TreeScript
+pub mod Places
+pub mod Canonical
+pub mod StaticNames

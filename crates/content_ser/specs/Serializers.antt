@@ -1,0 +1,2 @@
+-- What a call does to a serialiser.
+pub mod Step

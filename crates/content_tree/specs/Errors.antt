@@ -1,0 +1,4 @@
+-- What an error says.
+pub mod Kind
+pub mod Cause
+pub mod Unexpected

@@ -1,0 +1,3 @@
+-- What a `Found` stands for.
+pub mod Image
+pub mod Found

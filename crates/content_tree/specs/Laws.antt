@@ -1,0 +1,4 @@
+-- Laws of the definitions.
+pub mod Ranked
+pub mod RankedTree
+pub mod RankedImage
