@@ -42,7 +42,7 @@ pub fn equal_serializers(a: Serializer, b: Serializer) -> bool
 
 /// What the order of serialisers answers: that with the flag off is less than that with the flag
 /// on. It takes no memory.
-pub fn order_of_serializers(a: Serializer, b: Serializer) -> Ordering
+pub fn compare_serializers(a: Serializer, b: Serializer) -> Ordering
     ensures { result ≡ bool_cmp (is_readable a) (is_readable b) }
 {
     a.cmp(&b)

@@ -71,7 +71,7 @@ fn refused(alloc: Global, refusal: &CallsError) -> Result<Answer, AllocError>
     })
 }
 
-/// The line and the status that the input earns, or an error where memory is refused.
+/// The line and the status that the input earns, or an error where an allocation fails.
 pub fn make_answer(alloc: Global, input: &[u8]) -> Result<Answer, AllocError>
     ensures value { IfOk result (λ a. Earns input.now (string_bytes a.line) a.status) }
     ensures fits { IfOk result (λ a. EarnsStatus input.now a.status) }

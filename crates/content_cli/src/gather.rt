@@ -15,7 +15,7 @@ const READ_SIZE: usize = 4096;
 pub enum NoInput {
     /// The source answered a fault.
     ReadFailed,
-    /// A growth of the vector was refused.
+    /// An allocation failed.
     OutOfMemory,
 }
 

@@ -30,7 +30,7 @@ fn finish<W: Sink>(writer: &mut W, line: &[u8], status: u8) -> u8
 /// | 0 | `ok ` and the printed image of the tree | the calls spell a tree |
 /// | 1 | `refused at N: ` and the error's text, N the call's place from 0 | they spell none |
 /// | 2 | `bad line N`, N counted from 1 | a line is no call |
-/// | 3 | `out of memory` | memory was refused before the line was made |
+/// | 3 | `out of memory` | an allocation failed before the line was made |
 /// | 4 | `read failed` | the reader answered a fault |
 /// | 5 | any part of a line | the writer answered a fault |
 ///

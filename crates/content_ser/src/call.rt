@@ -78,8 +78,8 @@ pub enum Call<'a> {
 impl<'a> Call<'a> {
     /// The same call, its text or bytes borrowed or owned as here.
     ///
-    /// Memory is taken where it holds an owned text or owned bytes, and nowhere else; where that is
-    /// refused: an error of kind `OutOfMemory`.
+    /// Memory is taken where it holds an owned text or owned bytes, and nowhere else; where that
+    /// fails: an error of kind `OutOfMemory`.
     pub fn try_clone(&self, alloc: Global) -> Result<Call<'a>>
         ensures value { IfOk result (λ copy. event_of copy ≡ event_of self.now) }
         ensures kept { IfOk result (λ copy. text_part copy ≡ text_part self.now) }

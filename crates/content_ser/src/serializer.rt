@@ -321,7 +321,7 @@ pub trait Serializer {
 
     /// The text that the value prints, as [`serialize_str`](Serializer::serialize_str) takes it.
     ///
-    /// It prints first: where memory for that is refused it makes no call, answers `OutOfMemory`
+    /// It prints first: where an allocation for that fails it makes no call, answers `OutOfMemory`
     /// and changes nothing, whatever the state.
     final fn collect_str<T: Display>(&mut self, alloc: Global, value: &T) -> Result<()>
         ensures { Collects step refuses (seen self.old) (T.output value.now)

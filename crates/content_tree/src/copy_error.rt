@@ -11,8 +11,8 @@ use std::alloc::Global;
 impl Expected {
     /// A copy: the same expectation.
     ///
-    /// It takes memory for owned texts, vectors and boxes, and nothing for the rest; where that is
-    /// refused: an error of kind `OutOfMemory`.
+    /// It takes memory for owned texts, vectors and boxes, and nothing for the rest; where that
+    /// fails: an error of kind `OutOfMemory`.
     pub fn try_clone(&self, alloc: Global) -> Result<Expected>
         ensures value { IfOk result (λ copy. expectation_of copy ≡ expectation_of self.now) }
         ensures succeeds { IsTrue (is_free_expectation (expectation_of self.now)) → IsOk result }
@@ -65,8 +65,8 @@ fn clone_name(alloc: Global, name: &Option<String>) -> Result<Option<String>>
 impl ErrorKind {
     /// A copy: the same kind, with the same image, expectation or text.
     ///
-    /// It takes memory for owned texts, vectors and boxes, and nothing for the rest; where that is
-    /// refused: an error of kind `OutOfMemory`.
+    /// It takes memory for owned texts, vectors and boxes, and nothing for the rest; where that
+    /// fails: an error of kind `OutOfMemory`.
     pub fn try_clone(&self, alloc: Global) -> Result<ErrorKind>
         ensures value { IfOk result (λ copy. cause_of copy ≡ cause_of self.now) }
         ensures succeeds { IsTrue (is_free_cause (cause_of self.now)) → IsOk result }
@@ -92,8 +92,8 @@ impl ErrorKind {
 impl Error {
     /// A copy: an error of the same kind, with the same image, expectation or text.
     ///
-    /// It takes memory for owned texts, vectors and boxes, and nothing for the rest; where that is
-    /// refused: an error of kind `OutOfMemory`.
+    /// It takes memory for owned texts, vectors and boxes, and nothing for the rest; where that
+    /// fails: an error of kind `OutOfMemory`.
     pub fn try_clone(&self, alloc: Global) -> Result<Error>
         ensures value { IfOk result
             (λ copy. cause_of (kind_of copy) ≡ cause_of (kind_of self.now)) }

@@ -12,8 +12,8 @@ use std::alloc::Global;
 impl Found {
     /// A copy of the image.
     ///
-    /// It takes memory for owned texts, vectors and boxes, and nothing for the rest; where that is
-    /// refused: an error of kind `OutOfMemory`.
+    /// It takes memory for owned texts, vectors and boxes, and nothing for the rest; where that
+    /// fails: an error of kind `OutOfMemory`.
     #[cycle(copy_found)]
     pub fn try_clone(&self, alloc: Global) -> Result<Found>
         ensures value { IfOk result (λ copy. image_view copy ≡ image_view self.now) }
@@ -64,8 +64,8 @@ impl Found {
 impl FoundData {
     /// A copy of the image.
     ///
-    /// It takes memory for owned texts, vectors and boxes, and nothing for the rest; where that is
-    /// refused: an error of kind `OutOfMemory`.
+    /// It takes memory for owned texts, vectors and boxes, and nothing for the rest; where that
+    /// fails: an error of kind `OutOfMemory`.
     #[cycle(copy_found)]
     pub fn try_clone(&self, alloc: Global) -> Result<FoundData>
         ensures value { IfOk result (λ copy. image_data_view copy ≡ image_data_view self.now) }

@@ -14,8 +14,8 @@ use std::alloc::Global;
 impl<'a, 'n> NamedValue<'a, 'n> {
     /// A copy: the same tree, with each text, byte value and name borrowed or owned as here.
     ///
-    /// It takes memory for owned texts, vectors and boxes, and nothing for the rest; where that is
-    /// refused: an error of kind `OutOfMemory`.
+    /// It takes memory for owned texts, vectors and boxes, and nothing for the rest; where that
+    /// fails: an error of kind `OutOfMemory`.
     #[cycle(copy_value)]
     pub fn try_clone(&self, alloc: Global) -> Result<NamedValue<'a, 'n>>
         ensures value { IfOk result (λ copy. tree_of copy ≡ tree_of self.now) }
@@ -48,8 +48,8 @@ impl<'a, 'n> NamedValue<'a, 'n> {
 impl<'a, 'n> NamedStruct<'a, 'n> {
     /// A copy: the same tree, with each text, byte value and name borrowed or owned as here.
     ///
-    /// It takes memory for owned texts, vectors and boxes, and nothing for the rest; where that is
-    /// refused: an error of kind `OutOfMemory`.
+    /// It takes memory for owned texts, vectors and boxes, and nothing for the rest; where that
+    /// fails: an error of kind `OutOfMemory`.
     #[cycle(copy_value)]
     pub fn try_clone(&self, alloc: Global) -> Result<NamedStruct<'a, 'n>>
         ensures value { IfOk result (λ copy. struct_tree copy ≡ struct_tree self.now) }
@@ -65,8 +65,8 @@ impl<'a, 'n> NamedStruct<'a, 'n> {
 impl<'a, 'n> NamedEnum<'a, 'n> {
     /// A copy: the same tree, with each text, byte value and name borrowed or owned as here.
     ///
-    /// It takes memory for owned texts, vectors and boxes, and nothing for the rest; where that is
-    /// refused: an error of kind `OutOfMemory`.
+    /// It takes memory for owned texts, vectors and boxes, and nothing for the rest; where that
+    /// fails: an error of kind `OutOfMemory`.
     #[cycle(copy_value)]
     pub fn try_clone(&self, alloc: Global) -> Result<NamedEnum<'a, 'n>>
         ensures value { IfOk result (λ copy. enum_tree copy ≡ enum_tree self.now) }
@@ -88,8 +88,8 @@ impl<'a, 'n> NamedEnum<'a, 'n> {
 impl<'a, 'n> NamedData<'a, 'n> {
     /// A copy: the same tree, with each text, byte value and name borrowed or owned as here.
     ///
-    /// It takes memory for owned texts, vectors and boxes, and nothing for the rest; where that is
-    /// refused: an error of kind `OutOfMemory`.
+    /// It takes memory for owned texts, vectors and boxes, and nothing for the rest; where that
+    /// fails: an error of kind `OutOfMemory`.
     #[cycle(copy_value)]
     pub fn try_clone(&self, alloc: Global) -> Result<NamedData<'a, 'n>>
         ensures value { IfOk result (λ copy. tree_data_of copy ≡ tree_data_of self.now) }

@@ -48,7 +48,7 @@ impl<'a> CowStr<'a> {
     }
 
     /// The text as one that is owned. An owned one is moved, without memory; a borrowed one is
-    /// copied. Where that copy is refused: an error of kind `OutOfMemory`.
+    /// copied. Where an allocation fails: an error of kind `OutOfMemory`.
     pub fn into_owned(self, alloc: Global) -> Result<String>
         ensures value { IfOk result (λ text. string_bytes text ≡ text_content self.entry) }
         ensures moved { IfSome (string_in self.entry) (λ text. result ≡ Ok text) }
@@ -61,7 +61,7 @@ impl<'a> CowStr<'a> {
     }
 
     /// A copy of the same case: a borrowed text is borrowed again, without memory, and an owned one
-    /// is copied. Where that copy is refused: an error of kind `OutOfMemory`.
+    /// is copied. Where an allocation fails: an error of kind `OutOfMemory`.
     pub fn try_clone(&self, alloc: Global) -> Result<CowStr<'a>>
         ensures value { IfOk result (λ copy. text_of copy ≡ text_of self.now) }
         ensures succeeds { IsTrue (text_of self.now).borrowed → IsOk result }
@@ -96,7 +96,7 @@ impl<'a> CowBytes<'a> {
     }
 
     /// The bytes as ones that are owned. Owned ones are moved, without memory; borrowed ones are
-    /// copied. Where that copy is refused: an error of kind `OutOfMemory`.
+    /// copied. Where an allocation fails: an error of kind `OutOfMemory`.
     pub fn into_owned(self, alloc: Global) -> Result<Vec<u8>>
         ensures value { IfOk result (λ bytes. bytes.items ≡ bytes_content self.entry) }
         ensures moved { IfSome (vec_in self.entry) (λ bytes. result ≡ Ok bytes) }
@@ -109,7 +109,7 @@ impl<'a> CowBytes<'a> {
     }
 
     /// A copy of the same case: borrowed bytes are borrowed again, without memory, and owned ones
-    /// are copied. Where that copy is refused: an error of kind `OutOfMemory`.
+    /// are copied. Where an allocation fails: an error of kind `OutOfMemory`.
     pub fn try_clone(&self, alloc: Global) -> Result<CowBytes<'a>>
         ensures value { IfOk result (λ copy. bytes_of copy ≡ bytes_of self.now) }
         ensures succeeds { IsTrue (bytes_of self.now).borrowed → IsOk result }

@@ -91,7 +91,7 @@ impl Error {
     }
 
     /// The error of a text, of kind [`ErrorKind::Custom`] with a copy of the text, or of kind
-    /// [`ErrorKind::OutOfMemory`] where the copy was refused.
+    /// [`ErrorKind::OutOfMemory`] where the allocation failed.
     pub fn custom(alloc: Global, text: &str) -> Error
         ensures { IsCustomOrMemory text.now (kind_of result) }
     {

@@ -21,7 +21,7 @@ use std::alloc::Global;
 impl<'a, 'n> NamedValue<'a, 'n> {
     /// The same tree with every text and byte value owned; names, variants and keys stay as they
     /// were. Owned texts and bytes are moved, borrowed ones copied; vectors and boxes are made
-    /// anew. Where memory is refused: an error of kind `OutOfMemory`.
+    /// anew. Where an allocation fails: an error of kind `OutOfMemory`.
     #[cycle(own_value)]
     pub fn into_owned(self, alloc: Global) -> Result<NamedValue<'static, 'n>>
         ensures value { IfOk result (λ own. tree_of own ≡ owned (tree_of self.entry)) }
@@ -64,7 +64,7 @@ impl<'a, 'n> NamedValue<'a, 'n> {
 impl<'a, 'n> NamedStruct<'a, 'n> {
     /// The same tree with every text and byte value owned; names, variants and keys stay as they
     /// were. Owned texts and bytes are moved, borrowed ones copied; vectors and boxes are made
-    /// anew. Where memory is refused: an error of kind `OutOfMemory`.
+    /// anew. Where an allocation fails: an error of kind `OutOfMemory`.
     #[cycle(own_value)]
     pub fn into_owned(self, alloc: Global) -> Result<NamedStruct<'static, 'n>>
         ensures value { IfOk result (λ own. struct_tree own ≡ owned (struct_tree self.entry)) }
@@ -81,7 +81,7 @@ impl<'a, 'n> NamedStruct<'a, 'n> {
 impl<'a, 'n> NamedEnum<'a, 'n> {
     /// The same tree with every text and byte value owned; names, variants and keys stay as they
     /// were. Owned texts and bytes are moved, borrowed ones copied; vectors and boxes are made
-    /// anew. Where memory is refused: an error of kind `OutOfMemory`.
+    /// anew. Where an allocation fails: an error of kind `OutOfMemory`.
     #[cycle(own_value)]
     pub fn into_owned(self, alloc: Global) -> Result<NamedEnum<'static, 'n>>
         ensures value { IfOk result (λ own. enum_tree own ≡ owned (enum_tree self.entry)) }
@@ -108,7 +108,7 @@ impl<'a, 'n> NamedEnum<'a, 'n> {
 impl<'a, 'n> NamedData<'a, 'n> {
     /// The same tree with every text and byte value owned; names, variants and keys stay as they
     /// were. Owned texts and bytes are moved, borrowed ones copied; vectors and boxes are made
-    /// anew. Where memory is refused: an error of kind `OutOfMemory`.
+    /// anew. Where an allocation fails: an error of kind `OutOfMemory`.
     #[cycle(own_value)]
     pub fn into_owned(self, alloc: Global) -> Result<NamedData<'static, 'n>>
         ensures value { IfOk result (λ own. tree_data_of own ≡ owned_data

@@ -4,10 +4,17 @@
 
 ghost use Rattle.content_ser.specs.Laws.Lists.{OneTree, UniqueCut};
 
+pub use content_build::laws::{
+    compare_serializers, equal_refusals, equal_serializers, sent_is_listed, steps_are_exact,
+};
 pub use content_build::{canonical_is_built, canonical_is_missing};
-pub use content_ser::laws::equal_by_contents;
+pub use content_ser::laws::{canonical_or_stops, canonical_spelled, equal_by_contents};
 pub use content_ser::{loose_once, script_spells};
-pub use content_tree::laws::{equal_images, equal_values};
+pub use content_tree::laws::{
+    compare_errors, compare_expected, compare_kinds, compare_numbers, compare_types, equal_bytes,
+    equal_data, equal_enums, equal_errors, equal_expected, equal_found_data, equal_images,
+    equal_kinds, equal_numbers, equal_structs, equal_texts, equal_types, equal_values,
+};
 
 /// No whole list of calls is a proper beginning of another: a stream of trees can be cut in one
 /// way only.
