@@ -67,8 +67,8 @@ fresh_listed old new sc (Err x) failed (inl (f, (made, c, rest, mid, all, ran, r
 fresh_listed old new sc (Err x) failed (inr (f, inl (text, stops, is, ran))) = (calls_of sc, [], append-nil (calls_of sc), run_listed old (calls_of sc) new ran)
 fresh_listed old new sc (Err x) failed (inr (f, inr (oom, (made, rest, all, ran)))) = (made, rest, all, run_listed old made new ran)
 
-pub sends_is_listed : SentIsListed
-sends_is_listed old new sc r s = by_failed old.failed refl
+pub sent_is_listed : SentIsListed
+sent_is_listed old new sc r s = by_failed old.failed refl
   where
     by_failed : (b : Bool) → old.failed ≡ b → Lists old.state (calls_of (sc old.readable)) r new.state
     by_failed true e = vain_listed old.state new.state (sc old.readable) r (s.when_failed e).1

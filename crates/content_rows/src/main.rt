@@ -5,7 +5,6 @@
 mod call;
 mod cursor;
 mod expectation;
-mod for_people;
 mod kind;
 mod methods;
 mod names;

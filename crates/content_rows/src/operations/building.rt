@@ -1,6 +1,5 @@
 //! Trees that are built of calls.
 
-use crate::for_people::ForPeople;
 use crate::methods::make_call;
 use crate::number::parse;
 use crate::plain::plain;
@@ -117,24 +116,11 @@ pub fn collect(alloc: Global, tokens: &mut Tokens<'_>) -> Result<String> {
     taken(alloc, &builder.finish()?)
 }
 
-/// The serialiser with this flag.
-fn serializer_of(flag: bool) -> Serializer {
-    let serializer = Serializer::new();
-    if flag {
-        serializer.human_readable()
-    } else {
-        serializer
-    }
-}
-
-/// What a builder and a recorder, made with this flag, say of it, and what a serialiser with it
-/// tells a type that asks.
+/// What a builder and a recorder, made with this flag, say of it.
 pub fn readable(alloc: Global, tokens: &mut Tokens<'_>) -> Result<String> {
     let flag = parse(take_word(tokens)?)?;
     let builder: Builder<'static> = Builder::new(alloc, flag);
     let builder = builder.is_human_readable();
     let recorder = Recorder::new(alloc, flag).is_human_readable();
-    let told = serializer_of(flag).serialize(alloc, &ForPeople)?;
-    let told = matches!(told, Value::Bool(true));
-    Ok(format!(in alloc; "{builder} {recorder} {told}")?)
+    Ok(format!(in alloc; "{builder} {recorder}")?)
 }

@@ -1,5 +1,5 @@
-use Rattle.content_build.proofs.Recording.{sends_is_listed}
-use Rattle.content_build.proofs.laws.sends_is_listed.Goals as goal
+use Rattle.content_build.proofs.Recording.{sent_is_listed}
+use Rattle.content_build.proofs.laws.sent_is_listed.Goals as goal
 
 pub returns : goal.returns
-returns c = sends_is_listed
+returns c = sent_is_listed

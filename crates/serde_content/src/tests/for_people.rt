@@ -5,12 +5,14 @@ ghost use Rattle.content_ser.specs.Scripts.Script.{call_then, done};
 ghost use Rattle.content_ser.specs.Laws.StandardScripts.{leaf_lawful};
 ghost use Rattle.std.specs.Prelude.{refl};
 
-use content_ser::{Serialize, Serializer};
-use content_tree::Result;
+use content_build::Serializer;
+use content_ser::Serialize;
+use content_tree::{Result as Answer, Value};
 use std::alloc::Global;
+use std::test::Fail;
 
 /// What sends whether the serialiser is for people to read.
-pub struct ForPeople;
+struct ForPeople;
 
 impl Serialize for ForPeople {
     ghost script = { λ x readable. call_then (boolean readable) done };
@@ -18,8 +20,22 @@ impl Serialize for ForPeople {
     ghost lawful = { λ x readable. leaf_lawful refl };
 
     #[tactic(auto, using(crate::proofs::Telling::told_flag))]
-    fn serialize<S: Serializer>(&self, _alloc: Global, serializer: &mut S) -> Result<()> {
+    fn serialize<S: content_ser::Serializer>(
+        &self,
+        _alloc: Global,
+        serializer: &mut S,
+    ) -> Answer<()> {
         let readable = serializer.is_human_readable();
         serializer.serialize_bool(readable)
     }
+}
+
+#[test]
+fn a_type_learns_whether_it_is_for_people(rt: HostRuntime) -> Result<(), Fail> {
+    let alloc = rt.alloc();
+    let plain = Serializer::new();
+    let readable = plain.human_readable();
+    assert!(rt; plain.serialize(alloc, &ForPeople)? == Value::Bool(false));
+    assert!(rt; readable.serialize(alloc, &ForPeople)? == Value::Bool(true));
+    Ok(())
 }
