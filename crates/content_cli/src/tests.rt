@@ -145,8 +145,7 @@ fn compounds_are_printed(rt: HostRuntime) -> Result<(), Fail> {
             b"ok { 1u8: false, Point: () }\n",
         ),
         (
-            b"tuple_struct Bar 2\ntuple_field\nnewtype_struct Baz\nunit\ntuple_field\nstruct Point
-                2\nfield x\nnone\nfield y\nnone\nend\nend\n",
+            b"tuple_struct Bar 2\ntuple_field\nnewtype_struct Baz\nunit\ntuple_field\nstruct Point 2\nfield x\nnone\nfield y\nnone\nend\nend\n",
             b"ok Bar(Baz(()), Point { x: None, y: None })\n",
         ),
     ];
@@ -162,28 +161,20 @@ fn compounds_are_printed(rt: HostRuntime) -> Result<(), Fail> {
 fn numbers_are_printed(rt: HostRuntime) -> Result<(), Fail> {
     let cases: [(&[u8], &[u8]); 4] = [
         (
-            b"tuple 5\nelement\ni8 -128\nelement\ni16 -32768\nelement\ni32 -2147483648\nelement\ni64
-                -9223372036854775808\nelement\ni128
-                    -170141183460469231731687303715884105728\nend\n",
-            b"ok (-128i8, -32768i16, -2147483648i32, -9223372036854775808i64,
-                -170141183460469231731687303715884105728i128)\n",
+            b"tuple 5\nelement\ni8 -128\nelement\ni16 -32768\nelement\ni32 -2147483648\nelement\ni64 -9223372036854775808\nelement\ni128 -170141183460469231731687303715884105728\nend\n",
+            b"ok (-128i8, -32768i16, -2147483648i32, -9223372036854775808i64, -170141183460469231731687303715884105728i128)\n",
         ),
         (
-            b"tuple 5\nelement\ni8 127\nelement\ni16 32767\nelement\ni32 2147483647\nelement\ni64
-                9223372036854775807\nelement\ni128 170141183460469231731687303715884105727\nend\n",
-            b"ok (127i8, 32767i16, 2147483647i32, 9223372036854775807i64,
-                170141183460469231731687303715884105727i128)\n",
+            b"tuple 5\nelement\ni8 127\nelement\ni16 32767\nelement\ni32 2147483647\nelement\ni64 9223372036854775807\nelement\ni128 170141183460469231731687303715884105727\nend\n",
+            b"ok (127i8, 32767i16, 2147483647i32, 9223372036854775807i64, 170141183460469231731687303715884105727i128)\n",
         ),
         (
-            b"tuple 5\nelement\nu8 0\nelement\nu16 0\nelement\nu32 0\nelement\nu64 0\nelement\nu128
-                0\nend\n",
+            b"tuple 5\nelement\nu8 0\nelement\nu16 0\nelement\nu32 0\nelement\nu64 0\nelement\nu128 0\nend\n",
             b"ok (0u8, 0u16, 0u32, 0u64, 0u128)\n",
         ),
         (
-            b"tuple 5\nelement\nu8 255\nelement\nu16 65535\nelement\nu32 4294967295\nelement\nu64
-                18446744073709551615\nelement\nu128 340282366920938463463374607431768211455\nend\n",
-            b"ok (255u8, 65535u16, 4294967295u32, 18446744073709551615u64,
-                340282366920938463463374607431768211455u128)\n",
+            b"tuple 5\nelement\nu8 255\nelement\nu16 65535\nelement\nu32 4294967295\nelement\nu64 18446744073709551615\nelement\nu128 340282366920938463463374607431768211455\nend\n",
+            b"ok (255u8, 65535u16, 4294967295u32, 18446744073709551615u64, 340282366920938463463374607431768211455u128)\n",
         ),
     ];
     for (input, wanted) in &cases {
