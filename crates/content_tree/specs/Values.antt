@@ -3,3 +3,4 @@ pub mod Text
 pub mod Cases
 pub mod Tree
 pub mod Value
+pub mod Ranges

@@ -1,0 +1,5 @@
+pub mod Counts
+pub mod Singles
+pub mod Fields
+pub mod Values
+pub mod Ends

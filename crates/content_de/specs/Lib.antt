@@ -1,0 +1,5 @@
+pub mod Sources
+pub mod Outcomes
+pub mod Requests
+pub mod Accesses
+pub mod Reads

@@ -1,0 +1,6 @@
+-- What a type reads: which refusal comes first in reading order, and which values may be given.
+pub mod Read
+pub mod Access
+pub mod Standard
+pub mod Tuples
+pub mod Maps

@@ -1,0 +1,39 @@
+-- What tuples read: each part in turn; items that are left over stay unread.
+use Rattle.std.specs.Prelude.{ℕ, ◌++◌, Option, Some, None, codes, ⊤}
+use Rattle.std.specs.Fmt.{decimal}
+use Rattle.content_tree.specs.Errors.Cause.{Cause, custom}
+use Rattle.content_de.specs.Sources.Origin.{Subject}
+use Rattle.content_de.specs.Accesses.Seq.{SeqLeft, first_item, after_item}
+use Rattle.content_de.specs.Reads.Read.{Refusal, Gives, first_of}
+
+-- the items ended after so many of so many
+abbrev pub too_few : (expected found : ℕ) → Cause
+too_few expected found =
+    custom (codes "too few elements: expected " ++ (decimal expected ++ (codes ", found " ++ decimal found)))
+
+-- the refusal of the part at this place
+abbrev pub part_refusal : (expected found : ℕ) → Refusal → Option Subject → Option Cause
+part_refusal expected found refusal None = Some (too_few expected found)
+part_refusal expected found refusal (Some s) = refusal s
+
+-- what the part may give
+abbrev pub PartGives : {A : Type 0} → Gives A → Option Subject → A → Type 0
+PartGives gives None a = ⊥
+PartGives gives (Some s) a = gives s a
+
+-- one part, and then the others
+abbrev pub part_then : (expected found : ℕ) → Refusal → (SeqLeft → Option Cause) → SeqLeft → Option Cause
+part_then expected found refusal others s =
+    first_of (part_refusal expected found refusal (first_item s)) (others (after_item s))
+
+-- no part is left to read
+abbrev pub no_part : SeqLeft → Option Cause
+no_part s = None
+
+-- this value for one part, and then the others
+abbrev pub PartThen : {A : Type 0} → Gives A → A → (SeqLeft → Type 0) → SeqLeft → Type 0
+PartThen gives a others s = PartGives gives (first_item s) a × others (after_item s)
+
+-- no part is left to read
+abbrev pub NoPart : SeqLeft → Type 0
+NoPart s = ⊤

@@ -1,0 +1,3 @@
+-- What a `Deserializer` reads from.
+pub mod Origin
+pub mod Deserializer

@@ -1,0 +1,138 @@
+//! What a value is read by.
+ghost use Rattle.std.specs.Prelude.{◌≡◌, true, IfOk, IfErr};
+ghost use Rattle.content_tree.specs.Errors.Kind.{IsOutOfMemory};
+ghost use Rattle.content_tree.specs.Values.Text.{text_of};
+ghost use Rattle.content_tree.specs.Values.Value.{tree_of};
+ghost use Rattle.content_de.specs.Sources.Origin.{of_identifier, plain_flags, tree_under};
+ghost use Rattle.content_de.specs.Sources.Origin.{subject_under};
+ghost use Rattle.content_de.specs.Sources.Deserializer.{origin_of, flags_of, subject};
+
+use crate::source::{Settings, Source};
+use content_tree::{CowStr, NamedValue, Result};
+use std::alloc::Global;
+
+/// A value, or a key or a tag inside one, with two flags, to be read by one request. The name, the
+/// flags and the requests are `serde-content`'s.
+///
+/// Each request takes what is read and either answers with its datum, or with what stands inside, or
+/// refuses: the error shows what was found and what was expected. Where what is found fits, no
+/// request takes memory; a refusal does, and is out of memory where that fails.
+///
+/// `==` and the order go by what is read (a tree before a name; names by text, then index), then by
+/// whether it is for people, then by whether numbers are coerced.
+#[derive(Debug, Drop, PartialEq, Eq, PartialOrd, Ord)]
+pub struct Deserializer<'de, 'n> {
+    pub(crate) source: Source<'de, 'n>,
+    pub(crate) settings: Settings,
+}
+
+impl<'de, 'n> Deserializer<'de, 'n> {
+    /// Reads this value, with both flags off. It takes no memory.
+    pub fn new(value: NamedValue<'de, 'n>) -> Deserializer<'de, 'n>
+        ensures { subject result ≡ tree_under plain_flags (tree_of value.entry) }
+    {
+        Deserializer {
+            source: Source::Tree(value),
+            settings: Settings {
+                human_readable: false,
+                coerces: false,
+            },
+        }
+    }
+
+    /// The same for a value that was written for people. It takes no memory.
+    pub fn human_readable(self) -> Deserializer<'de, 'n>
+        ensures { subject result ≡ record {
+          origin = (subject self.entry).origin;
+          flags = record { human_readable = true; coerces = (subject self.entry).flags.coerces };
+        } }
+    {
+        let Deserializer { source, settings } = self;
+        Deserializer {
+            source,
+            settings: Settings {
+                human_readable: true,
+                coerces: settings.coerces,
+            },
+        }
+    }
+
+    /// The same with numbers coerced: a request for a number of one kind also takes a number of
+    /// another whose value lies in the kind's range. It takes no memory.
+    pub fn coerce_numbers(self) -> Deserializer<'de, 'n>
+        ensures { subject result ≡ record {
+          origin = (subject self.entry).origin;
+          flags = record {
+            human_readable = (subject self.entry).flags.human_readable;
+            coerces = true;
+          };
+        } }
+    {
+        let Deserializer { source, settings } = self;
+        Deserializer {
+            source,
+            settings: Settings {
+                human_readable: settings.human_readable,
+                coerces: true,
+            },
+        }
+    }
+
+    /// Whether what is read was written for people; of a key that is a field's name, and of a
+    /// variant's name, it is so always. It takes no memory.
+    pub fn is_human_readable(&self) -> bool
+        ensures { result ≡ (subject self.now).flags.human_readable }
+    {
+        self.settings.human_readable
+    }
+
+    /// A copy: the same tree or name, with each case and static mark, and the same flags.
+    ///
+    /// # Errors
+    ///
+    /// Out of memory, where an allocation failed.
+    pub fn try_clone(&self, alloc: Global) -> Result<Deserializer<'de, 'n>>
+        ensures value { IfOk result (λ copy. subject copy ≡ subject self.now) }
+        ensures memory { IfErr result (λ e. IsOutOfMemory e) }
+    {
+        let source = match &self.source {
+            Source::Tree(value) => Source::Tree(value.try_clone(alloc)?),
+            Source::Identifier { name, index } => Source::Identifier {
+                name: name.try_clone(alloc)?,
+                index: *index,
+            },
+        };
+        Ok(Deserializer {
+            source,
+            settings: self.settings,
+        })
+    }
+
+    /// A value inside another, under its flags.
+    pub(crate) fn inside(value: NamedValue<'de, 'n>, settings: Settings) -> Deserializer<'de, 'n>
+        ensures { subject result ≡ tree_under (flags_of settings) (tree_of value.entry) }
+    {
+        Deserializer {
+            source: Source::Tree(value),
+            settings,
+        }
+    }
+
+    /// The name of a field or a variant, under the flags of what it stands in.
+    pub(crate) fn identifier(
+        name: CowStr<'n>,
+        index: u64,
+        settings: Settings,
+    ) -> Deserializer<'de, 'n>
+        ensures { subject result ≡ subject_under (flags_of settings)
+            (of_identifier (text_of name.entry) index) }
+    {
+        Deserializer {
+            source: Source::Identifier { name, index },
+            settings: Settings {
+                human_readable: true,
+                coerces: settings.coerces,
+            },
+        }
+    }
+}

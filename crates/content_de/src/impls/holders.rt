@@ -1,0 +1,64 @@
+//! Options, boxes and vectors.
+ghost use Rattle.content_de.specs.Outcomes.{refusal_then, IsTaken};
+ghost use Rattle.content_de.specs.Requests.Leaves.{held_by};
+ghost use Rattle.content_de.specs.Accesses.Seq.{seq_view, seq_at};
+ghost use Rattle.content_de.specs.Reads.Read.{Reads};
+ghost use Rattle.content_de.specs.Reads.Standard.{held_refusal, HeldGives};
+ghost use Rattle.content_de.specs.Reads.Standard.{seq_refusal, SeqGives};
+
+use crate::deserialize::Deserialize;
+use crate::deserializer::Deserializer;
+use crate::seq::Seq;
+use content_tree::Result;
+use std::alloc::Global;
+
+/// What an option holds, if anything; what is no option counts as held.
+impl<'de, T: Deserialize<'de>> Deserialize<'de> for Option<T> {
+    ghost refusal = { λ s. held_refusal T.refusal (held_by s) };
+
+    ghost gives = { λ s v. HeldGives T.gives (held_by s) v };
+
+    fn deserialize<'n: 'de>(alloc: Global, from: Deserializer<'de, 'n>) -> Result<Option<T>> {
+        match from.deserialize_option(alloc)? {
+            None => Ok(None),
+            Some(held) => Ok(Some(T::deserialize(alloc, held)?)),
+        }
+    }
+}
+
+/// What the type in the box reads.
+impl<'de, T: Deserialize<'de>> Deserialize<'de> for Box<T> {
+    ghost refusal = { T.refusal };
+
+    ghost gives = { λ s v. T.gives s v.value };
+
+    fn deserialize<'n: 'de>(alloc: Global, from: Deserializer<'de, 'n>) -> Result<Box<T>> {
+        Ok(Box::new(alloc, T::deserialize(alloc, from)?)?)
+    }
+}
+
+/// The items of a sequence, to the end.
+impl<'de, T: Deserialize<'de>> Deserialize<'de> for Vec<T> {
+    ghost refusal = { λ s. refusal_then (seq_at s) (seq_refusal T.refusal) };
+
+    ghost gives = { λ s v. IsTaken (seq_at s) (λ l. SeqGives T.gives l v.items) };
+
+    fn deserialize<'n: 'de>(alloc: Global, from: Deserializer<'de, 'n>) -> Result<Vec<T>> {
+        read_items(alloc, from.deserialize_seq(alloc)?)
+    }
+}
+
+/// The items that are left, in order.
+fn read_items<'de, 'n: 'de, T: Deserialize<'de>>(
+    alloc: Global,
+    mut from: Seq<'de, 'n>,
+) -> Result<Vec<T>>
+    ensures { Reads (seq_refusal T.refusal (seq_view from.entry))
+        (λ v. SeqGives T.gives (seq_view from.entry) v.items) result }
+{
+    let mut items = Vec::new(alloc);
+    while let Some(item) = from.next_deserializer() {
+        items.push(T::deserialize(alloc, item)?)?;
+    }
+    Ok(items)
+}

@@ -1,0 +1,27 @@
+//! Typed data out of a value: requests, accesses, and the types that can be read.
+#![tactic(auto)]
+
+mod coerce;
+mod deserialize;
+mod deserializer;
+mod enum_access;
+mod impls;
+mod into;
+mod map;
+mod node;
+mod open;
+mod reading;
+mod refusal;
+mod requests;
+mod seq;
+mod source;
+mod variant_access;
+
+pub use deserialize::Deserialize;
+pub use deserializer::Deserializer;
+pub use enum_access::EnumAccess;
+pub use into::IntoDeserializer;
+pub use map::Map;
+pub use node::Node;
+pub use seq::Seq;
+pub use variant_access::VariantAccess;

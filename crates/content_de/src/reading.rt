@@ -1,0 +1,157 @@
+//! Typed data out of what stands inside.
+ghost use Rattle.std.specs.Prelude.{◌≡◌};
+ghost use Rattle.content_de.specs.Sources.Deserializer.{subject};
+ghost use Rattle.content_de.specs.Accesses.Seq.{seq_view, first_item, after_item};
+ghost use Rattle.content_de.specs.Accesses.Map.{map_view, first_key, first_value, first_entry};
+ghost use Rattle.content_de.specs.Accesses.Map.{after_key, after_entry};
+ghost use Rattle.content_de.specs.Accesses.Enum.{enum_view, variant_view, tag_of};
+ghost use Rattle.content_de.specs.Accesses.Enum.{newtype_variant_of};
+ghost use Rattle.content_de.specs.Reads.Read.{Reads};
+ghost use Rattle.content_de.specs.Reads.Access.{ReadsNext, ReadsInside, entry_refusal, EntryGives};
+
+use crate::deserialize::Deserialize;
+use crate::deserializer::Deserializer;
+use crate::enum_access::EnumAccess;
+use crate::map::Map;
+use crate::seq::Seq;
+use crate::variant_access::VariantAccess;
+use content_tree::Result;
+use std::alloc::Global;
+
+impl<'de, 'n> Deserializer<'de, 'n> {
+    /// A value of this type.
+    ///
+    /// # Errors
+    ///
+    /// That of the type's first refusal, in reading order; out of memory in its place.
+    pub fn deserialize<T: Deserialize<'de>>(self, alloc: Global) -> Result<T>
+    where
+        'n: 'de,
+        ensures { Reads (T.refusal (subject self.entry)) (T.gives (subject self.entry)) result }
+    {
+        T::deserialize(alloc, self)
+    }
+}
+
+impl<'de, 'n> Seq<'de, 'n> {
+    /// A value of this type out of the next item, or none at the end. The item is taken away also
+    /// where its reading is refused.
+    ///
+    /// # Errors
+    ///
+    /// That of the type's first refusal; out of memory in its place.
+    pub fn next_element<T: Deserialize<'de>>(&mut self, alloc: Global) -> Result<Option<T>>
+    where
+        'n: 'de,
+        ensures value { ReadsNext T.refusal T.gives (first_item (seq_view self.old)) result }
+        ensures rest { seq_view self.new ≡ after_item (seq_view self.old) }
+    {
+        match self.next_deserializer() {
+            None => Ok(None),
+            Some(item) => Ok(Some(T::deserialize(alloc, item)?)),
+        }
+    }
+}
+
+impl<'de, 'n> Map<'de, 'n> {
+    /// A value of this type out of the key of the next entry, or none at the end. The entry stays,
+    /// with the unit as its key, also where the reading is refused.
+    ///
+    /// # Errors
+    ///
+    /// That of the type's first refusal; out of memory in its place.
+    pub fn next_key<K: Deserialize<'de>>(&mut self, alloc: Global) -> Result<Option<K>>
+    where
+        'n: 'de,
+        ensures value { ReadsNext K.refusal K.gives (first_key (map_view self.old)) result }
+        ensures rest { map_view self.new ≡ after_key (map_view self.old) }
+    {
+        match self.take_key() {
+            None => Ok(None),
+            Some(key) => Ok(Some(K::deserialize(alloc, key)?)),
+        }
+    }
+
+    /// A value of this type out of the value of the next entry, which is taken away also where the
+    /// reading is refused, and whether or not its key was read.
+    ///
+    /// # Errors
+    ///
+    /// That of the type's first refusal, or at the end `Custom` with the text
+    /// `[BUG] value is missing`; out of memory in its place.
+    pub fn next_value<V: Deserialize<'de>>(&mut self, alloc: Global) -> Result<V>
+    where
+        'n: 'de,
+        ensures value { ReadsInside V.refusal V.gives (first_value (map_view self.old)) result }
+        ensures rest { map_view self.new ≡ after_entry (map_view self.old) }
+    {
+        let value = self.next_value_deserializer(alloc)?;
+        V::deserialize(alloc, value)
+    }
+
+    /// Values of these types out of the key and then the value of the next entry, or none at the end.
+    /// The entry is taken away also where the reading is refused; where that of the key is, the value
+    /// isn't read.
+    ///
+    /// # Errors
+    ///
+    /// That of the first refusal; out of memory in its place.
+    pub fn next_entry<K: Deserialize<'de>, V: Deserialize<'de>>(
+        &mut self,
+        alloc: Global,
+    ) -> Result<Option<(K, V)>>
+    where
+        'n: 'de,
+        ensures value { ReadsNext (entry_refusal K.refusal V.refusal) (EntryGives K.gives V.gives)
+            (first_entry (map_view self.old)) result }
+        ensures rest { map_view self.new ≡ after_entry (map_view self.old) }
+    {
+        let Some(key) = self.take_key() else {
+            return Ok(None);
+        };
+        let Some(value) = self.take_value() else {
+            return Ok(None);
+        };
+        let key = K::deserialize(alloc, key)?;
+        let value = V::deserialize(alloc, value)?;
+        Ok(Some((key, value)))
+    }
+}
+
+impl<'de, 'n> EnumAccess<'de, 'n> {
+    /// A value of this type out of the tag, and what the variant holds.
+    ///
+    /// # Errors
+    ///
+    /// That of the type's first refusal; out of memory in its place.
+    pub fn variant<T: Deserialize<'de>>(self, alloc: Global) -> Result<(T, VariantAccess<'de, 'n>)>
+    where
+        'n: 'de,
+        ensures { Reads (T.refusal (tag_of (enum_view self.entry)))
+            (λ p. T.gives (tag_of (enum_view self.entry)) p.0
+            × (variant_view p.1 ≡ (enum_view self.entry).variant)) result }
+    {
+        let (tag, variant) = self.variant_deserializer(alloc)?;
+        let tag = T::deserialize(alloc, tag)?;
+        Ok((tag, variant))
+    }
+}
+
+impl<'de, 'n> VariantAccess<'de, 'n> {
+    /// A value of this type out of the one value of a newtype variant, or of whatever a map's entry
+    /// holds.
+    ///
+    /// # Errors
+    ///
+    /// `Unexpected`, where the variant is of another sort, or that of the type's first refusal; out of
+    /// memory in its place.
+    pub fn newtype_variant<T: Deserialize<'de>>(self, alloc: Global) -> Result<T>
+    where
+        'n: 'de,
+        ensures { ReadsInside T.refusal T.gives (newtype_variant_of (variant_view self.entry))
+            result }
+    {
+        let value = self.newtype_deserializer(alloc)?;
+        T::deserialize(alloc, value)
+    }
+}

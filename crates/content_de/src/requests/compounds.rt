@@ -1,0 +1,143 @@
+//! Requests for what has parts.
+#![tactic(auto, using(crate::proofs::Values::values))]
+
+ghost use Rattle.content_de.specs.Outcomes.{Answers};
+ghost use Rattle.content_de.specs.Requests.Compounds.{unit_struct_from, newtype_from};
+ghost use Rattle.content_de.specs.Accesses.Seq.{seq_view, seq_at, tuple_at, tuple_struct_at};
+ghost use Rattle.content_de.specs.Accesses.Map.{map_view, map_at, struct_at};
+ghost use Rattle.content_de.specs.Sources.Deserializer.{subject};
+
+use crate::deserializer::Deserializer;
+use crate::map::Map;
+use crate::open::{is_nothing, struct_fields, struct_value, struct_values};
+use crate::seq::Seq;
+use crate::source::Source;
+use content_tree::{DataType, Expected, NamedValue, Result};
+use std::alloc::Global;
+
+/// Names of structs are never compared: they are for errors alone. Where what is found fits, none of
+/// these takes memory. What stands inside is read under the same flags.
+///
+/// # Errors
+///
+/// `Unexpected`, with what was found and what was expected; out of memory in its place.
+impl<'de, 'n> Deserializer<'de, 'n> {
+    /// A unit struct, or the unit.
+    pub fn deserialize_unit_struct(self, alloc: Global, name: &'static str) -> Result<()>
+        ensures { Answers (λ u. u) (unit_struct_from name.entry.now (subject self.entry).origin)
+            result }
+    {
+        match self.source {
+            Source::Tree(NamedValue::Unit) => Ok(()),
+            Source::Tree(NamedValue::Struct(node)) => {
+                if is_nothing(&node.data) {
+                    return Ok(());
+                }
+                let other: Source<'de, 'n> = Source::Tree(NamedValue::Struct(node));
+                Err(other.refuse_struct(alloc, name, DataType::Unit))
+            }
+            other => Err(other.refuse_struct(alloc, name, DataType::Unit)),
+        }
+    }
+
+    /// What a newtype struct holds. Any other tree stands for what it would hold; the name of a field
+    /// or a variant is refused.
+    pub fn deserialize_newtype_struct(
+        self,
+        alloc: Global,
+        name: &'static str,
+    ) -> Result<Deserializer<'de, 'n>>
+        ensures { Answers subject (newtype_from name.entry.now (subject self.entry)) result }
+    {
+        let Deserializer { source, settings } = self;
+        match source {
+            Source::Tree(NamedValue::Struct(node)) => match struct_value(node) {
+                Ok(value) => Ok(Deserializer::inside(value, settings)),
+                Err(node) => Ok(Deserializer::inside(NamedValue::Struct(node), settings)),
+            },
+            Source::Tree(value) => Ok(Deserializer::inside(value, settings)),
+            other => Err(other.refuse_struct(alloc, name, DataType::NewType)),
+        }
+    }
+
+    /// The items of a sequence.
+    pub fn deserialize_seq(self, alloc: Global) -> Result<Seq<'de, 'n>>
+        ensures { Answers seq_view (seq_at (subject self.entry)) result }
+    {
+        let Deserializer { source, settings } = self;
+        match source {
+            Source::Tree(NamedValue::Seq(items)) => Ok(Seq::new(items, settings)),
+            other => Err(other.refuse(alloc, Expected::Seq)),
+        }
+    }
+
+    /// The items of a tuple or a sequence. The length is for errors alone.
+    pub fn deserialize_tuple(self, alloc: Global, len: usize) -> Result<Seq<'de, 'n>>
+        ensures { Answers seq_view (tuple_at len (subject self.entry)) result }
+    {
+        let Deserializer { source, settings } = self;
+        match source {
+            Source::Tree(NamedValue::Seq(items)) => Ok(Seq::new(items, settings)),
+            Source::Tree(NamedValue::Tuple(items)) => Ok(Seq::new(items, settings)),
+            other => Err(other.refuse(alloc, Expected::Tuple(len))),
+        }
+    }
+
+    /// The items of a tuple struct or a sequence. The length isn't compared.
+    pub fn deserialize_tuple_struct(
+        self,
+        alloc: Global,
+        name: &'static str,
+        _len: usize,
+    ) -> Result<Seq<'de, 'n>>
+        ensures { Answers seq_view (tuple_struct_at name.entry.now (subject self.entry)) result }
+    {
+        let Deserializer { source, settings } = self;
+        match source {
+            Source::Tree(NamedValue::Seq(items)) => Ok(Seq::new(items, settings)),
+            Source::Tree(NamedValue::Struct(node)) => match struct_values(node) {
+                Ok(values) => Ok(Seq::new(values, settings)),
+                Err(node) => {
+                    let other: Source<'de, 'n> = Source::Tree(NamedValue::Struct(node));
+                    Err(other.refuse_struct(alloc, name, DataType::Tuple))
+                }
+            },
+            other => Err(other.refuse_struct(alloc, name, DataType::Tuple)),
+        }
+    }
+
+    /// The entries of a map.
+    pub fn deserialize_map(self, alloc: Global) -> Result<Map<'de, 'n>>
+        ensures { Answers map_view (map_at (subject self.entry)) result }
+    {
+        let Deserializer { source, settings } = self;
+        match source {
+            Source::Tree(NamedValue::Map(pairs)) => Ok(Map::pairs(pairs, settings)),
+            other => Err(other.refuse(alloc, Expected::Map)),
+        }
+    }
+
+    /// The fields of an object-like struct, or the entries of a map. Which fields were expected isn't
+    /// compared.
+    pub fn deserialize_struct(
+        self,
+        alloc: Global,
+        name: &'static str,
+        _fields: &[&str],
+    ) -> Result<Map<'de, 'n>>
+        ensures { Answers map_view (struct_at name.entry.now (subject self.entry)) result }
+    {
+        let Deserializer { source, settings } = self;
+        match source {
+            Source::Tree(NamedValue::Map(pairs)) => Ok(Map::pairs(pairs, settings)),
+            Source::Tree(NamedValue::Struct(node)) => match struct_fields(node) {
+                Ok(fields) => Ok(Map::fields(fields, settings)),
+                Err(node) => {
+                    let other: Source<'de, 'n> = Source::Tree(NamedValue::Struct(node));
+                    Err(other.refuse_struct(alloc, name, DataType::Struct))
+                }
+            },
+            other => Err(other.refuse_struct(alloc, name, DataType::Struct)),
+        }
+    }
+}

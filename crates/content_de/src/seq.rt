@@ -1,0 +1,55 @@
+//! The items of a sequence, one after another.
+ghost use Rattle.std.specs.Prelude.{◌≡◌, Some, option_map};
+ghost use Rattle.content_tree.specs.Values.Value.{trees_view};
+ghost use Rattle.content_de.specs.Sources.Deserializer.{flags_of, subject};
+ghost use Rattle.content_de.specs.Accesses.Seq.{seq_view, items_under, first_item, after_item};
+ghost use Rattle.content_de.specs.Accesses.Seq.{count};
+
+use crate::deserializer::Deserializer;
+use crate::source::Settings;
+use content_tree::NamedValue;
+use std::mem;
+
+/// The items of a sequence, a tuple or a tuple struct that are left. They are moved out one by one,
+/// each in constant time and without memory.
+#[derive(Drop)]
+pub struct Seq<'de, 'n> {
+    items: Vec<NamedValue<'de, 'n>>,
+    next: usize,
+    settings: Settings,
+}
+
+impl<'de, 'n> Seq<'de, 'n> {
+    /// All of these items.
+    pub(crate) fn new(items: Vec<NamedValue<'de, 'n>>, settings: Settings) -> Seq<'de, 'n>
+        ensures { seq_view result ≡ items_under (flags_of settings) (trees_view items.entry.items) }
+    {
+        Seq {
+            items,
+            next: 0,
+            settings,
+        }
+    }
+
+    /// How many items are left, exactly. It takes no memory.
+    #[tactic(auto, using(crate::proofs::Counts::count_left))]
+    pub fn size_hint(&self) -> Option<usize>
+        ensures { result ≡ Some (count (seq_view self.now).items) }
+    {
+        Some(self.items.len().saturating_sub(self.next))
+    }
+
+    /// The next item, to be read under the flags of the sequence, or none at the end. It takes no
+    /// memory.
+    pub fn next_deserializer(&mut self) -> Option<Deserializer<'de, 'n>>
+        ensures value { option_map subject result ≡ first_item (seq_view self.old) }
+        ensures rest { seq_view self.new ≡ after_item (seq_view self.old) }
+    {
+        if self.next < self.items.len() {
+            let item = mem::replace(&mut self.items[self.next], NamedValue::Unit);
+            self.next += 1;
+            return Some(Deserializer::inside(item, self.settings));
+        }
+        None
+    }
+}

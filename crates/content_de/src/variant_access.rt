@@ -1,0 +1,215 @@
+//! What a variant of an enum holds, once its tag is read.
+#![tactic(auto, using(crate::proofs::Values::values))]
+
+ghost use Rattle.std.specs.Prelude.{◌≡◌, ◌≢◌, IfOk, IfErr};
+ghost use Rattle.content_tree.specs.Errors.Kind.{IsOutOfMemory};
+ghost use Rattle.content_tree.specs.Errors.Cause.{expectation_of, out_of_memory};
+ghost use Rattle.content_tree.specs.Images.Found.{image_view};
+ghost use Rattle.content_de.specs.Outcomes.{Answers, cause};
+ghost use Rattle.content_de.specs.Sources.Deserializer.{flags_of, subject};
+ghost use Rattle.content_de.specs.Requests.Names.{a_variant};
+ghost use Rattle.content_de.specs.Accesses.Seq.{seq_view};
+ghost use Rattle.content_de.specs.Accesses.Map.{map_view};
+ghost use Rattle.content_de.specs.Accesses.Enum.{variant_view, held_of, held_image, wrong_sort};
+ghost use Rattle.content_de.specs.Accesses.Enum.{requested_name, unit_variant_of};
+ghost use Rattle.content_de.specs.Accesses.Enum.{newtype_variant_of, tuple_variant_of};
+ghost use Rattle.content_de.specs.Accesses.Enum.{struct_variant_of};
+
+use crate::deserializer::Deserializer;
+use crate::enum_access::Requested;
+use crate::map::Map;
+use crate::open::{is_nothing, variant_fields, variant_value, variant_values};
+use crate::refusal::{a_variant, refusal};
+use crate::seq::Seq;
+use crate::source::Settings;
+use content_tree::{DataType, Error, Expected, Found, NamedEnum, NamedValue, Result};
+use std::alloc::Global;
+
+/// What stands behind a tag.
+#[derive(Drop)]
+pub(crate) enum Payload<'de, 'n> {
+    /// A variant itself.
+    Node(Box<NamedEnum<'de, 'n>>),
+    /// Nothing: the tag was a text.
+    Nothing,
+    /// The value of a map's one entry.
+    Value(NamedValue<'de, 'n>),
+}
+
+/// What a variant of an enum holds. Where that fits what is asked for, no call takes memory.
+#[derive(Drop)]
+pub struct VariantAccess<'de, 'n> {
+    requested: Requested<'n>,
+    payload: Payload<'de, 'n>,
+    settings: Settings,
+}
+
+/// # Errors
+///
+/// `Unexpected`, with what the variant holds (the unit, where the tag was a text) and with the sort of
+/// variant that was expected; out of memory in its place.
+impl<'de, 'n> VariantAccess<'de, 'n> {
+    /// What stands behind a tag.
+    pub(crate) fn new(
+        requested: Requested<'n>,
+        payload: Payload<'de, 'n>,
+        settings: Settings,
+    ) -> VariantAccess<'de, 'n>
+        ensures { variant_view result ≡ record {
+          requested = requested_name requested.entry (held_of payload.entry);
+          held = held_of payload.entry;
+          flags = flags_of settings;
+        } }
+    {
+        VariantAccess {
+            requested,
+            payload,
+            settings,
+        }
+    }
+
+    /// No data: that of a unit variant, or of a tag that is a text.
+    pub fn unit_variant(self, alloc: Global) -> Result<()>
+        ensures { Answers (λ u. u) (unit_variant_of (variant_view self.entry)) result }
+    {
+        if self.payload.is_nothing() {
+            return Ok(());
+        }
+        Err(self.refuse(alloc, DataType::Unit))
+    }
+
+    /// The one value of a newtype variant, or whatever a map's entry holds.
+    pub fn newtype_deserializer(self, alloc: Global) -> Result<Deserializer<'de, 'n>>
+        ensures { Answers subject (newtype_variant_of (variant_view self.entry)) result }
+    {
+        let VariantAccess {
+            requested,
+            payload,
+            settings,
+        } = self;
+        match payload {
+            Payload::Value(value) => Ok(Deserializer::inside(value, settings)),
+            Payload::Node(node) => match variant_value(node) {
+                Ok(value) => Ok(Deserializer::inside(value, settings)),
+                Err(node) => {
+                    let whole = VariantAccess::new(requested, Payload::Node(node), settings);
+                    Err(whole.refuse(alloc, DataType::NewType))
+                }
+            },
+            other => {
+                let whole = VariantAccess::new(requested, other, settings);
+                Err(whole.refuse(alloc, DataType::NewType))
+            }
+        }
+    }
+
+    /// The items of a tuple variant, or of a sequence that a map's entry holds. How many were
+    /// expected isn't compared.
+    pub fn tuple_variant(self, alloc: Global, _len: usize) -> Result<Seq<'de, 'n>>
+        ensures { Answers seq_view (tuple_variant_of (variant_view self.entry)) result }
+    {
+        let VariantAccess {
+            requested,
+            payload,
+            settings,
+        } = self;
+        match payload {
+            Payload::Value(NamedValue::Seq(items)) => Ok(Seq::new(items, settings)),
+            Payload::Node(node) => match variant_values(node) {
+                Ok(values) => Ok(Seq::new(values, settings)),
+                Err(node) => {
+                    let whole = VariantAccess::new(requested, Payload::Node(node), settings);
+                    Err(whole.refuse(alloc, DataType::Tuple))
+                }
+            },
+            other => {
+                let whole = VariantAccess::new(requested, other, settings);
+                Err(whole.refuse(alloc, DataType::Tuple))
+            }
+        }
+    }
+
+    /// The entries of an object-like variant, or of a map that a map's entry holds. Which fields were
+    /// expected isn't compared.
+    pub fn struct_variant(self, alloc: Global, _fields: &[&str]) -> Result<Map<'de, 'n>>
+        ensures { Answers map_view (struct_variant_of (variant_view self.entry)) result }
+    {
+        let VariantAccess {
+            requested,
+            payload,
+            settings,
+        } = self;
+        match payload {
+            Payload::Value(NamedValue::Map(pairs)) => Ok(Map::pairs(pairs, settings)),
+            Payload::Node(node) => match variant_fields(node) {
+                Ok(fields) => Ok(Map::fields(fields, settings)),
+                Err(node) => {
+                    let whole = VariantAccess::new(requested, Payload::Node(node), settings);
+                    Err(whole.refuse(alloc, DataType::Struct))
+                }
+            },
+            other => {
+                let whole = VariantAccess::new(requested, other, settings);
+                Err(whole.refuse(alloc, DataType::Struct))
+            }
+        }
+    }
+
+    /// The error of finding this where a variant of this sort was expected.
+    fn refuse(self, alloc: Global, typ: DataType) -> Error
+        ensures { cause result ≢ out_of_memory →
+            cause result ≡ wrong_sort (variant_view self.entry) typ }
+    {
+        let expected = self.expected(alloc, typ);
+        refusal(self.payload.into_found(alloc), expected)
+    }
+
+    /// A variant of this sort, of the enum that was asked for.
+    fn expected(&self, alloc: Global, typ: DataType) -> Result<Expected>
+        ensures value { IfOk result (λ e. expectation_of e
+            ≡ a_variant (variant_view self.now).requested typ) }
+        ensures memory { IfErr result (λ e. IsOutOfMemory e) }
+    {
+        match self.requested {
+            Requested::Named(name) => a_variant(alloc, name, typ),
+            Requested::Own => a_variant(alloc, self.payload.own_name(), typ),
+        }
+    }
+}
+
+impl<'de, 'n> Payload<'de, 'n> {
+    ghost use Rattle.content_de.specs.Accesses.Enum.{own_name, holds_nothing};
+
+    /// Whether there is no data.
+    fn is_nothing(&self) -> bool
+        ensures { result ≡ holds_nothing (held_of self.now) }
+    {
+        match self {
+            Payload::Node(node) => is_nothing(&node.data),
+            Payload::Nothing => true,
+            Payload::Value(_) => false,
+        }
+    }
+
+    /// The name of the variant's own enum.
+    fn own_name(&self) -> &str
+        ensures { result.now ≡ own_name (held_of self.now) }
+    {
+        match self {
+            Payload::Node(node) => node.name.as_str(),
+            _ => "",
+        }
+    }
+
+    /// The image of what is held.
+    fn into_found(self, alloc: Global) -> Result<Found>
+        ensures value { IfOk result (λ f. image_view f ≡ held_image (held_of self.entry)) }
+        ensures memory { IfErr result (λ e. IsOutOfMemory e) }
+    {
+        match self {
+            Payload::Node(node) => NamedValue::Enum(node).into_found(alloc),
+            Payload::Nothing => Ok(Found::Unit),
+            Payload::Value(value) => value.into_found(alloc),
+        }
+    }
+}
