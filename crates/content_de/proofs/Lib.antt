@@ -3,3 +3,4 @@ pub mod Singles
 pub mod Fields
 pub mod Values
 pub mod Ends
+pub mod Ties

@@ -5,3 +5,5 @@ mod map;
 mod text;
 mod tuple;
 mod whole;
+
+pub use tuple::next_part;

@@ -23,7 +23,7 @@ impl<'de, A: Deserialize<'de>> Deserialize<'de> for (A,) {
 
     fn deserialize<'n: 'de>(alloc: Global, from: Deserializer<'de, 'n>) -> Result<(A,)> {
         let mut parts = from.deserialize_tuple(alloc, 1)?;
-        let first = part(alloc, &mut parts, 1, 0)?;
+        let first = next_part(alloc, &mut parts, 1, 0)?;
         Ok((first,))
     }
 }
@@ -38,8 +38,8 @@ impl<'de, A: Deserialize<'de>, B: Deserialize<'de>> Deserialize<'de> for (A, B) 
 
     fn deserialize<'n: 'de>(alloc: Global, from: Deserializer<'de, 'n>) -> Result<(A, B)> {
         let mut parts = from.deserialize_tuple(alloc, 2)?;
-        let first = part(alloc, &mut parts, 2, 0)?;
-        let second = part(alloc, &mut parts, 2, 1)?;
+        let first = next_part(alloc, &mut parts, 2, 0)?;
+        let second = next_part(alloc, &mut parts, 2, 1)?;
         Ok((first, second))
     }
 }
@@ -55,9 +55,9 @@ impl<'de, A: Deserialize<'de>, B: Deserialize<'de>, C: Deserialize<'de>> Deseria
 
     fn deserialize<'n: 'de>(alloc: Global, from: Deserializer<'de, 'n>) -> Result<(A, B, C)> {
         let mut parts = from.deserialize_tuple(alloc, 3)?;
-        let first = part(alloc, &mut parts, 3, 0)?;
-        let second = part(alloc, &mut parts, 3, 1)?;
-        let third = part(alloc, &mut parts, 3, 2)?;
+        let first = next_part(alloc, &mut parts, 3, 0)?;
+        let second = next_part(alloc, &mut parts, 3, 1)?;
+        let third = next_part(alloc, &mut parts, 3, 2)?;
         Ok((first, second, third))
     }
 }
@@ -78,16 +78,22 @@ impl<
 
     fn deserialize<'n: 'de>(alloc: Global, from: Deserializer<'de, 'n>) -> Result<(A, B, C, D)> {
         let mut parts = from.deserialize_tuple(alloc, 4)?;
-        let first = part(alloc, &mut parts, 4, 0)?;
-        let second = part(alloc, &mut parts, 4, 1)?;
-        let third = part(alloc, &mut parts, 4, 2)?;
-        let fourth = part(alloc, &mut parts, 4, 3)?;
+        let first = next_part(alloc, &mut parts, 4, 0)?;
+        let second = next_part(alloc, &mut parts, 4, 1)?;
+        let third = next_part(alloc, &mut parts, 4, 2)?;
+        let fourth = next_part(alloc, &mut parts, 4, 3)?;
         Ok((first, second, third, fourth))
     }
 }
 
-/// The next part of so many, of which so many are read.
-pub fn part<'de, 'n: 'de, T: Deserialize<'de>>(
+/// The next part of a tuple of `expected` parts, of which `found` are read, for a type of a caller's
+/// own. The item is taken away also where its reading is refused.
+///
+/// # Errors
+///
+/// That of the type's first refusal, or at the end `Custom` with the text
+/// `too few elements: expected N, found K`; out of memory in its place.
+pub fn next_part<'de, 'n: 'de, T: Deserialize<'de>>(
     alloc: Global,
     from: &mut Seq<'de, 'n>,
     expected: usize,

@@ -1,7 +1,7 @@
 //! The examples of the readme.
 
 use crate::ser::{Call, Recorder, Serialize, from_calls};
-use crate::{ErrorKind, Number, Serializer, Value};
+use crate::{Deserializer, ErrorKind, Number, Serializer, Value};
 use std::test::Fail;
 
 #[test]
@@ -47,5 +47,26 @@ fn what_can_be_serialised_becomes_calls(rt: HostRuntime) -> Result<(), Fail> {
     Some(7u8).serialize(rt.alloc(), &mut recorder)?;
     let calls = [Call::SomeCall, Call::Number(Number::U8(7))];
     assert!(rt; recorder.calls().iter().eq(calls.iter()));
+    Ok(())
+}
+
+#[test]
+fn a_value_is_read_as_typed_data(rt: HostRuntime) -> Result<(), Fail> {
+    let items = vec![in rt.alloc(); Value::from(1u8), Value::from(2u8)]?;
+    let pair: (u8, u8) = Deserializer::new(Value::Seq(items)).deserialize(rt.alloc())?;
+    assert!(rt; pair == (1, 2));
+    Ok(())
+}
+
+#[test]
+fn a_misfit_says_what_was_found(rt: HostRuntime) -> Result<(), Fail> {
+    let items = vec![in rt.alloc(); Value::from(true)]?;
+    let read: crate::Result<Vec<u8>> = Deserializer::new(Value::Seq(items)).deserialize(rt.alloc());
+    let text = match read {
+        Ok(_) => String::new(rt.alloc()),
+        Err(error) => format!(in rt.alloc(); "{error}")?,
+    };
+    let wanted = "failed to deserialize; expected an 8-bit unsigned integer, found true";
+    assert!(rt; text.as_str() == wanted);
     Ok(())
 }
