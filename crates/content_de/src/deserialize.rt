@@ -6,8 +6,8 @@ use std::alloc::Global;
 
 /// A type whose values are read from a [`Deserializer`], as `serde::Deserialize`.
 ///
-/// An implementation says, for each source and pair of flags, what the first refusal is in the order
-/// of reading, or that there is none, and which values may be given then.
+/// An implementation says, for each source and pair of flags, what the first refusal is in the
+/// order of reading, or that there is none, and which values may be given then.
 pub trait Deserialize<'de>: Sized + Drop {
     ghost use Rattle.content_de.specs.Sources.Deserializer.{subject};
     ghost use Rattle.content_de.specs.Reads.Read.{Refusal, Gives, Reads};

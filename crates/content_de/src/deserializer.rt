@@ -14,12 +14,12 @@ use std::alloc::Global;
 /// A value, or a key or a tag inside one, with two flags, to be read by one request. The name, the
 /// flags and the requests are `serde-content`'s.
 ///
-/// Each request takes what is read and either answers with its datum, or with what stands inside, or
-/// refuses: the error shows what was found and what was expected. Where what is found fits, no
+/// Each request takes what is read and either answers with its datum, or with what stands inside,
+/// or refuses: the error shows what was found and what was expected. Where what is found fits, no
 /// request takes memory; a refusal does, and is out of memory where that fails.
 ///
-/// `==` and the order go by what is read (a tree before a name; names by text, then index), then by
-/// whether it is for people, then by whether numbers are coerced.
+/// `==` and the order go by what is read (a tree before a name; names by text, then index), then
+/// by whether it is for people, then by whether numbers are coerced.
 #[derive(Debug, Drop, PartialEq, Eq, PartialOrd, Ord)]
 pub struct Deserializer<'de, 'n> {
     pub(crate) source: Source<'de, 'n>,

@@ -10,8 +10,8 @@ use crate::deserializer::Deserializer;
 use content_tree::{Enum, NamedValue, Number, Result, Value};
 use std::alloc::Global;
 
-/// What becomes a [`Deserializer`] of itself. Both flags are off, save that a deserializer stays as
-/// it is. As `serde::de::IntoDeserializer`.
+/// What becomes a [`Deserializer`] of itself. Both flags are off, save that a deserializer stays
+/// as it is. As `serde::de::IntoDeserializer`.
 pub trait IntoDeserializer<'de> {
     ghost use Rattle.std.specs.Prelude.{Bool};
 
@@ -65,7 +65,8 @@ impl<'de> IntoDeserializer<'de> for Enum<'de> {
     ghost takes_memory = { true };
 
     fn into_deserializer(self, alloc: Global) -> Result<Deserializer<'de, 'static>>
-        ensures value { IfOk result (λ d. subject d ≡ tree_under plain_flags (enum_tree self.entry)) }
+        ensures value { IfOk result
+            (λ d. subject d ≡ tree_under plain_flags (enum_tree self.entry)) }
         ensures succeeds { true ≡ false → IsOk result }
         ensures memory { IfErr result (λ e. IsOutOfMemory e) }
     {

@@ -7,9 +7,9 @@ ghost use Rattle.content_de.specs.Sources.Order.{SameSubject, subject_cmp};
 use crate::deserializer::Deserializer;
 use std::cmp::Ordering;
 
-/// How deserializers are ordered: by what is read (a tree before an identifier, identifiers by name
-/// and then index), then whether it is for people, then whether numbers are coerced; what is off is
-/// less. It takes no memory.
+/// How deserializers are ordered: by what is read (a tree before an identifier, identifiers by
+/// name and then index), then whether it is for people, then whether numbers are coerced; what is
+/// off is less. It takes no memory.
 pub fn compare_deserializers<'de, 'n>(
     left: &Deserializer<'de, 'n>,
     right: &Deserializer<'de, 'n>,

@@ -23,8 +23,8 @@ pub(crate) enum Entries<'de, 'n> {
     Fields(Vec<(CowStr<'n>, NamedValue<'de, 'n>)>),
 }
 
-/// The entries of a map, a struct or a variant that are left: each a key and a value. They are moved
-/// out one by one, each in constant time and without memory.
+/// The entries of a map, a struct or a variant that are left: each a key and a value. They are
+/// moved out one by one, each in constant time and without memory.
 ///
 /// The key of a pair is the value that stands there. The key of a field is its name, which as a
 /// number is the field's place.
@@ -69,10 +69,11 @@ impl<'de, 'n> Map<'de, 'n> {
         }
     }
 
-    /// The key of the next entry, or none at the end. The entry stays, with the unit as its key. It
-    /// takes no memory.
+    /// The key of the next entry, or none at the end. The entry stays, with the unit as its key.
+    /// It takes no memory.
     pub fn next_key_deserializer(&mut self, _alloc: Global) -> Result<Option<Deserializer<'de, 'n>>>
-        ensures value { MatchResult result (λ key. option_map subject key ≡ first_key (map_view self.old)) (λ e. ⊥) }
+        ensures value { MatchResult result
+            (λ key. option_map subject key ≡ first_key (map_view self.old)) (λ e. ⊥) }
         ensures rest { map_view self.new ≡ after_key (map_view self.old) }
     {
         Ok(self.take_key())
@@ -107,7 +108,8 @@ impl<'de, 'n> Map<'de, 'n> {
 
     /// The value of the next entry.
     pub(crate) fn take_value(&mut self) -> Option<Deserializer<'de, 'n>>
-        ensures value { option_map subject result ≡ option_map (λ e. e.1) (first_entry (map_view self.old)) }
+        ensures value { option_map subject result
+            ≡ option_map (λ e. e.1) (first_entry (map_view self.old)) }
         ensures rest { map_view self.new ≡ after_entry (map_view self.old) }
     {
         match &mut self.entries {
@@ -132,8 +134,8 @@ impl<'de, 'n> Map<'de, 'n> {
         }
     }
 
-    /// The value of the next entry, which is taken away whether or not its key was read. It takes no
-    /// memory.
+    /// The value of the next entry, which is taken away whether or not its key was read. It takes
+    /// no memory.
     ///
     /// # Errors
     ///
@@ -148,13 +150,14 @@ impl<'de, 'n> Map<'de, 'n> {
         }
     }
 
-    /// The key and the value of the next entry, which is taken away, or none at the end. It takes no
-    /// memory.
+    /// The key and the value of the next entry, which is taken away, or none at the end. It takes
+    /// no memory.
     pub fn next_entry_deserializers(
         &mut self,
         _alloc: Global,
     ) -> Result<Option<(Deserializer<'de, 'n>, Deserializer<'de, 'n>)>>
-        ensures value { MatchResult result (λ entry. option_map (λ e. (subject e.0, subject e.1)) entry
+        ensures value { MatchResult result
+            (λ entry. option_map (λ e. (subject e.0, subject e.1)) entry
             ≡ first_entry (map_view self.old)) (λ e. ⊥) }
         ensures rest { map_view self.new ≡ after_entry (map_view self.old) }
     {

@@ -89,9 +89,9 @@ impl<'de, 'n> Map<'de, 'n> {
         V::deserialize(alloc, value)
     }
 
-    /// Values of these types out of the key and then the value of the next entry, or none at the end.
-    /// The entry is taken away also where the reading is refused; where that of the key is, the value
-    /// isn't read.
+    /// Values of these types out of the key and then the value of the next entry, or none at the
+    /// end. The entry is taken away also where the reading is refused; where that of the key is,
+    /// the value isn't read.
     ///
     /// # Errors
     ///
@@ -138,13 +138,13 @@ impl<'de, 'n> EnumAccess<'de, 'n> {
 }
 
 impl<'de, 'n> VariantAccess<'de, 'n> {
-    /// A value of this type out of the one value of a newtype variant, or of whatever a map's entry
-    /// holds.
+    /// A value of this type out of the one value of a newtype variant, or of whatever a map's
+    /// entry holds.
     ///
     /// # Errors
     ///
-    /// `Unexpected`, where the variant is of another sort, or that of the type's first refusal; out of
-    /// memory in its place.
+    /// `Unexpected`, where the variant is of another sort, or that of the type's first refusal;
+    /// out of memory in its place.
     pub fn newtype_variant<T: Deserialize<'de>>(self, alloc: Global) -> Result<T>
     where
         'n: 'de,

@@ -10,8 +10,8 @@ use crate::source::Settings;
 use content_tree::NamedValue;
 use std::mem;
 
-/// The items of a sequence, a tuple or a tuple struct that are left. They are moved out one by one,
-/// each in constant time and without memory.
+/// The items of a sequence, a tuple or a tuple struct that are left. They are moved out one by
+/// one, each in constant time and without memory.
 #[derive(Drop)]
 pub struct Seq<'de, 'n> {
     items: Vec<NamedValue<'de, 'n>>,

@@ -46,8 +46,8 @@ pub struct VariantAccess<'de, 'n> {
 
 /// # Errors
 ///
-/// `Unexpected`, with what the variant holds (the unit, where the tag was a text) and with the sort of
-/// variant that was expected; out of memory in its place.
+/// `Unexpected`, with what the variant holds (the unit, where the tag was a text) and with the
+/// sort of variant that was expected; out of memory in its place.
 impl<'de, 'n> VariantAccess<'de, 'n> {
     /// What stands behind a tag.
     pub(crate) fn new(
@@ -129,8 +129,8 @@ impl<'de, 'n> VariantAccess<'de, 'n> {
         }
     }
 
-    /// The entries of an object-like variant, or of a map that a map's entry holds. Which fields were
-    /// expected isn't compared.
+    /// The entries of an object-like variant, or of a map that a map's entry holds. Which fields
+    /// were expected isn't compared.
     pub fn struct_variant(self, alloc: Global, _fields: &[&str]) -> Result<Map<'de, 'n>>
         ensures { Answers map_view (struct_variant_of (variant_view self.entry)) result }
     {

@@ -16,7 +16,8 @@ use std::collections::BTreeMap;
 impl<'de, K: Deserialize<'de> + Ord, V: Deserialize<'de>> Deserialize<'de> for BTreeMap<K, V> {
     ghost refusal = { λ s. refusal_then (map_at s) (map_refusal K.refusal V.refusal) };
 
-    ghost gives = { λ s v. IsTaken (map_at s) (λ l. MapGives K.gives V.gives K.cmp l [] v.entries) };
+    ghost gives = { λ s v. IsTaken (map_at s)
+        (λ l. MapGives K.gives V.gives K.cmp l [] v.entries) };
 
     fn deserialize<'n: 'de>(alloc: Global, from: Deserializer<'de, 'n>) -> Result<BTreeMap<K, V>> {
         read_entries(alloc, from.deserialize_map(alloc)?)

@@ -71,10 +71,12 @@ impl<
     D: Deserialize<'de>,
 > Deserialize<'de> for (A, B, C, D) {
     ghost refusal = { λ s. refusal_then (tuple_at 4 s)
-        (part_then 4 0 A.refusal (part_then 4 1 B.refusal (part_then 4 2 C.refusal (part_then 4 3 D.refusal no_part)))) };
+        (part_then 4 0 A.refusal (part_then 4 1 B.refusal
+        (part_then 4 2 C.refusal (part_then 4 3 D.refusal no_part)))) };
 
     ghost gives = { λ s v. IsTaken (tuple_at 4 s)
-        (PartThen A.gives v.0 (PartThen B.gives v.1 (PartThen C.gives v.2 (PartThen D.gives v.3 NoPart)))) };
+        (PartThen A.gives v.0 (PartThen B.gives v.1
+        (PartThen C.gives v.2 (PartThen D.gives v.3 NoPart)))) };
 
     fn deserialize<'n: 'de>(alloc: Global, from: Deserializer<'de, 'n>) -> Result<(A, B, C, D)> {
         let mut parts = from.deserialize_tuple(alloc, 4)?;
@@ -86,8 +88,8 @@ impl<
     }
 }
 
-/// The next part of a tuple of `expected` parts, of which `found` are read, for a type of a caller's
-/// own. The item is taken away also where its reading is refused.
+/// The next part of a tuple of `expected` parts, of which `found` are read, for a type of a
+/// caller's own. The item is taken away also where its reading is refused.
 ///
 /// # Errors
 ///

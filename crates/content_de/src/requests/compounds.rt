@@ -15,8 +15,8 @@ use crate::source::Source;
 use content_tree::{DataType, Expected, NamedValue, Result};
 use std::alloc::Global;
 
-/// Names of structs are never compared: they are for errors alone. Where what is found fits, none of
-/// these takes memory. What stands inside is read under the same flags.
+/// Names of structs are never compared: they are for errors alone. Where what is found fits, none
+/// of these takes memory. What stands inside is read under the same flags.
 ///
 /// # Errors
 ///
@@ -40,8 +40,8 @@ impl<'de, 'n> Deserializer<'de, 'n> {
         }
     }
 
-    /// What a newtype struct holds. Any other tree stands for what it would hold; the name of a field
-    /// or a variant is refused.
+    /// What a newtype struct holds. Any other tree stands for what it would hold; the name of a
+    /// field or a variant is refused.
     pub fn deserialize_newtype_struct(
         self,
         alloc: Global,
@@ -117,8 +117,8 @@ impl<'de, 'n> Deserializer<'de, 'n> {
         }
     }
 
-    /// The fields of an object-like struct, or the entries of a map. Which fields were expected isn't
-    /// compared.
+    /// The fields of an object-like struct, or the entries of a map. Which fields were expected
+    /// isn't compared.
     pub fn deserialize_struct(
         self,
         alloc: Global,

@@ -40,8 +40,8 @@ impl<'de, 'n> Deserializer<'de, 'n> {
         }
     }
 
-    /// A text, moved out in its case. The name of a field or a variant is one, borrowed where it is
-    /// static.
+    /// A text, moved out in its case. The name of a field or a variant is one, borrowed where it
+    /// is static.
     pub fn deserialize_str(self, alloc: Global) -> Result<CowStr<'de>>
     where
         'n: 'de,

@@ -17,8 +17,8 @@ use crate::source::Source;
 use content_tree::{Error, Expected, Found, NamedValue, Number, Result};
 use std::alloc::Global;
 
-/// A number of a kind is taken from a [`Number`] of that kind, and where numbers are coerced from any
-/// [`Number`] whose value lies in the kind's range. Where the number fits it takes no memory.
+/// A number of a kind is taken from a [`Number`] of that kind, and where numbers are coerced from
+/// any [`Number`] whose value lies in the kind's range. Where the number fits it takes no memory.
 ///
 /// # Errors
 ///
@@ -130,8 +130,8 @@ impl<'de, 'n> Deserializer<'de, 'n> {
         }
     }
 
-    /// The datum as an unsigned number of 64 bits. The name of a field is its place, and that of a variant its
-    /// index.
+    /// The datum as an unsigned number of 64 bits. The name of a field is its place, and that of a
+    /// variant its index.
     pub fn deserialize_u64(self, alloc: Global) -> Result<u64>
         ensures { Answers pos (number_from u64 (subject self.entry)) result }
     {
@@ -148,7 +148,8 @@ impl<'de, 'n> Deserializer<'de, 'n> {
         }
     }
 
-    /// The datum as a signed number of 128 bits. A name is refused by the text `i128 is not supported`.
+    /// The datum as a signed number of 128 bits. A name is refused by the text `i128 is not
+    /// supported`.
     pub fn deserialize_i128(self, alloc: Global) -> Result<i128>
         ensures { Answers (λ z. z) (number_from i128 (subject self.entry)) result }
     {
@@ -165,7 +166,8 @@ impl<'de, 'n> Deserializer<'de, 'n> {
         }
     }
 
-    /// The datum as an unsigned number of 128 bits. A name is refused by the text `u128 is not supported`.
+    /// The datum as an unsigned number of 128 bits. A name is refused by the text `u128 is not
+    /// supported`.
     pub fn deserialize_u128(self, alloc: Global) -> Result<u128>
         ensures { Answers pos (number_from u128 (subject self.entry)) result }
     {
