@@ -69,6 +69,18 @@ impl<'de, 'n> Map<'de, 'n> {
         }
     }
 
+    /// How many entries are left, exactly; one whose key was read counts. It takes no memory.
+    #[tactic(auto, using(crate::proofs::Counts::pairs_left, crate::proofs::Counts::fields_left, crate::proofs::Counts::keyless))]
+    pub fn size_hint(&self) -> Option<usize>
+        ensures { result ≡ Some (length (map_view self.now).entries) }
+    {
+        let all = match &self.entries {
+            Entries::Pairs(pairs) => pairs.len(),
+            Entries::Fields(fields) => fields.len(),
+        };
+        Some(all.saturating_sub(self.next))
+    }
+
     /// The key of the next entry, or none at the end. The entry stays, with the unit as its key.
     /// It takes no memory.
     pub fn next_key_deserializer(&mut self, _alloc: Global) -> Result<Option<Deserializer<'de, 'n>>>

@@ -146,7 +146,7 @@ fn write_node<'de, 'n: 'de>(
     }
 }
 
-/// What is answered to a request for a variant, once its tag is read as a text.
+/// What is answered to a request for a variant, whatever its tag.
 pub fn variant(alloc: Global, arguments: &str) -> Result<String> {
     let (flags, arguments) = next_field(arguments)?;
     let (name, arguments) = next_field(arguments)?;
@@ -156,7 +156,7 @@ pub fn variant(alloc: Global, arguments: &str) -> Result<String> {
     let tokens = read_tokens(alloc, tree)?;
     let source = source_of(alloc, flags, tokens.as_slice())?;
     let access = read_source(&source)?.deserialize_enum(alloc, name, &[])?;
-    let (_tag, variant) = access.variant::<String>(alloc)?;
+    let (_tag, variant) = access.variant_deserializer(alloc)?;
     let mut out = String::from_str(alloc, "ok ")?;
     match request.word {
         "unit_variant" => write_datum(&mut out, variant.unit_variant(alloc))?,

@@ -86,6 +86,7 @@ fn map_steps<'de, 'n: 'de>(
     let mut out = String::new(alloc);
     for step in steps.split("; ") {
         let answer = match step {
+            "size_hint" => size(alloc, entries.size_hint()),
             "next_key<()>" => told(alloc, entries.next_key::<()>(alloc)),
             "next_key<bool>" => told(alloc, entries.next_key::<bool>(alloc)),
             "next_key<u64>" => told(alloc, entries.next_key::<u64>(alloc)),
