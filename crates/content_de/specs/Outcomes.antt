@@ -54,7 +54,3 @@ IsRefusal o e = cause e ≢ out_of_memory → o ≡ refused (cause e)
 -- the result is the outcome, or out of memory in place of a refusal: what is taken takes no memory
 abbrev pub Answers : {A B : Type 0} → (B → A) → Outcome A → Result B Error → Type 0
 Answers see o r = MatchResult r (λ b. o ≡ taken (see b)) (λ e. IsRefused o × IsRefusal o e)
-
--- the result is the outcome, or out of memory in its place
-abbrev pub AnswersWithMemory : {A B : Type 0} → (B → A) → Outcome A → Result B Error → Type 0
-AnswersWithMemory see o r = MatchResult r (λ b. o ≡ taken (see b)) (λ e. IsRefusal o e)

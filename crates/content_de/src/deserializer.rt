@@ -5,7 +5,7 @@ ghost use Rattle.content_tree.specs.Values.Text.{text_of};
 ghost use Rattle.content_tree.specs.Values.Value.{tree_of};
 ghost use Rattle.content_de.specs.Sources.Origin.{of_identifier, plain_flags, tree_under};
 ghost use Rattle.content_de.specs.Sources.Origin.{subject_under};
-ghost use Rattle.content_de.specs.Sources.Deserializer.{origin_of, flags_of, subject};
+ghost use Rattle.content_de.specs.Sources.Deserializer.{flags_of, subject};
 
 use crate::source::{Settings, Source};
 use content_tree::{CowStr, NamedValue, Result};
@@ -17,6 +17,12 @@ use std::alloc::Global;
 /// Each request takes what is read and either answers with its datum, or with what stands inside,
 /// or refuses: the error shows what was found and what was expected. Where what is found fits, no
 /// request takes memory; a refusal does, and is out of memory where that fails.
+///
+/// ```rust
+/// let items = vec![in alloc; Value::from(1u8), Value::from(2u8)]?;
+/// let pair: (u8, u8) = Deserializer::new(Value::Seq(items)).deserialize(alloc)?;
+/// assert!(rt; pair == (1, 2));
+/// ```
 ///
 /// `==` and the order go by what is read (a tree before a name; names by text, then index), then
 /// by whether it is for people, then by whether numbers are coerced.

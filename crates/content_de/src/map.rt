@@ -1,11 +1,11 @@
 //! The entries of a map, one after another.
-ghost use Rattle.std.specs.Prelude.{◌≡◌, ◌≤◌, Some, option_map, vec_len, length, MatchResult};
+ghost use Rattle.std.specs.Prelude.{◌≡◌, Some, option_map, length, MatchResult};
 ghost use Rattle.content_tree.specs.Values.Value.{pairs_view, fields_view};
-ghost use Rattle.content_de.specs.Outcomes.{Answers, AnswersWithMemory};
+ghost use Rattle.content_de.specs.Outcomes.{Answers};
 ghost use Rattle.content_de.specs.Sources.Deserializer.{flags_of, subject};
 ghost use Rattle.content_de.specs.Requests.Compounds.{entries_of_pairs, entries_of_fields};
 ghost use Rattle.content_de.specs.Accesses.Map.{map_view, entries_under, first_key, first_value};
-ghost use Rattle.content_de.specs.Accesses.Map.{first_entry, after_key, after_entry, entries_view};
+ghost use Rattle.content_de.specs.Accesses.Map.{first_entry, after_key, after_entry};
 
 use crate::deserializer::Deserializer;
 use crate::refusal::custom;

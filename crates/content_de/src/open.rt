@@ -1,7 +1,7 @@
 //! What a struct or a variant holds, moved out of it.
 #![tactic(auto, using(crate::proofs::Values::values))]
 
-ghost use Rattle.std.specs.Prelude.{◌≡◌, Some, None, option_map, MatchResult};
+ghost use Rattle.std.specs.Prelude.{◌≡◌, Some, None, MatchResult};
 ghost use Rattle.content_tree.specs.Values.Text.{text_of};
 ghost use Rattle.content_tree.specs.Values.Tree as tree;
 ghost use Rattle.content_tree.specs.Values.Value.{tree_of, struct_tree, enum_tree, tree_data_of};
