@@ -6,6 +6,7 @@ use content_de::{Deserializer, EnumAccess, Map, Node, Seq, VariantAccess};
 use content_tree::{CowStr, Error, ErrorKind, Expected, Found};
 use row_text::show::{write_comma, write_text};
 use row_text::stop::{Result, Stop};
+use std::alloc::Global;
 
 /// Adds flags, a colon and what is read.
 pub fn write_handed<'de, 'n: 'de>(
@@ -104,14 +105,28 @@ fn open<'de, 'n: 'de>(
 fn refusal_of(error: Error) -> Result<(Found, String)> {
     match error.into_kind() {
         ErrorKind::OutOfMemory => Err(Stop::OutOfMemory),
-        ErrorKind::Unexpected {
-            found,
-            expected: Expected::Enum {
-                name: Some(name),
-                typ: _,
-            },
-        } => Ok((found, name)),
+        ErrorKind::Unexpected { found, expected } => match expected {
+            Expected::Enum { name, typ: _ } => Ok((found, name.ok_or(Stop::NoRow)?)),
+            _ => Err(Stop::NoRow),
+        },
         _ => Err(Stop::NoRow),
+    }
+}
+
+/// What a variant refuses when it is asked for another sort than its own: the image of what it
+/// holds, and the name of the enum. Behind that stands what a newtype variant would hold, if it
+/// would.
+fn refused<'de, 'n: 'de>(
+    alloc: Global,
+    variant: VariantAccess<'de, 'n>,
+    same: VariantAccess<'de, 'n>,
+) -> Result<((Found, String), Option<Deserializer<'de, 'n>>)> {
+    match same.newtype_deserializer(alloc) {
+        Ok(inner) => match variant.unit_variant(alloc) {
+            Ok(()) => Err(Stop::NoRow),
+            Err(error) => Ok((refusal_of(error)?, Some(inner))),
+        },
+        Err(error) => Ok((refusal_of(error)?, None)),
     }
 }
 
@@ -165,18 +180,7 @@ pub fn write_enum<'de, 'n: 'de>(
     let alloc = source.alloc;
     let (tag, variant) = open(source, from, name)?.variant_deserializer(alloc)?;
     let (_tag, same) = open(source, from, name)?.variant_deserializer(alloc)?;
-    let ((found, expected), inner) = match (
-        variant.unit_variant(alloc),
-        same.newtype_deserializer(alloc),
-    ) {
-        (Ok(()), Ok(_)) => return Err(Stop::NoRow),
-        (Ok(()), Err(error)) => (refusal_of(error)?, None),
-        (Err(error), Ok(inner)) => (refusal_of(error)?, Some(inner)),
-        (Err(error), Err(other)) => {
-            refusal_of(other)?;
-            (refusal_of(error)?, None)
-        }
-    };
+    let ((found, expected), inner) = refused(alloc, variant, same)?;
     write_opening(out, source, "enum")?;
     let expected: CowStr<'static> = CowStr::Owned(expected);
     write_text(out, 's', &expected)?;

@@ -109,6 +109,16 @@ fn is_sought(alloc: Global, tree: &Value<'_>, flags: Flags, sought: &Sought) -> 
     }
 }
 
+/// The tree that begins here, if one does.
+fn tree_here<'a>(alloc: Global, rest: &'a [Token]) -> Result<Option<Value<'a>>> {
+    let mut tokens: Tokens<'a> = Cursor::new(rest);
+    match read_tree(alloc, &mut tokens) {
+        Ok(tree) => Ok(Some(tree)),
+        Err(Stop::OutOfMemory) => Err(Stop::OutOfMemory),
+        Err(_other) => Ok(None),
+    }
+}
+
 /// The first tree that stands in the source and is the one that is sought, if any.
 pub fn find_tree<'a>(
     source: &Source<'a>,
@@ -117,15 +127,10 @@ pub fn find_tree<'a>(
 ) -> Result<Option<Value<'a>>> {
     let mut rest: Tokens<'a> = Cursor::new(source.tokens);
     for _ in source.tokens {
-        let mut tokens: Tokens<'a> = Cursor::new(rest.rest());
-        match read_tree(source.alloc, &mut tokens) {
-            Ok(tree) => {
-                if is_sought(source.alloc, &tree, flags, sought)? {
-                    return Ok(Some(tree));
-                }
+        if let Some(tree) = tree_here(source.alloc, rest.rest())? {
+            if is_sought(source.alloc, &tree, flags, sought)? {
+                return Ok(Some(tree));
             }
-            Err(Stop::OutOfMemory) => return Err(Stop::OutOfMemory),
-            Err(_) => {}
         }
         rest.next()?;
     }

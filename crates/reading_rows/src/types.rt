@@ -1,7 +1,7 @@
 //! Types as a caller has them, each read by the requests that serde's derive makes.
 
-use content_de::{Deserialize, Deserializer, Map, Seq};
-use content_tree::{Error, ErrorKind, Result};
+use content_de::{Deserialize, Deserializer, Map, next_part};
+use content_tree::{Error, Result};
 use std::alloc::Global;
 use std::fmt;
 
@@ -48,17 +48,6 @@ fn read_field<'de, 'n: 'de, T: Deserialize<'de>>(
     }
 }
 
-/// The next of two items, of which so many are read.
-fn read_item<'de, 'n: 'de>(alloc: Global, items: &mut Seq<'de, 'n>, found: usize) -> Result<i32> {
-    match items.next_element::<i32>(alloc)? {
-        Some(item) => Ok(item),
-        None => {
-            let text = format!(in alloc; "too few elements: expected 2, found {found}")?;
-            Err(Error::from(ErrorKind::Custom(text)))
-        }
-    }
-}
-
 /// A `Point`. Further fields stay unread.
 pub fn read_point<'de, 'n: 'de>(alloc: Global, from: Deserializer<'de, 'n>) -> Result<Point> {
     let mut fields = from.deserialize_struct(alloc, "Point", &["x", "y"])?;
@@ -79,8 +68,8 @@ pub fn read_shape<'de, 'n: 'de>(alloc: Global, from: Deserializer<'de, 'n>) -> R
         "Ring" => Ok(Shape::Ring(variant.newtype_variant::<u32>(alloc)?)),
         "Span" => {
             let mut items = variant.tuple_variant(alloc, 2)?;
-            let first = read_item(alloc, &mut items, 0)?;
-            let second = read_item(alloc, &mut items, 1)?;
+            let first = next_part(alloc, &mut items, 2, 0)?;
+            let second = next_part(alloc, &mut items, 2, 1)?;
             Ok(Shape::Span(first, second))
         }
         "Area" => {

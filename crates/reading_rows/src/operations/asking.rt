@@ -155,21 +155,30 @@ pub fn variant(alloc: Global, arguments: &str) -> Result<String> {
     let request = read_request(request)?;
     let tokens = read_tokens(alloc, tree)?;
     let source = source_of(alloc, flags, tokens.as_slice())?;
-    let access = read_source(&source)?.deserialize_enum(alloc, name, &[])?;
-    let (_tag, variant) = access.variant_deserializer(alloc)?;
+    let from = read_source(&source)?;
     let mut out = String::from_str(alloc, "ok ")?;
-    match request.word {
-        "unit_variant" => write_datum(&mut out, variant.unit_variant(alloc))?,
-        "newtype_deserializer" => {
-            write_handed(&mut out, &source, &variant.newtype_deserializer(alloc)?)?
-        }
-        "tuple_variant" => write_seq(
-            &mut out,
-            &source,
-            variant.tuple_variant(alloc, request.length)?,
-        )?,
-        "struct_variant" => write_map(&mut out, &source, variant.struct_variant(alloc, &[])?)?,
-        _ => return Err(Stop::NoRow),
-    }
+    write_variant(&mut out, &source, &request, name, from)?;
     Ok(out)
+}
+
+/// Adds what the variant of this enum holds.
+fn write_variant<'de, 'n: 'de>(
+    out: &mut String,
+    source: &Source<'_>,
+    request: &Request<'_>,
+    name: &'static str,
+    from: Deserializer<'de, 'n>,
+) -> Result<()> {
+    let alloc = source.alloc;
+    let access = from.deserialize_enum(alloc, name, &[])?;
+    let (_tag, variant) = access.variant_deserializer(alloc)?;
+    match request.word {
+        "unit_variant" => write_datum(out, variant.unit_variant(alloc)),
+        "newtype_deserializer" => {
+            write_handed(out, source, &variant.newtype_deserializer(alloc)?)
+        }
+        "tuple_variant" => write_seq(out, source, variant.tuple_variant(alloc, request.length)?),
+        "struct_variant" => write_map(out, source, variant.struct_variant(alloc, &[])?),
+        _ => Err(Stop::NoRow),
+    }
 }
