@@ -1,15 +1,15 @@
 //! The order of two things.
 
+use crate::expectation::{read_expected, read_type};
+use crate::kind::read_kind;
+use crate::stop::{Result, Stop};
+use crate::tokens::{Tokens, take_word};
+use crate::tree::{read_image, read_tree};
 use content_build::Serializer;
 use content_ser::Call;
 use content_ser::laws::equal_by_contents;
 use content_tree::laws::{equal_images, equal_values};
 use content_tree::{Error, Found, Value};
-use row_text::expectation::{read_expected, read_type};
-use row_text::kind::read_kind;
-use row_text::stop::{Result, Stop};
-use row_text::tokens::{Tokens, take_word};
-use row_text::tree::{read_image, read_tree};
 use std::alloc::Global;
 use std::cmp::Ordering;
 

@@ -1,5 +1,6 @@
 //! Rows: an operation, its arguments and the wanted answer, parted by tabs.
 
+use crate::operations::answer;
 use crate::plain::plain;
 use crate::stop::{Result, Stop};
 use std::alloc::Global;
@@ -13,12 +14,6 @@ pub struct Row<'a> {
     pub arguments: &'a str,
     /// The wanted answer.
     pub wanted: &'a str,
-}
-
-/// What the rows of a program can ask.
-pub trait Operations {
-    /// The answer of an operation to its arguments.
-    fn answer(alloc: Global, operation: &str, arguments: &str) -> Result<String>;
 }
 
 /// Whether a row may hold this byte.
@@ -42,8 +37,8 @@ pub fn read_row(line: &str) -> Result<Row<'_>> {
 
 /// What the library answers to the row: where it refused for another cause than memory, `refused`
 /// and the text of that.
-pub fn answer_to<O: Operations>(alloc: Global, row: &Row<'_>) -> Result<String> {
-    match O::answer(alloc, row.operation, row.arguments) {
+pub fn answer_to(alloc: Global, row: &Row<'_>) -> Result<String> {
+    match answer(alloc, row.operation, row.arguments) {
         Err(Stop::RefusesCall(kind)) => {
             let text = plain(alloc, &kind)?;
             Ok(format!(in alloc; "refused {text}")?)

@@ -1,5 +1,5 @@
 use Rattle.std.proofs.Common.{◌+◌, ◌*◌}
-use Rattle.row_text.proofs.tree.+tree.Given as goal
+use Rattle.content_rows.proofs.tree.+tree.Given as goal
 
 abbrev pub decreases-read_value : goal.decreases-read_value
 decreases-read_value l = 5 * l.depth

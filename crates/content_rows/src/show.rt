@@ -33,7 +33,7 @@ fn write_quoted(out: &mut String, text: &str) -> Result {
 }
 
 /// Adds a text and its case, of which the borrowed one has this letter.
-pub fn write_text(out: &mut String, borrowed: char, text: &CowStr<'_>) -> Result {
+fn write_text(out: &mut String, borrowed: char, text: &CowStr<'_>) -> Result {
     match text {
         CowStr::Borrowed(text) => {
             out.push(borrowed)?;
@@ -60,7 +60,7 @@ fn write_bytes(out: &mut String, bytes: &CowBytes<'_>) -> Result {
 }
 
 /// Adds what parts the item at this place from the one before it.
-pub fn write_comma(out: &mut String, place: usize) -> Result {
+fn write_comma(out: &mut String, place: usize) -> Result {
     if place == 0 {
         Ok(())
     } else {
