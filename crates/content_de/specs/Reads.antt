@@ -4,3 +4,4 @@ pub mod Access
 pub mod Standard
 pub mod Tuples
 pub mod Maps
+pub mod Own

@@ -5,5 +5,3 @@ mod map;
 mod text;
 mod tuple;
 mod whole;
-
-pub use tuple::next_part;

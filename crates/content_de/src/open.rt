@@ -5,15 +5,43 @@ ghost use Rattle.std.specs.Prelude.{◌≡◌, Some, None, MatchResult};
 ghost use Rattle.content_tree.specs.Values.Text.{text_of};
 ghost use Rattle.content_tree.specs.Values.Tree as tree;
 ghost use Rattle.content_tree.specs.Values.Value.{tree_of, struct_tree, enum_tree, tree_data_of};
-ghost use Rattle.content_tree.specs.Values.Value.{trees_view, fields_view};
+ghost use Rattle.content_tree.specs.Values.Value.{trees_view, pairs_view, fields_view};
 ghost use Rattle.content_de.specs.Requests.Data.{data_in, is_nothing, one_in, many_in, named_in};
-ghost use Rattle.content_de.specs.Requests.Data.{variant_in};
+ghost use Rattle.content_de.specs.Requests.Data.{seq_in, map_in, variant_in};
 
 use content_tree::{CowStr, NamedData, NamedEnum, NamedStruct, NamedValue};
 use std::mem;
 
 /// What was moved out, or the node as it was.
-type Opened<T, N> = std::result::Result<T, N>;
+pub(crate) type Opened<T, N> = std::result::Result<T, N>;
+
+/// The items of a sequence.
+pub(crate) fn seq_items<'de, 'n>(
+    value: NamedValue<'de, 'n>,
+) -> Opened<Vec<NamedValue<'de, 'n>>, NamedValue<'de, 'n>>
+    ensures { MatchResult result
+        (λ vs. seq_in (tree_of value.entry) ≡ Some (trees_view vs.items))
+        (λ v. (seq_in (tree_of value.entry) ≡ None) × (v ≡ value.entry)) }
+{
+    match value {
+        NamedValue::Seq(items) => Ok(items),
+        other => Err(other),
+    }
+}
+
+/// The pairs of a map.
+pub(crate) fn map_pairs<'de, 'n>(
+    value: NamedValue<'de, 'n>,
+) -> Opened<Vec<(NamedValue<'de, 'n>, NamedValue<'de, 'n>)>, NamedValue<'de, 'n>>
+    ensures { MatchResult result
+        (λ ps. map_in (tree_of value.entry) ≡ Some (pairs_view ps.items))
+        (λ v. (map_in (tree_of value.entry) ≡ None) × (v ≡ value.entry)) }
+{
+    match value {
+        NamedValue::Map(pairs) => Ok(pairs),
+        other => Err(other),
+    }
+}
 
 /// The name of a variant.
 pub(crate) fn variant_name<'de, 'n>(node: Box<NamedEnum<'de, 'n>>) -> CowStr<'n>

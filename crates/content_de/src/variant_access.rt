@@ -18,7 +18,9 @@ ghost use Rattle.content_de.specs.Accesses.Enum.{struct_variant_of};
 use crate::deserializer::Deserializer;
 use crate::enum_access::Requested;
 use crate::map::Map;
-use crate::open::{is_nothing, variant_fields, variant_value, variant_values};
+use crate::open::{
+    Opened, is_nothing, map_pairs, seq_items, variant_fields, variant_value, variant_values,
+};
 use crate::refusal::{a_variant, refusal};
 use crate::seq::Seq;
 use crate::source::Settings;
@@ -87,19 +89,12 @@ impl<'de, 'n> VariantAccess<'de, 'n> {
             payload,
             settings,
         } = self;
-        match payload {
-            Payload::Value(value) => Ok(Deserializer::inside(value, settings)),
-            Payload::Node(node) => match variant_value(node) {
-                Ok(value) => Ok(Deserializer::inside(value, settings)),
-                Err(node) => {
-                    let whole = VariantAccess::new(requested, Payload::Node(node), settings);
-                    Err(whole.refuse(alloc, DataType::NewType))
-                }
-            },
-            other => {
-                let whole = VariantAccess::new(requested, other, settings);
-                Err(whole.refuse(alloc, DataType::NewType))
-            }
+        match payload.into_value() {
+            Ok(value) => Ok(Deserializer::inside(value, settings)),
+            Err(payload) => Err(VariantAccess::new(requested, payload, settings).refuse(
+                alloc,
+                DataType::NewType,
+            )),
         }
     }
 
@@ -113,19 +108,12 @@ impl<'de, 'n> VariantAccess<'de, 'n> {
             payload,
             settings,
         } = self;
-        match payload {
-            Payload::Value(NamedValue::Seq(items)) => Ok(Seq::new(items, settings)),
-            Payload::Node(node) => match variant_values(node) {
-                Ok(values) => Ok(Seq::new(values, settings)),
-                Err(node) => {
-                    let whole = VariantAccess::new(requested, Payload::Node(node), settings);
-                    Err(whole.refuse(alloc, DataType::Tuple))
-                }
-            },
-            other => {
-                let whole = VariantAccess::new(requested, other, settings);
-                Err(whole.refuse(alloc, DataType::Tuple))
-            }
+        match payload.into_values() {
+            Ok(values) => Ok(Seq::new(values, settings)),
+            Err(payload) => Err(VariantAccess::new(requested, payload, settings).refuse(
+                alloc,
+                DataType::Tuple,
+            )),
         }
     }
 
@@ -139,19 +127,12 @@ impl<'de, 'n> VariantAccess<'de, 'n> {
             payload,
             settings,
         } = self;
-        match payload {
-            Payload::Value(NamedValue::Map(pairs)) => Ok(Map::pairs(pairs, settings)),
-            Payload::Node(node) => match variant_fields(node) {
-                Ok(fields) => Ok(Map::fields(fields, settings)),
-                Err(node) => {
-                    let whole = VariantAccess::new(requested, Payload::Node(node), settings);
-                    Err(whole.refuse(alloc, DataType::Struct))
-                }
-            },
-            other => {
-                let whole = VariantAccess::new(requested, other, settings);
-                Err(whole.refuse(alloc, DataType::Struct))
-            }
+        match payload.into_map(settings) {
+            Ok(entries) => Ok(entries),
+            Err(payload) => Err(VariantAccess::new(requested, payload, settings).refuse(
+                alloc,
+                DataType::Struct,
+            )),
         }
     }
 
@@ -178,7 +159,11 @@ impl<'de, 'n> VariantAccess<'de, 'n> {
 }
 
 impl<'de, 'n> Payload<'de, 'n> {
+    ghost use Rattle.std.specs.Prelude.{Some, None, MatchResult, option_map};
+    ghost use Rattle.content_tree.specs.Values.Value.{tree_of, trees_view};
+    ghost use Rattle.content_de.specs.Accesses.Map.{entries_under};
     ghost use Rattle.content_de.specs.Accesses.Enum.{own_name, holds_nothing};
+    ghost use Rattle.content_de.specs.Accesses.Enum.{one_held, many_held, entries_held};
 
     /// Whether there is no data.
     fn is_nothing(&self) -> bool
@@ -198,6 +183,61 @@ impl<'de, 'n> Payload<'de, 'n> {
         match self {
             Payload::Node(node) => node.name.as_str(),
             _ => "",
+        }
+    }
+
+    /// The one value of a newtype variant, or that of a map's entry; else what is held.
+    fn into_value(self) -> Opened<NamedValue<'de, 'n>, Payload<'de, 'n>>
+        ensures { MatchResult result
+            (λ v. one_held (held_of self.entry) ≡ Some (tree_of v))
+            (λ p. (one_held (held_of self.entry) ≡ None) × (held_of p ≡ held_of self.entry)) }
+    {
+        match self {
+            Payload::Node(node) => match variant_value(node) {
+                Ok(value) => Ok(value),
+                Err(node) => Err(Payload::Node(node)),
+            },
+            Payload::Nothing => Err(Payload::Nothing),
+            Payload::Value(value) => Ok(value),
+        }
+    }
+
+    /// The items of a tuple variant, or of a sequence in a map's entry; else what is held.
+    fn into_values(self) -> Opened<Vec<NamedValue<'de, 'n>>, Payload<'de, 'n>>
+        ensures { MatchResult result
+            (λ vs. many_held (held_of self.entry) ≡ Some (trees_view vs.items))
+            (λ p. (many_held (held_of self.entry) ≡ None) × (held_of p ≡ held_of self.entry)) }
+    {
+        match self {
+            Payload::Node(node) => match variant_values(node) {
+                Ok(values) => Ok(values),
+                Err(node) => Err(Payload::Node(node)),
+            },
+            Payload::Nothing => Err(Payload::Nothing),
+            Payload::Value(value) => match seq_items(value) {
+                Ok(values) => Ok(values),
+                Err(value) => Err(Payload::Value(value)),
+            },
+        }
+    }
+
+    /// The entries of an object-like variant, or of a map in a map's entry; else what is held.
+    fn into_map(self, settings: Settings) -> Opened<Map<'de, 'n>, Payload<'de, 'n>>
+        ensures { MatchResult result
+            (λ m. option_map (entries_under (flags_of settings)) (entries_held (held_of self.entry))
+            ≡ Some (map_view m))
+            (λ p. (entries_held (held_of self.entry) ≡ None) × (held_of p ≡ held_of self.entry)) }
+    {
+        match self {
+            Payload::Node(node) => match variant_fields(node) {
+                Ok(fields) => Ok(Map::fields(fields, settings)),
+                Err(node) => Err(Payload::Node(node)),
+            },
+            Payload::Nothing => Err(Payload::Nothing),
+            Payload::Value(value) => match map_pairs(value) {
+                Ok(pairs) => Ok(Map::pairs(pairs, settings)),
+                Err(value) => Err(Payload::Value(value)),
+            },
         }
     }
 

@@ -1,11 +1,11 @@
 //! Lists of calls, parted by a semicolon and a space.
 
-use crate::names::static_name;
-use crate::number::{number_of, parse};
-use crate::plain::{octet, read_plain};
-use crate::stop::{Result, Stop};
 use content_ser::Call;
 use content_tree::{CowBytes, CowStr};
+use row_text::names::static_name;
+use row_text::number::{number_of, parse};
+use row_text::plain::{octet, read_plain};
+use row_text::stop::{Result, Stop};
 use std::alloc::Global;
 use std::str::Split;
 

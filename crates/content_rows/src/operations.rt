@@ -8,39 +8,44 @@ mod printing;
 mod sending;
 
 use crate::call::read_calls;
-use crate::cursor::Cursor;
-use crate::stop::{Result, Stop};
-use crate::tokens::{Tokens, read_tokens};
+use row_text::cursor::Cursor;
+use row_text::row::Operations;
+use row_text::stop::{Result, Stop};
+use row_text::tokens::{Tokens, read_tokens};
 use std::alloc::Global;
 
-/// The answer of an operation.
-pub fn answer(alloc: Global, operation: &str, arguments: &str) -> Result<String> {
-    match operation {
-        "calls" => building::calls(alloc, read_calls(alloc, arguments)?.as_slice()),
-        "refusal" => building::refusal(alloc, read_calls(alloc, arguments)?.as_slice()),
-        "builder" => building::builder(alloc, read_calls(alloc, arguments)?.as_slice()),
-        "record" => sending::record(alloc, read_calls(alloc, arguments)?.as_slice()),
-        "copy_calls" => copying::calls(alloc, read_calls(alloc, arguments)?.as_slice()),
-        "replay" => {
-            let (first, second) = arguments.split_once('\t').ok_or(Stop::NoRow)?;
-            let first = read_calls(alloc, first)?;
-            let second = read_calls(alloc, second)?;
-            building::replay(alloc, first.as_slice(), second.as_slice())
-        }
-        "compare_calls" => {
-            let (left, right) = arguments.split_once('\t').ok_or(Stop::NoRow)?;
-            let left = read_calls(alloc, left)?;
-            let right = read_calls(alloc, right)?;
-            comparing::calls(alloc, left.as_slice(), right.as_slice())
-        }
-        _ => {
-            let tokens = read_tokens(alloc, arguments)?;
-            let mut tokens = Cursor::new(tokens.as_slice());
-            let answer = answer_tokens(alloc, operation, &mut tokens)?;
-            if tokens.rest().is_empty() {
-                Ok(answer)
-            } else {
-                Err(Stop::NoRow)
+/// The rows of holding, comparing, writing and building trees.
+pub struct WritingRows;
+
+impl Operations for WritingRows {
+    fn answer(alloc: Global, operation: &str, arguments: &str) -> Result<String> {
+        match operation {
+            "calls" => building::calls(alloc, read_calls(alloc, arguments)?.as_slice()),
+            "refusal" => building::refusal(alloc, read_calls(alloc, arguments)?.as_slice()),
+            "builder" => building::builder(alloc, read_calls(alloc, arguments)?.as_slice()),
+            "record" => sending::record(alloc, read_calls(alloc, arguments)?.as_slice()),
+            "copy_calls" => copying::calls(alloc, read_calls(alloc, arguments)?.as_slice()),
+            "replay" => {
+                let (first, second) = arguments.split_once('\t').ok_or(Stop::NoRow)?;
+                let first = read_calls(alloc, first)?;
+                let second = read_calls(alloc, second)?;
+                building::replay(alloc, first.as_slice(), second.as_slice())
+            }
+            "compare_calls" => {
+                let (left, right) = arguments.split_once('\t').ok_or(Stop::NoRow)?;
+                let left = read_calls(alloc, left)?;
+                let right = read_calls(alloc, right)?;
+                comparing::calls(alloc, left.as_slice(), right.as_slice())
+            }
+            _ => {
+                let tokens = read_tokens(alloc, arguments)?;
+                let mut tokens = Cursor::new(tokens.as_slice());
+                let answer = answer_tokens(alloc, operation, &mut tokens)?;
+                if tokens.rest().is_empty() {
+                    Ok(answer)
+                } else {
+                    Err(Stop::NoRow)
+                }
             }
         }
     }

@@ -1,8 +1,8 @@
 //! Lists of calls as rows have them.
 
-use crate::number::{kind_word, write_digits};
-use crate::plain::write_listed;
 use content_ser::Call;
+use row_text::number::{kind_word, write_digits};
+use row_text::plain::write_listed;
 use std::alloc::AllocError;
 
 type Result = std::result::Result<(), AllocError>;

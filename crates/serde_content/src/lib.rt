@@ -12,6 +12,7 @@ pub use content_tree::{
 
 pub mod de;
 pub mod laws;
+pub mod samples;
 pub mod ser;
 #[cfg(test)]
 mod tests;

@@ -1,8 +1,9 @@
 -- What an enum access and a variant access hold, and what their calls answer.
-use Rattle.std.specs.Prelude.{ℕ, List, [], Bool, true, false, IsTrue, ⊤, option_map, if◌then◌else◌}
+use Rattle.std.specs.Prelude.{ℕ, List, [], Bool, true, false, IsTrue, ⊤}
+use Rattle.std.specs.Prelude.{Option, Some, None, option_map, if◌then◌else◌}
 use Rattle.content_tree.specs.Values.Text.{text_of}
 use Rattle.content_tree.specs.Values.Tree as tree
-use Rattle.content_tree.specs.Values.Tree.{Tree}
+use Rattle.content_tree.specs.Values.Tree.{Tree, Trees}
 use Rattle.content_tree.specs.Values.Value.{tree_of, enum_tree}
 use Rattle.content_tree.specs.Images.Image.{Image, image}
 use Rattle.content_tree.specs.Images.Image as image
@@ -13,7 +14,8 @@ use Rattle.content_de.specs.Sources.Origin.{Origin, of_tree, of_identifier, Flag
 use Rattle.content_de.specs.Sources.Origin.{tree_under, subject_under}
 use Rattle.content_de.specs.Sources.Deserializer.{flags_of}
 use Rattle.content_de.specs.Outcomes.{Outcome, taken, refused, misfit}
-use Rattle.content_de.specs.Requests.Data.{data_in, is_nothing, one_in, many_in, named_in, or_else}
+use Rattle.content_de.specs.Requests.Data.{data_in, is_nothing, one_in, many_in, named_in}
+use Rattle.content_de.specs.Requests.Data.{seq_in, map_in, or_else}
 use Rattle.content_de.specs.Requests.Names.{an_enum, a_variant}
 use Rattle.content_de.specs.Requests.Compounds.{entries_of_pairs, entries_of_fields}
 use Rattle.content_de.specs.Accesses.Seq.{SeqLeft, items_under}
@@ -147,32 +149,32 @@ abbrev pub unit_variant_of : VariantLeft → Outcome (Unit {0})
 unit_variant_of v = if holds_nothing v.held then taken tt else wrong_variant v kind.Unit
 
 -- the one value of a newtype variant, or whatever a map's entry holds
-abbrev pub newtype_variant_of : VariantLeft → Outcome Subject
-newtype_variant_of v = elim v.held [
-  | a_node t ↦ or_else (option_map (tree_under v.flags) (one_in (data_in t))) (wrong_variant v kind.NewType)
-  | nothing ↦ wrong_variant v kind.NewType
-  | a_value t ↦ taken (tree_under v.flags t)
-]
+abbrev pub one_held : Held → Option Tree
+one_held (a_node t) = one_in (data_in t)
+one_held nothing = None
+one_held (a_value t) = Some t
 
 -- the items of a tuple variant, however many, or of a sequence that a map's entry holds
-abbrev pub tuple_variant_of : VariantLeft → Outcome SeqLeft
-tuple_variant_of v = elim v.held [
-  | a_node t ↦ or_else (option_map (items_under v.flags) (many_in (data_in t))) (wrong_variant v kind.Tuple)
-  | nothing ↦ wrong_variant v kind.Tuple
-  | a_value t ↦ elim t [
-    | tree.seq ts ↦ taken (items_under v.flags ts)
-    | u ↦ wrong_variant v kind.Tuple
-  ]
-]
+abbrev pub many_held : Held → Option Trees
+many_held (a_node t) = many_in (data_in t)
+many_held nothing = None
+many_held (a_value t) = seq_in t
 
 -- the entries of an object-like variant, or of a map that a map's entry holds
+abbrev pub entries_held : Held → Option (List (Origin × Tree))
+entries_held (a_node t) = option_map (entries_of_fields 0) (named_in (data_in t))
+entries_held nothing = None
+entries_held (a_value t) = option_map entries_of_pairs (map_in t)
+
+-- one value
+abbrev pub newtype_variant_of : VariantLeft → Outcome Subject
+newtype_variant_of v = or_else (option_map (tree_under v.flags) (one_held v.held)) (wrong_variant v kind.NewType)
+
+-- values by place
+abbrev pub tuple_variant_of : VariantLeft → Outcome SeqLeft
+tuple_variant_of v = or_else (option_map (items_under v.flags) (many_held v.held)) (wrong_variant v kind.Tuple)
+
+-- values by key
 abbrev pub struct_variant_of : VariantLeft → Outcome MapLeft
-struct_variant_of v = elim v.held [
-  | a_node t ↦ or_else (option_map (λ fs. entries_under v.flags (entries_of_fields 0 fs)) (named_in (data_in t)))
-      (wrong_variant v kind.Struct)
-  | nothing ↦ wrong_variant v kind.Struct
-  | a_value t ↦ elim t [
-    | tree.map ps ↦ taken (entries_under v.flags (entries_of_pairs ps))
-    | u ↦ wrong_variant v kind.Struct
-  ]
-]
+struct_variant_of v =
+    or_else (option_map (entries_under v.flags) (entries_held v.held)) (wrong_variant v kind.Struct)

@@ -2,7 +2,7 @@
 use Rattle.std.specs.Prelude.{[], Bool, true, false, Option, Some, None}
 use Rattle.content_tree.specs.Values.Text.{Text, static_name}
 use Rattle.content_tree.specs.Values.Tree as tree
-use Rattle.content_tree.specs.Values.Tree.{Tree, TreeData, Trees, Fields}
+use Rattle.content_tree.specs.Values.Tree.{Tree, TreeData, Trees, Pairs, Fields}
 use Rattle.content_de.specs.Outcomes.{Outcome, taken}
 
 -- what the node of a struct or a variant holds
@@ -35,6 +35,16 @@ many_in d = None
 abbrev pub named_in : TreeData → Option Fields
 named_in (tree.named fs) = Some fs
 named_in d = None
+
+-- the items of a sequence
+abbrev pub seq_in : Tree → Option Trees
+seq_in (tree.seq ts) = Some ts
+seq_in t = None
+
+-- the pairs of a map
+abbrev pub map_in : Tree → Option Pairs
+map_in (tree.map ps) = Some ps
+map_in t = None
 
 -- what was looked for, where it is there
 abbrev pub or_else : {A : Type 0} → Option A → Outcome A → Outcome A

@@ -1,5 +1,6 @@
 //! Texts and bytes.
 ghost use Rattle.std.specs.Prelude.{◌≡◌, string_bytes};
+ghost use Rattle.content_tree.specs.Values.Text.{text_of};
 ghost use Rattle.content_de.specs.Outcomes.{refusal_of, taken, IsTaken};
 ghost use Rattle.content_de.specs.Requests.Leaves.{text_from, bytes_from};
 ghost use Rattle.content_de.specs.Reads.Standard.{HasContent, lent_or, not_borrowed_text};
@@ -19,6 +20,17 @@ impl<'de> Deserialize<'de> for String {
 
     fn deserialize<'n: 'de>(alloc: Global, from: Deserializer<'de, 'n>) -> Result<String> {
         from.deserialize_string(alloc)?.into_owned(alloc)
+    }
+}
+
+/// A text in its case: an owned one is moved, and a borrowed one lent. It takes no memory.
+impl<'de> Deserialize<'de> for CowStr<'de> {
+    ghost refusal = { λ s. refusal_of (text_from s.origin) };
+
+    ghost gives = { λ s v. text_from s.origin ≡ taken (text_of v) };
+
+    fn deserialize<'n: 'de>(alloc: Global, from: Deserializer<'de, 'n>) -> Result<CowStr<'de>> {
+        from.deserialize_str(alloc)
     }
 }
 

@@ -1,16 +1,12 @@
 //! Tuples of one to four.
-ghost use Rattle.std.specs.Prelude.{◌≡◌, ◌≢◌};
-ghost use Rattle.content_tree.specs.Errors.Cause.{out_of_memory};
-ghost use Rattle.content_de.specs.Outcomes.{cause, refusal_then, IsTaken};
-ghost use Rattle.content_de.specs.Accesses.Seq.{seq_view, first_item, after_item, tuple_at};
-ghost use Rattle.content_de.specs.Reads.Read.{Reads};
-ghost use Rattle.content_de.specs.Reads.Tuples.{too_few, part_refusal, PartGives};
+ghost use Rattle.content_de.specs.Outcomes.{refusal_then, IsTaken};
+ghost use Rattle.content_de.specs.Accesses.Seq.{tuple_at};
 ghost use Rattle.content_de.specs.Reads.Tuples.{part_then, no_part, PartThen, NoPart};
 
 use crate::deserialize::Deserialize;
 use crate::deserializer::Deserializer;
-use crate::seq::Seq;
-use content_tree::{Error, ErrorKind, Result};
+use crate::parts::next_part;
+use content_tree::Result;
 use std::alloc::Global;
 
 /// One item; what is left over stays unread.
@@ -85,38 +81,5 @@ impl<
         let third = next_part(alloc, &mut parts, 4, 2)?;
         let fourth = next_part(alloc, &mut parts, 4, 3)?;
         Ok((first, second, third, fourth))
-    }
-}
-
-/// The next part of a tuple of `expected` parts, of which `found` are read, for a type of a
-/// caller's own. The item is taken away also where its reading is refused.
-///
-/// # Errors
-///
-/// That of the type's first refusal, or at the end `Custom` with the text
-/// `too few elements: expected N, found K`; out of memory in its place.
-pub fn next_part<'de, 'n: 'de, T: Deserialize<'de>>(
-    alloc: Global,
-    from: &mut Seq<'de, 'n>,
-    expected: usize,
-    found: usize,
-) -> Result<T>
-    ensures value { Reads (part_refusal expected found T.refusal (first_item (seq_view from.old)))
-        (PartGives T.gives (first_item (seq_view from.old))) result }
-    ensures rest { seq_view from.new ≡ after_item (seq_view from.old) }
-{
-    match from.next_deserializer() {
-        None => Err(too_few(alloc, expected, found)),
-        Some(item) => T::deserialize(alloc, item),
-    }
-}
-
-/// The error of items that ended too early.
-fn too_few(alloc: Global, expected: usize, found: usize) -> Error
-    ensures { cause result ≢ out_of_memory → cause result ≡ too_few expected found }
-{
-    match format!(in alloc; "too few elements: expected {expected}, found {found}") {
-        Ok(text) => Error::from(ErrorKind::Custom(text)),
-        Err(refused) => Error::from(refused),
     }
 }

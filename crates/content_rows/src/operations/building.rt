@@ -1,15 +1,15 @@
 //! Trees that are built of calls.
 
 use crate::methods::make_call;
-use crate::number::parse;
-use crate::plain::plain;
-use crate::show::write_tree;
-use crate::stop::{Result, Stop};
-use crate::tokens::{Tokens, take_word};
-use crate::tree::{read_image, read_tree};
 use content_build::{Builder, Recorder, Serializer, from_calls};
 use content_ser::{Call, Serializer as _, replay as make_calls};
 use content_tree::{Error, ErrorKind, Value};
+use row_text::number::parse;
+use row_text::plain::plain;
+use row_text::show::write_tree;
+use row_text::stop::{Result, Stop};
+use row_text::tokens::{Tokens, take_word};
+use row_text::tree::{read_image, read_tree};
 use std::alloc::Global;
 
 /// `ok` and the tree.

@@ -1,51 +1,17 @@
 //! The order of two things.
 
-use crate::expectation::{read_expected, read_type};
-use crate::kind::read_kind;
-use crate::stop::{Result, Stop};
-use crate::tokens::{Tokens, take_word};
-use crate::tree::{read_image, read_tree};
 use content_build::Serializer;
 use content_ser::Call;
 use content_ser::laws::equal_by_contents;
 use content_tree::laws::{equal_images, equal_values};
 use content_tree::{Error, Found, Value};
+use row_text::expectation::{read_expected, read_type};
+use row_text::kind::read_kind;
+use row_text::order::{if_lawful, order, told};
+use row_text::stop::{Result, Stop};
+use row_text::tokens::{Tokens, take_word};
+use row_text::tree::{read_image, read_tree};
 use std::alloc::Global;
-use std::cmp::Ordering;
-
-/// Whether `==`, `<`, `partial_cmp` and `cmp` the other way round say what this order says.
-fn is_agreed<T: Ord>(left: &T, right: &T, order: Ordering) -> bool {
-    (left == right) == order.is_eq()
-        && (left < right) == order.is_lt()
-        && left.partial_cmp(right) == Some(order)
-        && right.cmp(left) == order.reverse()
-}
-
-/// The order, or nothing where the comparisons contradict each other.
-fn order<T: Ord>(left: &T, right: &T) -> Option<Ordering> {
-    let order = left.cmp(right);
-    if is_agreed(left, right, order) {
-        Some(order)
-    } else {
-        None
-    }
-}
-
-/// The word of an order.
-fn told(alloc: Global, order: Option<Ordering>) -> Result<String> {
-    let word = match order {
-        None => "contradiction",
-        Some(Ordering::Less) => "less",
-        Some(Ordering::Equal) => "equal",
-        Some(Ordering::Greater) => "greater",
-    };
-    Ok(String::from_str(alloc, word)?)
-}
-
-/// The order, where it is `Equal` just if a law says so.
-fn if_lawful(order: Option<Ordering>, equal: bool) -> Option<Ordering> {
-    order.filter(|order| order.is_eq() == equal)
-}
 
 /// Of two trees.
 pub fn values(alloc: Global, tokens: &mut Tokens<'_>) -> Result<String> {

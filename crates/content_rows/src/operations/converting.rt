@@ -1,12 +1,12 @@
 //! Values and numbers from the types that they hold, and texts and bytes by their case.
 
-use crate::number::{kind_word, write_digits};
 use crate::operations::copying::shown;
-use crate::show::write_tree;
-use crate::stop::{Result, Stop};
-use crate::tokens::{Tokens, take_word};
-use crate::tree::read_tree;
 use content_tree::{CowBytes, CowStr, Number, Value};
+use row_text::number::{kind_word, write_digits};
+use row_text::show::write_tree;
+use row_text::stop::{Result, Stop};
+use row_text::tokens::{Tokens, take_word};
+use row_text::tree::read_tree;
 use std::alloc::Global;
 
 /// The value from what a tree holds, by the type that is named.

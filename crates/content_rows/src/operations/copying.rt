@@ -1,15 +1,15 @@
 //! Copies, and trees and calls that own what they hold.
 
-use crate::expectation::read_expected;
-use crate::kind::read_kind;
-use crate::plain::plain;
-use crate::show::write_tree;
 use crate::show_call::write_call;
-use crate::stop::Result;
-use crate::tokens::Tokens;
-use crate::tree::{read_image, read_tree};
 use content_ser::Call;
 use content_tree::{CowBytes, CowStr, Error, Value};
+use row_text::expectation::read_expected;
+use row_text::kind::read_kind;
+use row_text::plain::plain;
+use row_text::show::write_tree;
+use row_text::stop::Result;
+use row_text::tokens::Tokens;
+use row_text::tree::{read_image, read_tree};
 use std::alloc::{AllocError, Global};
 use std::fmt::Display;
 

@@ -1,12 +1,12 @@
 //! Printed texts.
 
-use crate::expectation::{read_expected, read_type};
-use crate::kind::read_kind;
-use crate::plain::plain;
-use crate::stop::{Result, Stop};
-use crate::tokens::Tokens;
-use crate::tree::{read_image, read_tree};
 use content_tree::{Error, ErrorKind, Unexpected, Value};
+use row_text::expectation::{read_expected, read_type};
+use row_text::kind::read_kind;
+use row_text::plain::plain;
+use row_text::stop::{Result, Stop};
+use row_text::tokens::Tokens;
+use row_text::tree::{read_image, read_tree};
 use std::alloc::Global;
 
 /// Of an image.

@@ -2,14 +2,14 @@
 
 use crate::methods::make_call;
 use crate::operations::copying::shown;
-use crate::plain::plain;
 use crate::show_call::write_calls;
-use crate::stop::{Result, Stop};
-use crate::tokens::{Tokens, take_word};
-use crate::tree::read_tree;
 use content_build::{Recorder, Serializer, from_calls};
 use content_ser::{Call, Serialize};
 use content_tree::{CowStr, Error, ErrorKind, Number, Value};
+use row_text::plain::plain;
+use row_text::stop::{Result, Stop};
+use row_text::tokens::{Tokens, take_word};
+use row_text::tree::read_tree;
 use std::alloc::Global;
 use std::collections::BTreeMap;
 

@@ -1,0 +1,78 @@
+//! The parts of what a type reads: of a tuple by place, of a struct by name.
+ghost use Rattle.std.specs.Prelude.{◌≡◌, ◌≢◌};
+ghost use Rattle.content_tree.specs.Errors.Cause.{out_of_memory};
+ghost use Rattle.content_de.specs.Outcomes.{cause};
+ghost use Rattle.content_de.specs.Accesses.Seq.{seq_view, first_item, after_item};
+ghost use Rattle.content_de.specs.Accesses.Map.{map_view, first_entry, after_entry};
+ghost use Rattle.content_de.specs.Reads.Read.{Reads};
+ghost use Rattle.content_de.specs.Reads.Tuples.{too_few, part_refusal, PartGives};
+ghost use Rattle.content_de.specs.Reads.Own.{field_refusal, FieldGives};
+
+use crate::deserialize::Deserialize;
+use crate::map::Map;
+use crate::refusal::custom;
+use crate::seq::Seq;
+use content_tree::{CowStr, Error, ErrorKind, Result};
+use std::alloc::Global;
+
+/// The next part of a tuple of `expected` parts, of which `found` are read, for a type of a
+/// caller's own. The item is taken away also where its reading is refused.
+///
+/// # Errors
+///
+/// That of the type's first refusal, or at the end `Custom` with the text
+/// `too few elements: expected N, found K`; out of memory in its place.
+pub fn next_part<'de, 'n: 'de, T: Deserialize<'de>>(
+    alloc: Global,
+    from: &mut Seq<'de, 'n>,
+    expected: usize,
+    found: usize,
+) -> Result<T>
+    ensures value { Reads (part_refusal expected found T.refusal (first_item (seq_view from.old)))
+        (PartGives T.gives (first_item (seq_view from.old))) result }
+    ensures rest { seq_view from.new ≡ after_item (seq_view from.old) }
+{
+    match from.next_deserializer() {
+        None => Err(too_few(alloc, expected, found)),
+        Some(item) => T::deserialize(alloc, item),
+    }
+}
+
+/// The next field, which must have this name, for a type of a caller's own. The name is compared
+/// once the value is read; the entry is taken away also where it is refused. The name takes no
+/// memory.
+///
+/// # Errors
+///
+/// That of the key or of the type's first refusal; at the end `Custom` with the text
+/// `missing field`, and where the name is another `unexpected field`; out of memory in its place.
+pub fn next_field<'de, 'n: 'de, T: Deserialize<'de>>(
+    alloc: Global,
+    from: &mut Map<'de, 'n>,
+    name: &str,
+) -> Result<T>
+    ensures value { Reads (field_refusal name.now T.refusal (first_entry (map_view from.old)))
+        (FieldGives T.gives (first_entry (map_view from.old))) result }
+    ensures rest { map_view from.new ≡ after_entry (map_view from.old) }
+{
+    match from.next_entry::<CowStr<'de>, T>(alloc)? {
+        None => Err(custom(alloc, "missing field")),
+        Some((key, value)) => {
+            if key.as_str() == name {
+                Ok(value)
+            } else {
+                Err(custom(alloc, "unexpected field"))
+            }
+        }
+    }
+}
+
+/// The error of items that ended too early.
+fn too_few(alloc: Global, expected: usize, found: usize) -> Error
+    ensures { cause result ≢ out_of_memory → cause result ≡ too_few expected found }
+{
+    match format!(in alloc; "too few elements: expected {expected}, found {found}") {
+        Ok(text) => Error::from(ErrorKind::Custom(text)),
+        Err(refused) => Error::from(refused),
+    }
+}

@@ -1,0 +1,113 @@
+//! Values of a type.
+
+use crate::request::next_field;
+use crate::source::{read_source, source_of};
+use crate::types::{read_point, read_shape};
+use content_de::{Deserialize, Deserializer};
+use content_tree::{CowStr, Number, Value};
+use row_text::plain::plain;
+use row_text::show::write_tree;
+use row_text::stop::{Result, Stop};
+use row_text::tokens::read_tokens;
+use std::alloc::Global;
+use std::collections::BTreeMap;
+use std::fmt::{Debug, Display};
+
+/// The value of a type that is read from a source.
+pub fn read(alloc: Global, arguments: &str) -> Result<String> {
+    let (flags, arguments) = next_field(arguments)?;
+    let (typ, tree) = next_field(arguments)?;
+    let tokens = read_tokens(alloc, tree)?;
+    let source = source_of(alloc, flags, tokens.as_slice())?;
+    let from = read_source(&source)?;
+    match typ {
+        "()" => read_as::<()>(alloc, from),
+        "bool" => read_as::<bool>(alloc, from),
+        "i8" => read_as::<i8>(alloc, from),
+        "u8" => read_as::<u8>(alloc, from),
+        "i16" => read_as::<i16>(alloc, from),
+        "u16" => read_as::<u16>(alloc, from),
+        "i32" => read_as::<i32>(alloc, from),
+        "u32" => read_as::<u32>(alloc, from),
+        "i64" => read_as::<i64>(alloc, from),
+        "u64" => read_as::<u64>(alloc, from),
+        "i128" => read_as::<i128>(alloc, from),
+        "u128" => read_as::<u128>(alloc, from),
+        "isize" => read_as::<isize>(alloc, from),
+        "usize" => read_as::<usize>(alloc, from),
+        "String" => read_as::<String>(alloc, from),
+        "&str" => read_as::<&str>(alloc, from),
+        "&[u8]" => read_as::<&[u8]>(alloc, from),
+        "CowStr" => shown(alloc, Value::String(from.deserialize::<CowStr>(alloc)?)),
+        "char" => shown(alloc, Value::Char(from.deserialize::<char>(alloc)?)),
+        "Number" => shown(alloc, Value::Number(from.deserialize::<Number>(alloc)?)),
+        "Point" => printed(alloc, &read_point(alloc, from)?),
+        "Shape" => printed(alloc, &read_shape(alloc, from)?),
+        _ => read_holder(alloc, typ, from),
+    }
+}
+
+/// The value of a type that holds others.
+fn read_holder<'de, 'n: 'de>(
+    alloc: Global,
+    typ: &str,
+    from: Deserializer<'de, 'n>,
+) -> Result<String> {
+    match typ {
+        "Box<u8>" => read_as::<Box<u8>>(alloc, from),
+        "Option<()>" => read_as::<Option<()>>(alloc, from),
+        "Option<i16>" => read_as::<Option<i16>>(alloc, from),
+        "Option<String>" => read_as::<Option<String>>(alloc, from),
+        "Option<&str>" => read_as::<Option<&str>>(alloc, from),
+        "Option<Option<()>>" => read_as::<Option<Option<()>>>(alloc, from),
+        "Vec<()>" => read_as::<Vec<()>>(alloc, from),
+        "Vec<bool>" => read_as::<Vec<bool>>(alloc, from),
+        "Vec<u8>" => read_as::<Vec<u8>>(alloc, from),
+        "(bool,)" => read_as::<(bool,)>(alloc, from),
+        "(u8, u8)" => read_as::<(u8, u8)>(alloc, from),
+        "(u8, bool)" => read_as::<(u8, bool)>(alloc, from),
+        "(bool, (), u8)" => read_as::<(bool, (), u8)>(alloc, from),
+        "(u8, u8, u8, u8)" => read_as::<(u8, u8, u8, u8)>(alloc, from),
+        "BTreeMap<String, u8>" => read_map::<String, u8>(alloc, from),
+        "BTreeMap<u8, bool>" => read_map::<u8, bool>(alloc, from),
+        "BTreeMap<i8, i8>" => read_map::<i8, i8>(alloc, from),
+        _ => Err(Stop::NoRow),
+    }
+}
+
+/// `ok` and what is printed.
+fn printed<T: Display>(alloc: Global, value: &T) -> Result<String> {
+    let text = plain(alloc, value)?;
+    Ok(format!(in alloc; "ok {text}")?)
+}
+
+/// `ok` and a value of this type.
+fn read_as<'de, 'n: 'de, T: Deserialize<'de> + Debug>(
+    alloc: Global,
+    from: Deserializer<'de, 'n>,
+) -> Result<String> {
+    let value = from.deserialize::<T>(alloc)?;
+    printed(alloc, &format!(in alloc; "{value:?}")?)
+}
+
+/// `ok` and a datum as a tree.
+fn shown(alloc: Global, tree: Value<'_>) -> Result<String> {
+    let mut out = String::from_str(alloc, "ok ")?;
+    write_tree(&mut out, &tree)?;
+    Ok(out)
+}
+
+/// `ok` and a map's keys in order, each with its value.
+fn read_map<'de, 'n: 'de, K: Deserialize<'de> + Debug + Ord, V: Deserialize<'de> + Debug>(
+    alloc: Global,
+    from: Deserializer<'de, 'n>,
+) -> Result<String> {
+    let map = from.deserialize::<BTreeMap<K, V>>(alloc)?;
+    let mut out = String::new(alloc);
+    for (key, value) in &map {
+        out.push_str(if out.is_empty() { "" } else { ", " })?;
+        write!(out, "{key:?} => {value:?}")?;
+    }
+    let text = plain(alloc, &out)?;
+    Ok(format!(in alloc; "ok {{{text}}}")?)
+}

@@ -1,0 +1,139 @@
+//! An enum of a caller's own, with a variant of each sort.
+
+ghost use Rattle.std.specs.Prelude.{codes, refl};
+ghost use Rattle.content_ser.specs.Laws.StandardScripts.{leaf_lawful};
+ghost use Rattle.content_ser.specs.Laws.OwnScripts.{field_fits, newtype_variant_lawful};
+ghost use Rattle.content_ser.specs.Laws.OwnScripts.{struct_end_fits, struct_variant_lawful};
+ghost use Rattle.content_ser.specs.Laws.OwnScripts.{tuple_end_fits, tuple_field_fits};
+ghost use Rattle.content_ser.specs.Laws.OwnScripts.{tuple_variant_lawful, unit_variant_lawful};
+ghost use Rattle.content_ser.specs.Scripts.Own.{end_script, field_first, newtype_variant_script};
+ghost use Rattle.content_ser.specs.Scripts.Own.{struct_variant_script, tuple_field_first};
+ghost use Rattle.content_ser.specs.Scripts.Own.{tuple_variant_script, unit_variant_script};
+ghost use Rattle.content_de.specs.Reads.Tuples.{part_then, no_part, PartThen, NoPart};
+ghost use Rattle.content_de.specs.Reads.Own.{field_then, no_field, FieldThen, NoField};
+ghost use Rattle.content_de.specs.Reads.Own.{enum_refusal, variant_or, no_variant, EnumGives};
+ghost use Rattle.content_de.specs.Reads.Own.{unit_variant_refusal, UnitVariantGives};
+ghost use Rattle.content_de.specs.Reads.Own.{newtype_variant_refusal, NewtypeVariantGives};
+ghost use Rattle.content_de.specs.Reads.Own.{tuple_variant_refusal, TupleVariantGives};
+ghost use Rattle.content_de.specs.Reads.Own.{struct_variant_refusal, StructVariantGives};
+ghost use Rattle.serde_content.specs.declared.samples.shape.Shape.TheVariants as shape;
+
+use content_de::{Deserialize, Deserializer, next_field, next_part};
+use content_ser::{Call, Parts, Serialize, Serializer};
+use content_tree::{CowStr, Error, Result};
+use std::alloc::Global;
+
+/// An enum of four variants.
+#[derive(Drop, PartialEq, Eq)]
+pub enum Shape {
+    /// No data.
+    Dot,
+    /// One value: the radius.
+    Ring(u32),
+    /// Two values by place: from here to there.
+    Span(i32, i32),
+    /// Two values by name.
+    Area {
+        /// The width.
+        w: u32,
+        /// The height.
+        h: u32,
+    },
+}
+
+impl Serialize for Shape {
+    ghost script = { elim [
+      | shape.Dot ↦ unit_variant_script (codes "Shape") 0 (codes "Dot")
+      | shape.Ring r ↦ newtype_variant_script (codes "Shape") 1 (codes "Ring")
+          (⟦<u32 as Serialize>⟧.script r)
+      | shape.Span a b ↦ tuple_variant_script (codes "Shape") 2 (codes "Span") 2
+          (tuple_field_first (⟦<i32 as Serialize>⟧.script a)
+          (tuple_field_first (⟦<i32 as Serialize>⟧.script b)
+          end_script))
+      | shape.Area w h ↦ struct_variant_script (codes "Shape") 3 (codes "Area") 2
+          (field_first (codes "w") (⟦<u32 as Serialize>⟧.script w)
+          (field_first (codes "h") (⟦<u32 as Serialize>⟧.script h)
+          end_script))
+    ] };
+
+    ghost lawful = { elim [
+      | shape.Dot ↦ λ readable. unit_variant_lawful
+      | shape.Ring r ↦ λ readable. newtype_variant_lawful (leaf_lawful refl)
+      | shape.Span a b ↦ λ readable. tuple_variant_lawful
+          (tuple_field_fits (leaf_lawful refl) (tuple_field_fits (leaf_lawful refl) tuple_end_fits))
+      | shape.Area w h ↦ λ readable. struct_variant_lawful
+          (field_fits (leaf_lawful refl) (field_fits (leaf_lawful refl) struct_end_fits))
+    ] };
+
+    fn serialize<S: Serializer>(&self, alloc: Global, serializer: &mut S) -> Result<()> {
+        match self {
+            Shape::Dot => Call::UnitVariant("Shape", 0, "Dot").send(serializer),
+            Shape::Ring(r) => {
+                Call::NewtypeVariant("Shape", 1, "Ring").around(r, alloc, serializer)
+            }
+            Shape::Span(a, b) => Call::TupleVariant("Shape", 2, "Span", 2)
+                .with(Call::TupleField, a)
+                .with(Call::TupleField, b)
+                .end(alloc, serializer),
+            Shape::Area { w, h } => Call::StructVariant("Shape", 3, "Area", 2)
+                .with(Call::Field("w"), w)
+                .with(Call::Field("h"), h)
+                .end(alloc, serializer),
+        }
+    }
+}
+
+/// The variant that the tag names; further values stay unread.
+impl<'de> Deserialize<'de> for Shape {
+    ghost refusal = { enum_refusal (codes "Shape")
+        (variant_or (codes "Dot") unit_variant_refusal
+        (variant_or (codes "Ring") (newtype_variant_refusal (⟦<u32 as Deserialize>⟧.refusal))
+        (variant_or (codes "Span") (tuple_variant_refusal
+        (part_then 2 0 (⟦<i32 as Deserialize>⟧.refusal)
+        (part_then 2 1 (⟦<i32 as Deserialize>⟧.refusal)
+        no_part)))
+        (variant_or (codes "Area") (struct_variant_refusal
+        (field_then (codes "w") (⟦<u32 as Deserialize>⟧.refusal)
+        (field_then (codes "h") (⟦<u32 as Deserialize>⟧.refusal)
+        no_field)))
+        no_variant)))) };
+
+    ghost gives = { λ s. elim [
+      | shape.Dot ↦ EnumGives (codes "Shape") (codes "Dot") UnitVariantGives s
+      | shape.Ring r ↦ EnumGives (codes "Shape") (codes "Ring")
+          (NewtypeVariantGives (⟦<u32 as Deserialize>⟧.gives) r) s
+      | shape.Span a b ↦ EnumGives (codes "Shape") (codes "Span") (TupleVariantGives
+          (PartThen (⟦<i32 as Deserialize>⟧.gives) a
+          (PartThen (⟦<i32 as Deserialize>⟧.gives) b
+          NoPart))) s
+      | shape.Area w h ↦ EnumGives (codes "Shape") (codes "Area") (StructVariantGives
+          (FieldThen (⟦<u32 as Deserialize>⟧.gives) w
+          (FieldThen (⟦<u32 as Deserialize>⟧.gives) h
+          NoField))) s
+    ] };
+
+    fn deserialize<'n: 'de>(alloc: Global, from: Deserializer<'de, 'n>) -> Result<Shape> {
+        let access = from.deserialize_enum(alloc, "Shape", &["Dot", "Ring", "Span", "Area"])?;
+        let (tag, variant) = access.variant::<CowStr<'de>>(alloc)?;
+        match tag.as_str() {
+            "Dot" => {
+                variant.unit_variant(alloc)?;
+                Ok(Shape::Dot)
+            }
+            "Ring" => Ok(Shape::Ring(variant.newtype_variant(alloc)?)),
+            "Span" => {
+                let mut items = variant.tuple_variant(alloc, 2)?;
+                let from = next_part(alloc, &mut items, 2, 0)?;
+                let to = next_part(alloc, &mut items, 2, 1)?;
+                Ok(Shape::Span(from, to))
+            }
+            "Area" => {
+                let mut fields = variant.struct_variant(alloc, &["w", "h"])?;
+                let w = next_field(alloc, &mut fields, "w")?;
+                let h = next_field(alloc, &mut fields, "h")?;
+                Ok(Shape::Area { w, h })
+            }
+            _ => Err(Error::custom(alloc, "unknown variant")),
+        }
+    }
+}
