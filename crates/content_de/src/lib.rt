@@ -25,6 +25,6 @@ pub use enum_access::EnumAccess;
 pub use into::IntoDeserializer;
 pub use map::Map;
 pub use node::Node;
-pub use parts::{next_field, next_part};
+pub use parts::{next_field, next_part, two_parts};
 pub use seq::Seq;
 pub use variant_access::VariantAccess;

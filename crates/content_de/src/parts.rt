@@ -6,6 +6,7 @@ ghost use Rattle.content_de.specs.Accesses.Seq.{seq_view, first_item, after_item
 ghost use Rattle.content_de.specs.Accesses.Map.{map_view, first_entry, after_entry};
 ghost use Rattle.content_de.specs.Reads.Read.{Reads};
 ghost use Rattle.content_de.specs.Reads.Tuples.{too_few, part_refusal, PartGives};
+ghost use Rattle.content_de.specs.Reads.Tuples.{part_then, no_part, PartThen, NoPart};
 ghost use Rattle.content_de.specs.Reads.Own.{field_refusal, FieldGives};
 
 use crate::deserialize::Deserialize;
@@ -36,6 +37,23 @@ pub fn next_part<'de, 'n: 'de, T: Deserialize<'de>>(
         None => Err(too_few(alloc, expected, found)),
         Some(item) => T::deserialize(alloc, item),
     }
+}
+
+/// Both parts of a tuple of two, for a type of a caller's own; what is left over stays unread.
+///
+/// # Errors
+///
+/// As those of [`next_part`].
+pub fn two_parts<'de, 'n: 'de, A: Deserialize<'de>, B: Deserialize<'de>>(
+    alloc: Global,
+    mut from: Seq<'de, 'n>,
+) -> Result<(A, B)>
+    ensures { Reads (part_then 2 0 A.refusal (part_then 2 1 B.refusal no_part) (seq_view from.entry))
+        (λ p. PartThen A.gives p.0 (PartThen B.gives p.1 NoPart) (seq_view from.entry)) result }
+{
+    let first = next_part(alloc, &mut from, 2, 0)?;
+    let second = next_part(alloc, &mut from, 2, 1)?;
+    Ok((first, second))
 }
 
 /// The next field, which must have this name, for a type of a caller's own. The name is compared

@@ -169,6 +169,21 @@ fn write_held<'de, 'n: 'de>(
     Ok(())
 }
 
+/// Adds the name that errors say was expected, and the tag.
+fn write_tag<'de, 'n: 'de>(
+    out: &mut String,
+    source: &Source<'_>,
+    expected: String,
+    tag: &Deserializer<'de, 'n>,
+) -> Result<()> {
+    write_opening(out, source, "enum")?;
+    let expected: CowStr<'static> = CowStr::Owned(expected);
+    write_text(out, 's', &expected)?;
+    out.push_str("; ")?;
+    write_handed(out, source, tag)?;
+    Ok(out.push_str("; ")?)
+}
+
 /// Adds the variant of an enum that the source is, requested by a name or as whatever is there: the
 /// name that errors say was expected, the tag, and what the variant holds.
 pub fn write_enum<'de, 'n: 'de>(
@@ -181,12 +196,7 @@ pub fn write_enum<'de, 'n: 'de>(
     let (tag, variant) = open(source, from, name)?.variant_deserializer(alloc)?;
     let (_tag, same) = open(source, from, name)?.variant_deserializer(alloc)?;
     let ((found, expected), inner) = refused(alloc, variant, same)?;
-    write_opening(out, source, "enum")?;
-    let expected: CowStr<'static> = CowStr::Owned(expected);
-    write_text(out, 's', &expected)?;
-    out.push_str("; ")?;
-    write_handed(out, source, &tag)?;
-    out.push_str("; ")?;
+    write_tag(out, source, expected, &tag)?;
     write_held(out, source, found, inner)?;
     Ok(out.push(')')?)
 }

@@ -1,5 +1,6 @@
 //! Reading: what a value is read by, and what can be read.
 
 pub use content_de::{
-    Deserialize, EnumAccess, IntoDeserializer, Map, Node, Seq, VariantAccess, next_field, next_part,
+    Deserialize, EnumAccess, IntoDeserializer, Map, Node, Seq, VariantAccess, next_field,
+    next_part, two_parts,
 };

@@ -5,7 +5,7 @@ ghost use Rattle.content_de.specs.Reads.Tuples.{part_then, no_part, PartThen, No
 
 use crate::deserialize::Deserialize;
 use crate::deserializer::Deserializer;
-use crate::parts::next_part;
+use crate::parts::{next_part, two_parts};
 use content_tree::Result;
 use std::alloc::Global;
 
@@ -33,10 +33,7 @@ impl<'de, A: Deserialize<'de>, B: Deserialize<'de>> Deserialize<'de> for (A, B) 
         (PartThen A.gives v.0 (PartThen B.gives v.1 NoPart)) };
 
     fn deserialize<'n: 'de>(alloc: Global, from: Deserializer<'de, 'n>) -> Result<(A, B)> {
-        let mut parts = from.deserialize_tuple(alloc, 2)?;
-        let first = next_part(alloc, &mut parts, 2, 0)?;
-        let second = next_part(alloc, &mut parts, 2, 1)?;
-        Ok((first, second))
+        two_parts(alloc, from.deserialize_tuple(alloc, 2)?)
     }
 }
 

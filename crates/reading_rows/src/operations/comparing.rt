@@ -17,18 +17,21 @@ pub fn order_of_sources(alloc: Global, arguments: &str) -> Result<String> {
     let (right_flags, right) = next_field(arguments)?;
     let left = read_tokens(alloc, left)?;
     let right = read_tokens(alloc, right)?;
-    let left = read_source(&source_of(alloc, left_flags, left.as_slice())?)?;
-    let right = read_source(&source_of(alloc, right_flags, right.as_slice())?)?;
-    told(alloc, lawful_order(&left, &right))
+    let left = source_of(alloc, left_flags, left.as_slice())?;
+    let right = source_of(alloc, right_flags, right.as_slice())?;
+    told(
+        alloc,
+        lawful_order(read_source(&left)?, read_source(&right)?),
+    )
 }
 
 /// The order, where the laws say the same.
 fn lawful_order<'de, 'n>(
-    left: &Deserializer<'de, 'n>,
-    right: &Deserializer<'de, 'n>,
+    left: Deserializer<'de, 'n>,
+    right: Deserializer<'de, 'n>,
 ) -> Option<Ordering> {
-    let order = if_lawful(order(left, right), equal_deserializers(left, right))?;
-    if compare_deserializers(left, right) == order {
+    let order = if_lawful(order(&left, &right), equal_deserializers(&left, &right))?;
+    if compare_deserializers(&left, &right) == order {
         Some(order)
     } else {
         None

@@ -2,7 +2,7 @@
 
 use crate::request::next_field;
 use crate::show::write_handed;
-use crate::source::{read_source, source_of};
+use crate::source::{Source, read_source, source_of};
 use content_de::{Deserializer, IntoDeserializer};
 use content_tree::Value;
 use row_text::cursor::Cursor;
@@ -17,13 +17,23 @@ pub fn into(alloc: Global, arguments: &str) -> Result<String> {
     let (flags, tree) = next_field(arguments)?;
     let tokens = read_tokens(alloc, tree)?;
     let source = source_of(alloc, flags, tokens.as_slice())?;
-    let from = match form {
-        "deserializer" => read_source(&source)?.into_deserializer(alloc)?,
-        _ => of_tree(alloc, form, tokens.as_slice())?,
-    };
-    let mut out = String::from_str(alloc, "ok ")?;
-    write_handed(&mut out, &source, &from)?;
+    if form == "deserializer" {
+        handed(&source, of_source(&source)?)
+    } else {
+        handed(&source, of_tree(alloc, form, tokens.as_slice())?)
+    }
+}
+
+/// `ok` and what is handed out.
+fn handed<'de, 'n: 'de>(source: &Source<'_>, from: Deserializer<'de, 'n>) -> Result<String> {
+    let mut out = String::from_str(source.alloc, "ok ")?;
+    write_handed(&mut out, source, &from)?;
     Ok(out)
+}
+
+/// The deserializer that one with the row's flags becomes.
+fn of_source<'a>(source: &Source<'a>) -> Result<Deserializer<'a, 'static>> {
+    Ok(read_source(source)?.into_deserializer(source.alloc)?)
 }
 
 /// The deserializer of a tree in this form.

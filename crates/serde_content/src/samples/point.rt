@@ -41,13 +41,13 @@ impl Serialize for Point {
 /// Its fields in order; further fields stay unread.
 impl<'de> Deserialize<'de> for Point {
     ghost refusal = { struct_refusal (codes "Point")
-        (field_then (codes "x") (⟦<i32 as Deserialize>⟧.refusal)
-        (field_then (codes "y") (⟦<i32 as Deserialize>⟧.refusal)
+        (field_then (codes "x") (⟦<i32 as Deserialize<'de>>⟧.refusal)
+        (field_then (codes "y") (⟦<i32 as Deserialize<'de>>⟧.refusal)
         no_field)) };
 
     ghost gives = { λ s p. StructGives (codes "Point")
-        (FieldThen (⟦<i32 as Deserialize>⟧.gives) p.x
-        (FieldThen (⟦<i32 as Deserialize>⟧.gives) p.y
+        (FieldThen (⟦<i32 as Deserialize<'de>>⟧.gives) p.x
+        (FieldThen (⟦<i32 as Deserialize<'de>>⟧.gives) p.y
         NoField)) s };
 
     fn deserialize<'n: 'de>(alloc: Global, from: Deserializer<'de, 'n>) -> Result<Point> {

@@ -1,6 +1,6 @@
 //! An enum of a caller's own, with a variant of each sort.
 
-ghost use Rattle.std.specs.Prelude.{codes, refl};
+ghost use Rattle.std.specs.Prelude.{◌≡◌, codes, refl};
 ghost use Rattle.content_ser.specs.Laws.StandardScripts.{leaf_lawful};
 ghost use Rattle.content_ser.specs.Laws.OwnScripts.{field_fits, newtype_variant_lawful};
 ghost use Rattle.content_ser.specs.Laws.OwnScripts.{struct_end_fits, struct_variant_lawful};
@@ -18,7 +18,7 @@ ghost use Rattle.content_de.specs.Reads.Own.{tuple_variant_refusal, TupleVariant
 ghost use Rattle.content_de.specs.Reads.Own.{struct_variant_refusal, StructVariantGives};
 ghost use Rattle.serde_content.specs.declared.samples.shape.Shape.TheVariants as shape;
 
-use content_de::{Deserialize, Deserializer, next_field, next_part};
+use content_de::{Deserialize, Deserializer, next_field, two_parts};
 use content_ser::{Call, Parts, Serialize, Serializer};
 use content_tree::{CowStr, Error, Result};
 use std::alloc::Global;
@@ -39,6 +39,15 @@ pub enum Shape {
         /// The height.
         h: u32,
     },
+}
+
+impl Shape {
+    /// Two values by place. Its contract tells proofs what a variant of signed numbers holds.
+    fn span(a: i32, b: i32) -> Shape
+        ensures { result ≡ shape.Span a b }
+    {
+        Shape::Span(a, b)
+    }
 }
 
 impl Serialize for Shape {
@@ -87,28 +96,28 @@ impl Serialize for Shape {
 impl<'de> Deserialize<'de> for Shape {
     ghost refusal = { enum_refusal (codes "Shape")
         (variant_or (codes "Dot") unit_variant_refusal
-        (variant_or (codes "Ring") (newtype_variant_refusal (⟦<u32 as Deserialize>⟧.refusal))
+        (variant_or (codes "Ring") (newtype_variant_refusal (⟦<u32 as Deserialize<'de>>⟧.refusal))
         (variant_or (codes "Span") (tuple_variant_refusal
-        (part_then 2 0 (⟦<i32 as Deserialize>⟧.refusal)
-        (part_then 2 1 (⟦<i32 as Deserialize>⟧.refusal)
+        (part_then 2 0 (⟦<i32 as Deserialize<'de>>⟧.refusal)
+        (part_then 2 1 (⟦<i32 as Deserialize<'de>>⟧.refusal)
         no_part)))
         (variant_or (codes "Area") (struct_variant_refusal
-        (field_then (codes "w") (⟦<u32 as Deserialize>⟧.refusal)
-        (field_then (codes "h") (⟦<u32 as Deserialize>⟧.refusal)
+        (field_then (codes "w") (⟦<u32 as Deserialize<'de>>⟧.refusal)
+        (field_then (codes "h") (⟦<u32 as Deserialize<'de>>⟧.refusal)
         no_field)))
         no_variant)))) };
 
     ghost gives = { λ s. elim [
       | shape.Dot ↦ EnumGives (codes "Shape") (codes "Dot") UnitVariantGives s
       | shape.Ring r ↦ EnumGives (codes "Shape") (codes "Ring")
-          (NewtypeVariantGives (⟦<u32 as Deserialize>⟧.gives) r) s
+          (NewtypeVariantGives (⟦<u32 as Deserialize<'de>>⟧.gives) r) s
       | shape.Span a b ↦ EnumGives (codes "Shape") (codes "Span") (TupleVariantGives
-          (PartThen (⟦<i32 as Deserialize>⟧.gives) a
-          (PartThen (⟦<i32 as Deserialize>⟧.gives) b
+          (PartThen (⟦<i32 as Deserialize<'de>>⟧.gives) a
+          (PartThen (⟦<i32 as Deserialize<'de>>⟧.gives) b
           NoPart))) s
       | shape.Area w h ↦ EnumGives (codes "Shape") (codes "Area") (StructVariantGives
-          (FieldThen (⟦<u32 as Deserialize>⟧.gives) w
-          (FieldThen (⟦<u32 as Deserialize>⟧.gives) h
+          (FieldThen (⟦<u32 as Deserialize<'de>>⟧.gives) w
+          (FieldThen (⟦<u32 as Deserialize<'de>>⟧.gives) h
           NoField))) s
     ] };
 
@@ -122,10 +131,8 @@ impl<'de> Deserialize<'de> for Shape {
             }
             "Ring" => Ok(Shape::Ring(variant.newtype_variant(alloc)?)),
             "Span" => {
-                let mut items = variant.tuple_variant(alloc, 2)?;
-                let from = next_part(alloc, &mut items, 2, 0)?;
-                let to = next_part(alloc, &mut items, 2, 1)?;
-                Ok(Shape::Span(from, to))
+                let (a, b) = two_parts(alloc, variant.tuple_variant(alloc, 2)?)?;
+                Ok(Shape::span(a, b))
             }
             "Area" => {
                 let mut fields = variant.struct_variant(alloc, &["w", "h"])?;
