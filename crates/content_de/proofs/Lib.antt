@@ -4,3 +4,5 @@ pub mod Fields
 pub mod Values
 pub mod Ends
 pub mod Ties
+pub mod Plains
+pub mod PlainLaws

@@ -3,3 +3,5 @@ pub mod Outcomes
 pub mod Requests
 pub mod Accesses
 pub mod Reads
+pub mod Plain
+pub mod Laws

@@ -1,8 +1,10 @@
-//! What `==` and the order of deserializers mean.
+//! What `==` and the order of deserializers mean, and laws of the definitions, each a call that
+//! answers nothing and whose contract is the law.
 ghost use Rattle.std.specs.Prelude.{◌≡◌};
 ghost use Rattle.std.specs.Bool.{Decides};
 ghost use Rattle.content_de.specs.Sources.Deserializer.{subject};
 ghost use Rattle.content_de.specs.Sources.Order.{SameSubject, subject_cmp};
+ghost use Rattle.content_de.specs.Laws.{PlainOnce, PlainVariant};
 
 use crate::deserializer::Deserializer;
 use std::cmp::Ordering;
@@ -30,3 +32,18 @@ pub fn equal_deserializers<'de, 'n>(
 {
     *left == *right
 }
+
+/// The plain form of a plain form is itself.
+#[tactic(auto, using(crate::proofs::PlainLaws::twice))]
+pub fn plain_once()
+    ensures { PlainOnce }
+{}
+
+/// The plain form of a variant is a variant too. Asked for the sort that the variant is of, it is
+/// taken: its tag is the variant's name as a text, and what it hands out is the plain form of what
+/// the variant hands out. Nothing is said of other sorts: a map of one entry is any newtype
+/// variant.
+#[tactic(auto, using(crate::proofs::PlainLaws::variant_stays))]
+pub fn plain_variant()
+    ensures { PlainVariant }
+{}

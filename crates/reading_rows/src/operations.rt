@@ -19,6 +19,7 @@ impl Operations for ReadingRows {
             "ask" => asking::ask(alloc, arguments),
             "enum" => asking::variant(alloc, arguments),
             "read" => reading::read(alloc, arguments),
+            "plain" => reading::plain_form(alloc, arguments),
             "access" => stepping::access(alloc, arguments),
             "order" => comparing::order_of_sources(alloc, arguments),
             "into" => converting::into(alloc, arguments),

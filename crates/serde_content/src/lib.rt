@@ -4,7 +4,7 @@
 #![tactic(auto)]
 
 pub use content_build::Serializer;
-pub use content_de::Deserializer;
+pub use content_de::{Deserializer, ValueVisitor};
 pub use content_tree::{
     CowBytes, CowStr, Data, DataType, Enum, Error, ErrorKind, Expected, Found, FoundData,
     NamedData, NamedEnum, NamedStruct, NamedValue, Number, Result, Struct, Unexpected, Value,

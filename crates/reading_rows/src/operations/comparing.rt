@@ -17,12 +17,11 @@ pub fn order_of_sources(alloc: Global, arguments: &str) -> Result<String> {
     let (right_flags, right) = next_field(arguments)?;
     let left = read_tokens(alloc, left)?;
     let right = read_tokens(alloc, right)?;
-    let left = source_of(alloc, left_flags, left.as_slice())?;
-    let right = source_of(alloc, right_flags, right.as_slice())?;
-    told(
-        alloc,
-        lawful_order(read_source(&left)?, read_source(&right)?),
-    )
+    let left_source = source_of(alloc, left_flags, left.as_slice())?;
+    let right_source = source_of(alloc, right_flags, right.as_slice())?;
+    let left = read_source(&left_source)?;
+    let right = read_source(&right_source)?;
+    told(alloc, lawful_order(left, right))
 }
 
 /// The order, where the laws say the same.

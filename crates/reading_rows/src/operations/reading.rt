@@ -3,7 +3,7 @@
 use crate::request::next_field;
 use crate::source::{read_source, source_of};
 use crate::types::{read_point, read_shape};
-use content_de::{Deserialize, Deserializer};
+use content_de::{Deserialize, Deserializer, ValueVisitor};
 use content_tree::{CowStr, Number, Value};
 use row_text::plain::plain;
 use row_text::show::write_tree;
@@ -41,10 +41,20 @@ pub fn read(alloc: Global, arguments: &str) -> Result<String> {
         "CowStr" => shown(alloc, Value::String(from.deserialize::<CowStr>(alloc)?)),
         "char" => shown(alloc, Value::Char(from.deserialize::<char>(alloc)?)),
         "Number" => shown(alloc, Value::Number(from.deserialize::<Number>(alloc)?)),
+        "Value" => shown(alloc, from.deserialize::<Value<'static>>(alloc)?),
+        "ValueVisitor" => shown(alloc, ValueVisitor.read(alloc, from)?),
         "Point" => printed(alloc, &read_point(alloc, from)?),
         "Shape" => printed(alloc, &read_shape(alloc, from)?),
         _ => read_holder(alloc, typ, from),
     }
+}
+
+/// The plain form of a tree, which is read with both flags off.
+pub fn plain_form(alloc: Global, tree: &str) -> Result<String> {
+    let tokens = read_tokens(alloc, tree)?;
+    let source = source_of(alloc, "-", tokens.as_slice())?;
+    let plain = read_source(&source)?.deserialize::<Value<'static>>(alloc)?;
+    shown(alloc, plain)
 }
 
 /// The value of a type that holds others.
@@ -59,6 +69,7 @@ fn read_holder<'de, 'n: 'de>(
         "Option<i16>" => read_as::<Option<i16>>(alloc, from),
         "Option<String>" => read_as::<Option<String>>(alloc, from),
         "Option<&str>" => read_as::<Option<&str>>(alloc, from),
+        "Option<Value>" => shown_held(alloc, from.deserialize::<Option<Value<'static>>>(alloc)?),
         "Option<Option<()>>" => read_as::<Option<Option<()>>>(alloc, from),
         "Vec<()>" => read_as::<Vec<()>>(alloc, from),
         "Vec<bool>" => read_as::<Vec<bool>>(alloc, from),
@@ -95,6 +106,17 @@ fn shown(alloc: Global, tree: Value<'_>) -> Result<String> {
     let mut out = String::from_str(alloc, "ok ")?;
     write_tree(&mut out, &tree)?;
     Ok(out)
+}
+
+/// `ok` and a datum that may be absent, as a tree.
+fn shown_held(alloc: Global, held: Option<Value<'_>>) -> Result<String> {
+    match held {
+        None => shown(alloc, Value::Option(None)),
+        Some(tree) => {
+            let tree = Box::new(alloc, tree)?;
+            shown(alloc, Value::Option(Some(tree)))
+        }
+    }
 }
 
 /// `ok` and a map's keys in order, each with its value.
