@@ -6,7 +6,7 @@ use content_de::Deserializer;
 use content_de::laws::{compare_deserializers, equal_deserializers};
 use row_text::order::{if_lawful, order, told};
 use row_text::stop::Result;
-use row_text::tokens::read_tokens;
+use row_text::tokens::{Token, read_tokens};
 use std::alloc::Global;
 use std::cmp::Ordering;
 
@@ -17,11 +17,29 @@ pub fn order_of_sources(alloc: Global, arguments: &str) -> Result<String> {
     let (right_flags, right) = next_field(arguments)?;
     let left = read_tokens(alloc, left)?;
     let right = read_tokens(alloc, right)?;
-    let left_source = source_of(alloc, left_flags, left.as_slice())?;
-    let right_source = source_of(alloc, right_flags, right.as_slice())?;
-    let left = read_source(&left_source)?;
-    let right = read_source(&right_source)?;
-    told(alloc, lawful_order(left, right))
+    let order = order_of_tokens(
+        alloc,
+        left_flags,
+        left.as_slice(),
+        right_flags,
+        right.as_slice(),
+    )?;
+    told(alloc, order)
+}
+
+/// Of what these tokens tell, each under its flags.
+fn order_of_tokens<'a>(
+    alloc: Global,
+    left_flags: &str,
+    left: &'a [Token],
+    right_flags: &str,
+    right: &'a [Token],
+) -> Result<Option<Ordering>> {
+    let left = source_of(alloc, left_flags, left)?;
+    let right = source_of(alloc, right_flags, right)?;
+    let left = read_source(&left)?;
+    let right = read_source(&right)?;
+    Ok(lawful_order(left, right))
 }
 
 /// The order, where the laws say the same.
