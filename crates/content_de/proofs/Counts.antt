@@ -1,5 +1,5 @@
 -- How many items and entries are left.
-use Rattle.std.proofs.Common.{◌≡◌, ℕ, ◌-◌, List, [], ◌∷◌, length, drop, suc, refl, arith, length-drop}
+use Rattle.std.proofs.Common.{◌≡◌, ℕ, List, [], ◌∷◌, length, suc, refl, arith}
 use Rattle.content_tree.specs.Values.Tree.{Tree}
 use Rattle.content_tree.specs.Values.Value.{trees_view, pairs_view, fields_view}
 use Rattle.content_tree.specs.declared.cow.CowStr.{CowStr}
@@ -10,31 +10,19 @@ use Rattle.content_de.specs.Accesses.Seq.{count}
 use Rattle.content_de.specs.Accesses.Map.{without_key}
 
 -- as many as there are values
-count_values : (vs : List NamedValue) → count (trees_view vs) ≡ length vs
+pub count_values : (vs : List NamedValue) → count (trees_view vs) ≡ length vs
 count_values [] = refl
 count_values (v ∷ vs) = omega (arith, count_values vs)
 
--- as many as there are from a place on
-pub count_left : (n : ℕ) (vs : List NamedValue) → count (trees_view (drop n vs)) ≡ length vs - n
-count_left n vs = omega (arith, count_values (drop n vs), length-drop n vs)
-
 -- as many entries as pairs
-count_pairs : (ps : List (NamedValue × NamedValue)) → length (entries_of_pairs (pairs_view ps)) ≡ length ps
+pub count_pairs : (ps : List (NamedValue × NamedValue)) → length (entries_of_pairs (pairs_view ps)) ≡ length ps
 count_pairs [] = refl
 count_pairs (p ∷ ps) = omega (arith, count_pairs ps)
 
--- as many as there are from a place on
-pub pairs_left : (n : ℕ) (ps : List (NamedValue × NamedValue)) → length (entries_of_pairs (pairs_view (drop n ps))) ≡ length ps - n
-pairs_left n ps = omega (arith, count_pairs (drop n ps), length-drop n ps)
-
 -- as many entries as fields
-count_fields : (place : ℕ) (fs : List (CowStr × NamedValue)) → length (entries_of_fields place (fields_view fs)) ≡ length fs
+pub count_fields : (place : ℕ) (fs : List (CowStr × NamedValue)) → length (entries_of_fields place (fields_view fs)) ≡ length fs
 count_fields place [] = refl
 count_fields place (f ∷ fs) = omega (arith, count_fields (suc place) fs)
-
--- as many as there are from a place on
-pub fields_left : (place n : ℕ) (fs : List (CowStr × NamedValue)) → length (entries_of_fields place (fields_view (drop n fs))) ≡ length fs - n
-fields_left place n fs = omega (arith, count_fields place (drop n fs), length-drop n fs)
 
 -- an entry whose key was read counts
 pub keyless : (es : List (Origin × Tree)) → length (without_key es) ≡ length es

@@ -12,6 +12,7 @@ mod map;
 mod node;
 mod open;
 mod parts;
+mod placed;
 mod plain;
 mod reading;
 mod refusal;

@@ -1,26 +1,29 @@
 //! The entries of a map, one after another.
-ghost use Rattle.std.specs.Prelude.{◌≡◌, Some, option_map, length, MatchResult};
+ghost use Rattle.std.specs.Prelude.{◌≡◌, Some, option_map, length, MatchResult, IsTrue};
 ghost use Rattle.content_tree.specs.Values.Value.{pairs_view, fields_view};
 ghost use Rattle.content_de.specs.Outcomes.{Answers};
 ghost use Rattle.content_de.specs.Sources.Deserializer.{flags_of, subject};
 ghost use Rattle.content_de.specs.Requests.Compounds.{entries_of_pairs, entries_of_fields};
 ghost use Rattle.content_de.specs.Accesses.Map.{map_view, entries_under, first_key, first_value};
 ghost use Rattle.content_de.specs.Accesses.Map.{first_entry, after_key, after_entry};
+ghost use Rattle.content_de.specs.Reads.Own.{IsNamed};
 
 use crate::deserializer::Deserializer;
+use crate::placed::Fields;
 use crate::refusal::custom;
 use crate::source::Settings;
 use content_tree::{CowStr, NamedValue, Result};
 use std::alloc::Global;
+use std::collections::VecDeque;
 use std::mem;
 
 /// The pairs of a map, or the fields of a struct or a variant.
 #[derive(Drop)]
 pub(crate) enum Entries<'de, 'n> {
     /// The pairs of a map.
-    Pairs(Vec<(NamedValue<'de, 'n>, NamedValue<'de, 'n>)>),
+    Pairs(VecDeque<(NamedValue<'de, 'n>, NamedValue<'de, 'n>)>),
     /// The fields of a struct or a variant.
-    Fields(Vec<(CowStr<'n>, NamedValue<'de, 'n>)>),
+    Fields(Fields<'de, 'n>),
 }
 
 /// The entries of a map, a struct or a variant that are left: each a key and a value. They are
@@ -31,7 +34,6 @@ pub(crate) enum Entries<'de, 'n> {
 #[derive(Drop)]
 pub struct Map<'de, 'n> {
     entries: Entries<'de, 'n>,
-    next: usize,
     key_taken: bool,
     settings: Settings,
 }
@@ -46,8 +48,7 @@ impl<'de, 'n> Map<'de, 'n> {
             (entries_of_pairs (pairs_view pairs.entry.items)) }
     {
         Map {
-            entries: Entries::Pairs(pairs),
-            next: 0,
+            entries: Entries::Pairs(VecDeque::from_vec(pairs)),
             key_taken: false,
             settings,
         }
@@ -62,23 +63,24 @@ impl<'de, 'n> Map<'de, 'n> {
             (entries_of_fields 0 (fields_view fields.entry.items)) }
     {
         Map {
-            entries: Entries::Fields(fields),
-            next: 0,
+            entries: Entries::Fields(Fields {
+                left: VecDeque::from_vec(fields),
+                place: 0,
+            }),
             key_taken: false,
             settings,
         }
     }
 
     /// How many entries are left, exactly; one whose key was read counts. It takes no memory.
-    #[tactic(auto, using(crate::proofs::Counts::pairs_left, crate::proofs::Counts::fields_left, crate::proofs::Counts::keyless))]
+    #[tactic(auto, using(crate::proofs::Counts::count_pairs, crate::proofs::Counts::count_fields, crate::proofs::Counts::keyless))]
     pub fn size_hint(&self) -> Option<usize>
         ensures { result ≡ Some (length (map_view self.now).entries) }
     {
-        let all = match &self.entries {
-            Entries::Pairs(pairs) => pairs.len(),
-            Entries::Fields(fields) => fields.len(),
-        };
-        Some(all.saturating_sub(self.next))
+        match &self.entries {
+            Entries::Pairs(pairs) => Some(pairs.len()),
+            Entries::Fields(fields) => Some(fields.left.len()),
+        }
     }
 
     /// The key of the next entry, or none at the end. The entry stays, with the unit as its key.
@@ -97,53 +99,95 @@ impl<'de, 'n> Map<'de, 'n> {
         ensures rest { map_view self.new ≡ after_key (map_view self.old) }
     {
         match &mut self.entries {
-            Entries::Pairs(pairs) => {
-                if self.next < pairs.len() {
-                    let key = mem::replace(&mut pairs[self.next].0, NamedValue::Unit);
-                    return Some(Deserializer::inside(key, self.settings));
+            Entries::Pairs(pairs) => match pairs.front_mut() {
+                Some(pair) => {
+                    let key = mem::replace(&mut pair.0, NamedValue::Unit);
+                    Some(Deserializer::inside(key, self.settings))
                 }
-                None
-            }
-            Entries::Fields(fields) => {
-                if self.next < fields.len() {
-                    let name = mem::replace(&mut fields[self.next].0, CowStr::Borrowed(""));
+                None => None,
+            },
+            Entries::Fields(fields) => match fields.left.front_mut() {
+                Some(field) => {
                     if self.key_taken {
                         return Some(Deserializer::inside(NamedValue::Unit, self.settings));
                     }
                     self.key_taken = true;
-                    return Some(Deserializer::identifier(name, self.next as u64, self.settings));
+                    let name = mem::replace(&mut field.0, CowStr::Borrowed(""));
+                    Some(Deserializer::identifier(name, fields.place, self.settings))
                 }
-                None
-            }
+                None => None,
+            },
+        }
+    }
+
+    /// Whether the key of the next entry is a text, and this one. Where that is not plain to see
+    /// the answer may be no.
+    pub(crate) fn next_is_named(&self, name: &str) -> bool
+        ensures { IsTrue result → IsNamed name.now (first_entry (map_view self.now)) }
+    {
+        match &self.entries {
+            Entries::Fields(fields) => match fields.left.front() {
+                Some(field) => !self.key_taken && field.0.as_str() == name,
+                None => false,
+            },
+            Entries::Pairs(pairs) => match pairs.front() {
+                Some((NamedValue::String(text), _)) => text.as_str() == name,
+                _ => false,
+            },
         }
     }
 
     /// The value of the next entry.
+    #[inline(always)]
     pub(crate) fn take_value(&mut self) -> Option<Deserializer<'de, 'n>>
         ensures value { option_map subject result
             ≡ option_map (λ e. e.1) (first_entry (map_view self.old)) }
         ensures rest { map_view self.new ≡ after_entry (map_view self.old) }
     {
-        match &mut self.entries {
-            Entries::Pairs(pairs) => {
-                if self.next < pairs.len() {
-                    let value = mem::replace(&mut pairs[self.next].1, NamedValue::Unit);
-                    self.next += 1;
-                    self.key_taken = false;
-                    return Some(Deserializer::inside(value, self.settings));
+        let value = match &mut self.entries {
+            Entries::Pairs(pairs) => match pairs.pop_front() {
+                Some((_, value)) => value,
+                None => return None,
+            },
+            Entries::Fields(fields) => match fields.left.pop_front() {
+                Some((_, value)) => {
+                    fields.place += 1;
+                    value
                 }
-                None
-            }
-            Entries::Fields(fields) => {
-                if self.next < fields.len() {
-                    let value = mem::replace(&mut fields[self.next].1, NamedValue::Unit);
-                    self.next += 1;
-                    self.key_taken = false;
-                    return Some(Deserializer::inside(value, self.settings));
+                None => return None,
+            },
+        };
+        self.key_taken = false;
+        Some(Deserializer::inside(value, self.settings))
+    }
+
+    /// The key and the value of the next entry.
+    #[inline(always)]
+    pub(crate) fn take_entry(&mut self) -> Option<(Deserializer<'de, 'n>, Deserializer<'de, 'n>)>
+        ensures value { option_map (λ e. (subject e.0, subject e.1)) result
+            ≡ first_entry (map_view self.old) }
+        ensures rest { map_view self.new ≡ after_entry (map_view self.old) }
+    {
+        let (key, value) = match &mut self.entries {
+            Entries::Pairs(pairs) => match pairs.pop_front() {
+                Some((key, value)) => (Deserializer::inside(key, self.settings), value),
+                None => return None,
+            },
+            Entries::Fields(fields) => match fields.left.pop_front() {
+                Some((name, value)) => {
+                    let place = fields.place;
+                    fields.place += 1;
+                    if self.key_taken {
+                        (Deserializer::inside(NamedValue::Unit, self.settings), value)
+                    } else {
+                        (Deserializer::identifier(name, place, self.settings), value)
+                    }
                 }
-                None
-            }
-        }
+                None => return None,
+            },
+        };
+        self.key_taken = false;
+        Some((key, Deserializer::inside(value, self.settings)))
     }
 
     /// The value of the next entry, which is taken away whether or not its key was read. It takes
@@ -173,12 +217,6 @@ impl<'de, 'n> Map<'de, 'n> {
             ≡ first_entry (map_view self.old)) (λ e. ⊥) }
         ensures rest { map_view self.new ≡ after_entry (map_view self.old) }
     {
-        let Some(key) = self.take_key() else {
-            return Ok(None);
-        };
-        match self.take_value() {
-            Some(value) => Ok(Some((key, value))),
-            None => Ok(None),
-        }
+        Ok(self.take_entry())
     }
 }

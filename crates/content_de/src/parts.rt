@@ -73,6 +73,26 @@ pub fn next_field<'de, 'n: 'de, T: Deserialize<'de>>(
         (FieldGives T.gives (first_entry (map_view from.old))) result }
     ensures rest { map_view from.new ≡ after_entry (map_view from.old) }
 {
+    if from.next_is_named(name) {
+        if let Some(value) = from.take_value() {
+            return T::deserialize(alloc, value);
+        }
+    }
+    read_field(alloc, from, name)
+}
+
+/// The same for any field, also where there is none or its name is another.
+#[cold]
+#[inline(never)]
+fn read_field<'de, 'n: 'de, T: Deserialize<'de>>(
+    alloc: Global,
+    from: &mut Map<'de, 'n>,
+    name: &str,
+) -> Result<T>
+    ensures value { Reads (field_refusal name.now T.refusal (first_entry (map_view from.old)))
+        (FieldGives T.gives (first_entry (map_view from.old))) result }
+    ensures rest { map_view from.new ≡ after_entry (map_view from.old) }
+{
     match from.next_entry::<CowStr<'de>, T>(alloc)? {
         None => Err(custom(alloc, "missing field")),
         Some((key, value)) => {
@@ -86,6 +106,8 @@ pub fn next_field<'de, 'n: 'de, T: Deserialize<'de>>(
 }
 
 /// The error of items that ended too early.
+#[cold]
+#[inline(never)]
 fn too_few(alloc: Global, expected: usize, found: usize) -> Error
     ensures { cause result ≢ out_of_memory → cause result ≡ too_few expected found }
 {

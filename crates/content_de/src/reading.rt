@@ -106,10 +106,7 @@ impl<'de, 'n> Map<'de, 'n> {
             (first_entry (map_view self.old)) result }
         ensures rest { map_view self.new ≡ after_entry (map_view self.old) }
     {
-        let Some(key) = self.take_key() else {
-            return Ok(None);
-        };
-        let Some(value) = self.take_value() else {
+        let Some((key, value)) = self.take_entry() else {
             return Ok(None);
         };
         let key = K::deserialize(alloc, key)?;

@@ -8,14 +8,13 @@ ghost use Rattle.content_de.specs.Accesses.Seq.{count};
 use crate::deserializer::Deserializer;
 use crate::source::Settings;
 use content_tree::NamedValue;
-use std::mem;
+use std::collections::VecDeque;
 
 /// The items of a sequence, a tuple or a tuple struct that are left. They are moved out one by
 /// one, each in constant time and without memory.
 #[derive(Drop)]
 pub struct Seq<'de, 'n> {
-    items: Vec<NamedValue<'de, 'n>>,
-    next: usize,
+    items: VecDeque<NamedValue<'de, 'n>>,
     settings: Settings,
 }
 
@@ -25,18 +24,17 @@ impl<'de, 'n> Seq<'de, 'n> {
         ensures { seq_view result ≡ items_under (flags_of settings) (trees_view items.entry.items) }
     {
         Seq {
-            items,
-            next: 0,
+            items: VecDeque::from_vec(items),
             settings,
         }
     }
 
     /// How many items are left, exactly. It takes no memory.
-    #[tactic(auto, using(crate::proofs::Counts::count_left))]
+    #[tactic(auto, using(crate::proofs::Counts::count_values))]
     pub fn size_hint(&self) -> Option<usize>
         ensures { result ≡ Some (count (seq_view self.now).items) }
     {
-        Some(self.items.len().saturating_sub(self.next))
+        Some(self.items.len())
     }
 
     /// The next item, to be read under the flags of the sequence, or none at the end. It takes no
@@ -45,11 +43,9 @@ impl<'de, 'n> Seq<'de, 'n> {
         ensures value { option_map subject result ≡ first_item (seq_view self.old) }
         ensures rest { seq_view self.new ≡ after_item (seq_view self.old) }
     {
-        if self.next < self.items.len() {
-            let item = mem::replace(&mut self.items[self.next], NamedValue::Unit);
-            self.next += 1;
-            return Some(Deserializer::inside(item, self.settings));
+        match self.items.pop_front() {
+            Some(item) => Some(Deserializer::inside(item, self.settings)),
+            None => None,
         }
-        None
     }
 }

@@ -1,5 +1,5 @@
 -- What a map has left.
-use Rattle.std.specs.Prelude.{ℕ, List, [], ◌∷◌, Bool, true, false, Option, Some, None, drop, codes}
+use Rattle.std.specs.Prelude.{ℕ, List, [], ◌∷◌, Bool, true, false, Option, Some, None, codes}
 use Rattle.content_tree.specs.Values.Tree.{Tree, unit}
 use Rattle.content_tree.specs.Values.Value.{pairs_view, fields_view}
 use Rattle.content_tree.specs.Errors.Cause.{custom}
@@ -31,16 +31,16 @@ abbrev pub without_entry : List (Origin × Tree) → List (Origin × Tree)
 without_entry [] = []
 without_entry (e ∷ es) = es
 
--- the entries from this place on; a pair whose key was handed out has a unit there already
-abbrev pub entries_view : Entries → (next : ℕ) → (key_taken : Bool) → List (Origin × Tree)
-entries_view (entries.Pairs v) next key_taken = entries_of_pairs (pairs_view (drop next v.items))
-entries_view (entries.Fields v) next false = entries_of_fields next (fields_view (drop next v.items))
-entries_view (entries.Fields v) next true =
-    without_key (entries_of_fields next (fields_view (drop next v.items)))
+-- the entries that are left; a pair whose key was handed out has a unit there already
+abbrev pub entries_view : Entries → (key_taken : Bool) → List (Origin × Tree)
+entries_view (entries.Pairs q) key_taken = entries_of_pairs (pairs_view q.items)
+entries_view (entries.Fields f) false = entries_of_fields f.place (fields_view f.left.items)
+entries_view (entries.Fields f) true =
+    without_key (entries_of_fields f.place (fields_view f.left.items))
 
 -- what a `Map` stands for
 abbrev pub map_view : Map → MapLeft
-map_view m = entries_under (flags_of m.settings) (entries_view m.entries m.next m.key_taken)
+map_view m = entries_under (flags_of m.settings) (entries_view m.entries m.key_taken)
 
 -- the first key
 abbrev pub first_key : MapLeft → Option Subject

@@ -1,5 +1,5 @@
 -- What a sequence has left.
-use Rattle.std.specs.Prelude.{ℕ, ◌+◌, List, Option, Some, None, drop}
+use Rattle.std.specs.Prelude.{ℕ, ◌+◌, List, Option, Some, None}
 use Rattle.content_tree.specs.Values.Tree.{Trees, no_trees, tree_then}
 use Rattle.content_tree.specs.Values.Value.{trees_view}
 use Rattle.content_de.specs.Sources.Origin.{Flags, Subject, tree_under}
@@ -15,7 +15,7 @@ pub record SeqLeft : Type 0 where
 
 -- what a `Seq` stands for
 abbrev pub seq_view : Seq → SeqLeft
-seq_view s = record { items = trees_view (drop s.next s.items.items); flags = flags_of s.settings }
+seq_view s = record { items = trees_view s.items.items; flags = flags_of s.settings }
 
 -- items under these flags
 abbrev pub items_under : Flags → Trees → SeqLeft

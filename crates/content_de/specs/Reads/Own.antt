@@ -1,5 +1,5 @@
 -- What a type of your own reads: structs by the names of their fields, and enums by their tag.
-use Rattle.std.specs.Prelude.{ℕ, List, Option, Some, None, ◌≡◌, ⊤, codes, cond}
+use Rattle.std.specs.Prelude.{ℕ, List, Option, Some, None, ◌≡◌, ⊤, codes, cond, IsTrue}
 use Rattle.std.specs.Str.{bytes_eq}
 use Rattle.content_tree.specs.Errors.Cause.{Cause, custom}
 use Rattle.content_de.specs.Sources.Origin.{Subject}
@@ -49,6 +49,11 @@ abbrev pub field_refusal : List ℕ → Refusal → Option (Subject × Subject) 
 field_refusal name refusal None = Some (custom (codes "missing field"))
 field_refusal name refusal (Some e) = refusal_then (text_from e.0.origin)
     (λ key. first_of (refusal e.1) (unless_named name key.content (custom (codes "unexpected field"))))
+
+-- there is such an entry, and its key is a text, of this name
+abbrev pub IsNamed : List ℕ → Option (Subject × Subject) → Type 0
+IsNamed name None = ⊥
+IsNamed name (Some e) = IsTaken (text_from e.0.origin) (λ key. IsTrue (bytes_eq key.content name))
 
 -- what the field may give
 abbrev pub FieldGives : {A : Type 0} → Gives A → Option (Subject × Subject) → A → Type 0

@@ -56,7 +56,7 @@ fn read_items<'de, 'n: 'de, T: Deserialize<'de>>(
     ensures { Reads (seq_refusal T.refusal (seq_view from.entry))
         (λ v. SeqGives T.gives (seq_view from.entry) v.items) result }
 {
-    let mut items = Vec::new(alloc);
+    let mut items = Vec::with_capacity(alloc, from.size_hint().unwrap_or(0))?;
     while let Some(item) = from.next_deserializer() {
         items.push(T::deserialize(alloc, item)?)?;
     }

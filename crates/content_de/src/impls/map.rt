@@ -33,9 +33,9 @@ fn read_entries<'de, 'n: 'de, K: Deserialize<'de> + Ord, V: Deserialize<'de>>(
         (λ v. MapGives K.gives V.gives K.cmp (map_view from.entry) [] v.entries) result }
 {
     let mut map = BTreeMap::new(alloc);
-    while let Some(key) = from.take_key() {
-        let key = K::deserialize(alloc, key)?;
-        let value = V::deserialize(alloc, from.next_value_deserializer(alloc)?)?;
+    while let Some(entry) = from.take_entry() {
+        let key = K::deserialize(alloc, entry.0)?;
+        let value = V::deserialize(alloc, entry.1)?;
         map.insert(key, value)?;
     }
     Ok(map)

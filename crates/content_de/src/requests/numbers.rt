@@ -29,6 +29,22 @@ impl<'de, 'n> Deserializer<'de, 'n> {
         ensures { Answers (λ z. z) (number_from i8 (subject self.entry)) result }
     {
         match self.source {
+            Source::Tree(NamedValue::Number(Number::I8(value))) => Ok(value),
+            source => Deserializer {
+                source,
+                settings: self.settings,
+            }
+            .coerced_i8(alloc),
+        }
+    }
+
+    /// The same for what isn't plainly of that kind. It stands apart, so that no error lies in
+    /// the frame of a request for what is.
+    #[inline(never)]
+    fn coerced_i8(self, alloc: Global) -> Result<i8>
+        ensures { Answers (λ z. z) (number_from i8 (subject self.entry)) result }
+    {
+        match self.source {
             Source::Tree(NamedValue::Number(number)) => match as_i8(number, self.settings.coerces) {
                 Some(value) => Ok(value),
                 None => Err(Error::unexpected(Found::Number(number), Expected::I8)),
@@ -42,6 +58,22 @@ impl<'de, 'n> Deserializer<'de, 'n> {
         ensures { Answers pos (number_from u8 (subject self.entry)) result }
     {
         match self.source {
+            Source::Tree(NamedValue::Number(Number::U8(value))) => Ok(value),
+            source => Deserializer {
+                source,
+                settings: self.settings,
+            }
+            .coerced_u8(alloc),
+        }
+    }
+
+    /// The same for what isn't plainly of that kind. It stands apart, so that no error lies in
+    /// the frame of a request for what is.
+    #[inline(never)]
+    fn coerced_u8(self, alloc: Global) -> Result<u8>
+        ensures { Answers pos (number_from u8 (subject self.entry)) result }
+    {
+        match self.source {
             Source::Tree(NamedValue::Number(number)) => match as_u8(number, self.settings.coerces) {
                 Some(value) => Ok(value),
                 None => Err(Error::unexpected(Found::Number(number), Expected::U8)),
@@ -52,6 +84,22 @@ impl<'de, 'n> Deserializer<'de, 'n> {
 
     /// The datum as a signed number of 16 bits.
     pub fn deserialize_i16(self, alloc: Global) -> Result<i16>
+        ensures { Answers (λ z. z) (number_from i16 (subject self.entry)) result }
+    {
+        match self.source {
+            Source::Tree(NamedValue::Number(Number::I16(value))) => Ok(value),
+            source => Deserializer {
+                source,
+                settings: self.settings,
+            }
+            .coerced_i16(alloc),
+        }
+    }
+
+    /// The same for what isn't plainly of that kind. It stands apart, so that no error lies in
+    /// the frame of a request for what is.
+    #[inline(never)]
+    fn coerced_i16(self, alloc: Global) -> Result<i16>
         ensures { Answers (λ z. z) (number_from i16 (subject self.entry)) result }
     {
         match self.source {
@@ -71,6 +119,22 @@ impl<'de, 'n> Deserializer<'de, 'n> {
         ensures { Answers pos (number_from u16 (subject self.entry)) result }
     {
         match self.source {
+            Source::Tree(NamedValue::Number(Number::U16(value))) => Ok(value),
+            source => Deserializer {
+                source,
+                settings: self.settings,
+            }
+            .coerced_u16(alloc),
+        }
+    }
+
+    /// The same for what isn't plainly of that kind. It stands apart, so that no error lies in
+    /// the frame of a request for what is.
+    #[inline(never)]
+    fn coerced_u16(self, alloc: Global) -> Result<u16>
+        ensures { Answers pos (number_from u16 (subject self.entry)) result }
+    {
+        match self.source {
             Source::Tree(NamedValue::Number(number)) => match as_u16(
                 number,
                 self.settings.coerces,
@@ -84,6 +148,22 @@ impl<'de, 'n> Deserializer<'de, 'n> {
 
     /// The datum as a signed number of 32 bits.
     pub fn deserialize_i32(self, alloc: Global) -> Result<i32>
+        ensures { Answers (λ z. z) (number_from i32 (subject self.entry)) result }
+    {
+        match self.source {
+            Source::Tree(NamedValue::Number(Number::I32(value))) => Ok(value),
+            source => Deserializer {
+                source,
+                settings: self.settings,
+            }
+            .coerced_i32(alloc),
+        }
+    }
+
+    /// The same for what isn't plainly of that kind. It stands apart, so that no error lies in
+    /// the frame of a request for what is.
+    #[inline(never)]
+    fn coerced_i32(self, alloc: Global) -> Result<i32>
         ensures { Answers (λ z. z) (number_from i32 (subject self.entry)) result }
     {
         match self.source {
@@ -103,6 +183,22 @@ impl<'de, 'n> Deserializer<'de, 'n> {
         ensures { Answers pos (number_from u32 (subject self.entry)) result }
     {
         match self.source {
+            Source::Tree(NamedValue::Number(Number::U32(value))) => Ok(value),
+            source => Deserializer {
+                source,
+                settings: self.settings,
+            }
+            .coerced_u32(alloc),
+        }
+    }
+
+    /// The same for what isn't plainly of that kind. It stands apart, so that no error lies in
+    /// the frame of a request for what is.
+    #[inline(never)]
+    fn coerced_u32(self, alloc: Global) -> Result<u32>
+        ensures { Answers pos (number_from u32 (subject self.entry)) result }
+    {
+        match self.source {
             Source::Tree(NamedValue::Number(number)) => match as_u32(
                 number,
                 self.settings.coerces,
@@ -116,6 +212,22 @@ impl<'de, 'n> Deserializer<'de, 'n> {
 
     /// The datum as a signed number of 64 bits.
     pub fn deserialize_i64(self, alloc: Global) -> Result<i64>
+        ensures { Answers (λ z. z) (number_from i64 (subject self.entry)) result }
+    {
+        match self.source {
+            Source::Tree(NamedValue::Number(Number::I64(value))) => Ok(value),
+            source => Deserializer {
+                source,
+                settings: self.settings,
+            }
+            .coerced_i64(alloc),
+        }
+    }
+
+    /// The same for what isn't plainly of that kind. It stands apart, so that no error lies in
+    /// the frame of a request for what is.
+    #[inline(never)]
+    fn coerced_i64(self, alloc: Global) -> Result<i64>
         ensures { Answers (λ z. z) (number_from i64 (subject self.entry)) result }
     {
         match self.source {
@@ -133,6 +245,22 @@ impl<'de, 'n> Deserializer<'de, 'n> {
     /// The datum as an unsigned number of 64 bits. The name of a field is its place, and that of a
     /// variant its index.
     pub fn deserialize_u64(self, alloc: Global) -> Result<u64>
+        ensures { Answers pos (number_from u64 (subject self.entry)) result }
+    {
+        match self.source {
+            Source::Tree(NamedValue::Number(Number::U64(value))) => Ok(value),
+            source => Deserializer {
+                source,
+                settings: self.settings,
+            }
+            .coerced_u64(alloc),
+        }
+    }
+
+    /// The same for what isn't plainly of that kind. It stands apart, so that no error lies in
+    /// the frame of a request for what is.
+    #[inline(never)]
+    fn coerced_u64(self, alloc: Global) -> Result<u64>
         ensures { Answers pos (number_from u64 (subject self.entry)) result }
     {
         match self.source {
@@ -154,6 +282,22 @@ impl<'de, 'n> Deserializer<'de, 'n> {
         ensures { Answers (λ z. z) (number_from i128 (subject self.entry)) result }
     {
         match self.source {
+            Source::Tree(NamedValue::Number(Number::I128(value))) => Ok(value),
+            source => Deserializer {
+                source,
+                settings: self.settings,
+            }
+            .coerced_i128(alloc),
+        }
+    }
+
+    /// The same for what isn't plainly of that kind. It stands apart, so that no error lies in
+    /// the frame of a request for what is.
+    #[inline(never)]
+    fn coerced_i128(self, alloc: Global) -> Result<i128>
+        ensures { Answers (λ z. z) (number_from i128 (subject self.entry)) result }
+    {
+        match self.source {
             Source::Tree(NamedValue::Number(number)) => match as_i128(
                 number,
                 self.settings.coerces,
@@ -169,6 +313,22 @@ impl<'de, 'n> Deserializer<'de, 'n> {
     /// The datum as an unsigned number of 128 bits. A name is refused by the text `u128 is not
     /// supported`.
     pub fn deserialize_u128(self, alloc: Global) -> Result<u128>
+        ensures { Answers pos (number_from u128 (subject self.entry)) result }
+    {
+        match self.source {
+            Source::Tree(NamedValue::Number(Number::U128(value))) => Ok(value),
+            source => Deserializer {
+                source,
+                settings: self.settings,
+            }
+            .coerced_u128(alloc),
+        }
+    }
+
+    /// The same for what isn't plainly of that kind. It stands apart, so that no error lies in
+    /// the frame of a request for what is.
+    #[inline(never)]
+    fn coerced_u128(self, alloc: Global) -> Result<u128>
         ensures { Answers pos (number_from u128 (subject self.entry)) result }
     {
         match self.source {

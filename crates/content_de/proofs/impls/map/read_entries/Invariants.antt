@@ -4,11 +4,11 @@ use Rattle.content_de.specs.Reads.Maps.{map_refusal, MapGives}
 use Rattle.content_de.proofs.impls.map.read_entries.Given as goal
 
 -- what is left is refused where all is, and where it leads from the map so far, all leads from none
-abbrev pub invariant-loop-key : goal.invariant-loop-key
-invariant-loop-key g l = record {
+abbrev pub invariant-loop-entry : goal.invariant-loop-entry
+invariant-loop-entry g l = record {
   refusal : map_refusal g.K.Deserialize.refusal g.V.Deserialize.refusal (map_view l.from) ≡ map_refusal g.K.Deserialize.refusal g.V.Deserialize.refusal (map_view l.initial.from);
   gives : (new : List _) → MapGives g.K.Deserialize.gives g.V.Deserialize.gives g.K.Ord.cmp (map_view l.from) l.map.entries new → MapGives g.K.Deserialize.gives g.V.Deserialize.gives g.K.Ord.cmp (map_view l.initial.from) [] new;
 }
 
-abbrev pub decreases-loop-key : goal.decreases-loop-key
-decreases-loop-key g l = length (map_view l.from).entries
+abbrev pub decreases-loop-entry : goal.decreases-loop-entry
+decreases-loop-entry g l = length (map_view l.from).entries
