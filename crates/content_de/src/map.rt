@@ -120,8 +120,8 @@ impl<'de, 'n> Map<'de, 'n> {
         }
     }
 
-    /// Whether the key of the next entry is a text, and this one. Where that is not plain to see
-    /// the answer may be no.
+    /// Whether the key of the next entry is a text, and this one. A key that was handed out is
+    /// none.
     pub(crate) fn next_is_named(&self, name: &str) -> bool
         ensures { IsTrue result → IsNamed name.now (first_entry (map_view self.now)) }
     {

@@ -4,4 +4,5 @@ mod examples;
 mod for_people;
 mod hostile;
 mod own_serializer;
+mod own_structs;
 mod own_types;

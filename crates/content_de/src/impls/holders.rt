@@ -37,7 +37,7 @@ impl<'de, T: Deserialize<'de>> Deserialize<'de> for Box<T> {
     }
 }
 
-/// The items of a sequence, to the end.
+/// The items of a sequence, to the end. Memory for all of them is taken before the first is read.
 impl<'de, T: Deserialize<'de>> Deserialize<'de> for Vec<T> {
     ghost refusal = { λ s. refusal_then (seq_at s) (seq_refusal T.refusal) };
 
