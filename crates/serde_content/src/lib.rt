@@ -9,9 +9,11 @@ pub use content_tree::{
     CowBytes, CowStr, Data, DataType, Enum, Error, ErrorKind, Expected, Found, FoundData,
     NamedData, NamedEnum, NamedStruct, NamedValue, Number, Result, Struct, Unexpected, Value,
 };
+pub use round::{RoundTrip, round_trip};
 
 pub mod de;
 pub mod laws;
+mod round;
 pub mod samples;
 pub mod ser;
 #[cfg(test)]

@@ -6,3 +6,4 @@ mod hostile;
 mod own_serializer;
 mod own_structs;
 mod own_types;
+mod round_trips;

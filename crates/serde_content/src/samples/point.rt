@@ -6,7 +6,13 @@ ghost use Rattle.content_ser.specs.Laws.OwnScripts.{field_fits, struct_end_fits,
 ghost use Rattle.content_ser.specs.Scripts.Own.{end_script, field_first, struct_script};
 ghost use Rattle.content_de.specs.Reads.Own.{struct_refusal, field_then, no_field};
 ghost use Rattle.content_de.specs.Reads.Own.{StructGives, FieldThen, NoField};
+ghost use Rattle.serde_content.specs.Laws.Records.{field_back, fields_end_back, struct_back};
+ghost use Rattle.serde_content.specs.Laws.Records.{field_keeps, fields_end_keeps, struct_keeps};
+ghost use Rattle.serde_content.specs.Laws.Rows.{both_hold};
+ghost use Rattle.serde_content.specs.Laws.Leaves.{i32_back, integer_keeps};
+ghost use Rattle.content_tree.specs.Values.Ranges as kind;
 
+use crate::round::RoundTrip;
 use content_de::{Deserialize, Deserializer, next_field};
 use content_ser::{Call, Parts, Serialize, Serializer};
 use content_tree::Result;
@@ -56,4 +62,19 @@ impl<'de> Deserialize<'de> for Point {
         let y = next_field(alloc, &mut fields, "y")?;
         Ok(Point { x, y })
     }
+}
+
+impl<'de> RoundTrip<'de> for Point {
+    ghost comes_back = { record {
+      of_value = λ p f. struct_back
+          (field_back (codes "x") i32_back p.x (λ q. q.x)
+          (field_back (codes "y") i32_back p.y (λ q. q.y)
+          fields_end_back))
+          f (λ q h. both_hold h.0 h.1.0);
+    } };
+
+    ghost keeps = { struct_keeps (codes "Point")
+        (field_keeps (codes "x") (λ q. q.x) (integer_keeps kind.i32)
+        (field_keeps (codes "y") (λ q. q.y) (integer_keeps kind.i32)
+        fields_end_keeps)) };
 }

@@ -1,6 +1,6 @@
 //! An enum of a caller's own, with a variant of each sort.
 
-ghost use Rattle.std.specs.Prelude.{◌≡◌, codes, refl};
+ghost use Rattle.std.specs.Prelude.{◌≡◌, ℕ, ℤ, codes, refl};
 ghost use Rattle.content_ser.specs.Laws.StandardScripts.{leaf_lawful};
 ghost use Rattle.content_ser.specs.Laws.OwnScripts.{field_fits, newtype_variant_lawful};
 ghost use Rattle.content_ser.specs.Laws.OwnScripts.{struct_end_fits, struct_variant_lawful};
@@ -16,8 +16,20 @@ ghost use Rattle.content_de.specs.Reads.Own.{unit_variant_refusal, UnitVariantGi
 ghost use Rattle.content_de.specs.Reads.Own.{newtype_variant_refusal, NewtypeVariantGives};
 ghost use Rattle.content_de.specs.Reads.Own.{tuple_variant_refusal, TupleVariantGives};
 ghost use Rattle.content_de.specs.Reads.Own.{struct_variant_refusal, StructVariantGives};
+ghost use Rattle.content_tree.specs.Values.Ranges as kind;
 ghost use Rattle.serde_content.specs.declared.samples.shape.Shape.TheVariants as shape;
+ghost use Rattle.serde_content.specs.Laws.Leaves.{i32_back, u32_back, integer_keeps, natural_keeps};
+ghost use Rattle.serde_content.specs.Laws.Rows.{both_hold, tuple_field_back, parts_end};
+ghost use Rattle.serde_content.specs.Laws.Rows.{part_keeps, parts_end_keeps};
+ghost use Rattle.serde_content.specs.Laws.Records.{field_back, fields_end_back};
+ghost use Rattle.serde_content.specs.Laws.Records.{field_keeps, fields_end_keeps};
+ghost use Rattle.serde_content.specs.Laws.Variants.{variant_back, unit_variant_back};
+ghost use Rattle.serde_content.specs.Laws.Variants.{newtype_variant_back, tuple_variant_back};
+ghost use Rattle.serde_content.specs.Laws.Variants.{struct_variant_back, other_variant, variant_kept};
+ghost use Rattle.serde_content.specs.Laws.Variants.{unit_variant_keeps, newtype_variant_keeps};
+ghost use Rattle.serde_content.specs.Laws.Variants.{tuple_variant_keeps, struct_variant_keeps};
 
+use crate::round::RoundTrip;
 use content_de::{Deserialize, Deserializer, next_field, two_parts};
 use content_ser::{Call, Parts, Serialize, Serializer};
 use content_tree::{CowStr, Error, Result};
@@ -143,4 +155,79 @@ impl<'de> Deserialize<'de> for Shape {
             _ => Err(Error::custom(alloc, "unknown variant")),
         }
     }
+}
+
+impl<'de> RoundTrip<'de> for Shape {
+    ghost comes_back = { record {
+      of_value = elim [
+        | shape.Dot ↦ λ f. variant_back Self.refusal Self.gives unit_variant_back f (λ d. refl)
+            (λ d only. elim [
+              | shape.Dot ↦ λ it. refl
+              | shape.Ring r ↦ λ it. other_variant it.0 refl
+              | shape.Span a b ↦ λ it. other_variant it.0 refl
+              | shape.Area w h ↦ λ it. other_variant it.0 refl
+            ])
+        | shape.Ring r ↦ λ f. variant_back Self.refusal Self.gives
+            (newtype_variant_back u32_back r) f (λ d. refl)
+            (λ d only. elim [
+              | shape.Dot ↦ λ it. other_variant it.0 refl
+              | shape.Ring s ↦ λ it. only s it.1
+              | shape.Span a b ↦ λ it. other_variant it.0 refl
+              | shape.Area w h ↦ λ it. other_variant it.0 refl
+            ])
+        | shape.Span a b ↦ λ f. variant_back Self.refusal Self.gives
+            (tuple_variant_back
+            (tuple_field_back i32_back a (λ (z : ℤ × ℤ). z.0) 2 0
+            (tuple_field_back i32_back b (λ (z : ℤ × ℤ). z.1) 2 1
+            parts_end)))
+            f (λ d. refl)
+            (λ d only. elim [
+              | shape.Dot ↦ λ it. other_variant it.0 refl
+              | shape.Ring r ↦ λ it. other_variant it.0 refl
+              | shape.Span c e ↦ λ it. let same = only (c, e) it.1 in both_hold same.0 same.1.0
+              | shape.Area w h ↦ λ it. other_variant it.0 refl
+            ])
+        | shape.Area w h ↦ λ f. variant_back Self.refusal Self.gives
+            (struct_variant_back
+            (field_back (codes "w") u32_back w (λ (z : ℕ × ℕ). z.0)
+            (field_back (codes "h") u32_back h (λ (z : ℕ × ℕ). z.1)
+            fields_end_back)))
+            f (λ d. refl)
+            (λ d only. elim [
+              | shape.Dot ↦ λ it. other_variant it.0 refl
+              | shape.Ring r ↦ λ it. other_variant it.0 refl
+              | shape.Span a b ↦ λ it. other_variant it.0 refl
+              | shape.Area v k ↦ λ it. let same = only (v, k) it.1 in both_hold same.0 same.1.0
+            ])
+      ];
+    } };
+
+    ghost keeps = { record {
+      of_origin = λ o people. elim [
+        | shape.Dot ↦ λ p.
+            let q = variant_kept (codes "Shape") (codes "Dot") _ (λ v. refl) unit_variant_keeps
+            o people tt p.free p.given in
+            record { free = q.0; given = q.1 }
+        | shape.Ring r ↦ λ p.
+            let q = variant_kept (codes "Shape") (codes "Ring") _ (λ v. refl)
+            (newtype_variant_keeps (natural_keeps kind.u32)) o people r p.free p.given in
+            record { free = q.0; given = q.1 }
+        | shape.Span a b ↦ λ p.
+            let q = variant_kept (codes "Shape") (codes "Span") _ (λ v. refl)
+            (tuple_variant_keeps
+            (part_keeps (λ (z : ℤ × ℤ). z.0) 2 0 (integer_keeps kind.i32)
+            (part_keeps (λ (z : ℤ × ℤ). z.1) 2 1 (integer_keeps kind.i32)
+            parts_end_keeps)))
+            o people (a, b) p.free p.given in
+            record { free = q.0; given = q.1 }
+        | shape.Area w h ↦ λ p.
+            let q = variant_kept (codes "Shape") (codes "Area") _ (λ v. refl)
+            (struct_variant_keeps
+            (field_keeps (codes "w") (λ (z : ℕ × ℕ). z.0) (natural_keeps kind.u32)
+            (field_keeps (codes "h") (λ (z : ℕ × ℕ). z.1) (natural_keeps kind.u32)
+            fields_end_keeps)))
+            o people (w, h) p.free p.given in
+            record { free = q.0; given = q.1 }
+      ];
+    } };
 }

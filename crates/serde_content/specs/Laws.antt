@@ -1,0 +1,6 @@
+pub mod Spelled
+pub mod Leaves
+pub mod Holders
+pub mod Rows
+pub mod Records
+pub mod Variants

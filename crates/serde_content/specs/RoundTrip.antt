@@ -1,0 +1,44 @@
+-- What a round trip means: a value is sent, and the tree that its calls spell is read again.
+use Rattle.std.specs.Prelude.{◌≡◌, Bool, true, false, Option, None}
+use Rattle.content_tree.specs.Values.Tree.{Tree}
+use Rattle.content_tree.specs.Errors.Cause.{Cause}
+use Rattle.content_ser.specs.Scripts.Script.{Script, calls_of, stop_of}
+use Rattle.content_ser.specs.Scripts.Standard.{ScriptOf}
+use Rattle.content_ser.specs.Grammar.Spells.{SpellsWhole}
+use Rattle.content_de.specs.Sources.Origin.{Origin, Flags, Subject, tree_under}
+use Rattle.content_de.specs.Reads.Read.{Refusal, Gives}
+
+-- the script has no stop, and the tree that its calls spell is such a one
+pub record SpellsSuch (such_tree : Tree → Type 0) (sc : Script) : Type 0 where
+  pub free : stop_of sc ≡ None
+  pub whole : Tree
+  pub spelled : SpellsWhole (calls_of sc) whole
+  pub such : such_tree whole
+
+-- there is no refusal, and each value that may be given is such a one
+pub record GivesOnly {A : Type 0} (refusal : Option Cause) (gives such : A → Type 0) : Type 0 where
+  pub free : refusal ≡ None
+  pub only : (x : A) → gives x → such x
+
+-- a value is sent as a tree that, read for people where it was sent for people, with or without coercion, gives an equal value
+pub record ComesBack {A : Type 0} (script : ScriptOf A) (refusal : Refusal) (gives : Gives A) (eq : A → A → Bool) : Type 0 where
+  pub of_value : (x : A) (f : Flags) → SpellsSuch (λ t. GivesOnly (refusal (tree_under f t)) (gives (tree_under f t)) (λ y. eq x y ≡ true)) (script x f.human_readable)
+
+-- there is no refusal, and this value may be given
+pub record MayGive {A : Type 0} (refusal : Option Cause) (gives : A → Type 0) (x : A) : Type 0 where
+  pub free : refusal ≡ None
+  pub given : gives x
+
+-- the two flags
+abbrev pub flags : (human_readable coerces : Bool) → Flags
+flags h c = record { human_readable = h; coerces = c }
+
+-- an origin with its flags
+abbrev pub under : Flags → Origin → Subject
+under f o = record { origin = o; flags = f }
+
+-- what a source may give without coercion it may give with it
+pub record CoercionKeeps {A : Type 0} (refusal : Refusal) (gives : Gives A) : Type 0 where
+  pub of_origin : (o : Origin) (h : Bool) (x : A)
+      → MayGive (refusal (under (flags h false) o)) (gives (under (flags h false) o)) x
+      → MayGive (refusal (under (flags h true) o)) (gives (under (flags h true) o)) x

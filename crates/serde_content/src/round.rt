@@ -1,0 +1,83 @@
+//! Values that come back: what is sent is read again as an equal value.
+
+ghost use Rattle.std.specs.Prelude.{◌≡◌, true, IfOk, IfErr};
+ghost use Rattle.content_tree.specs.Errors.Kind.{IsOutOfMemory};
+ghost use Rattle.content_tree.specs.Values.Value.{tree_of};
+ghost use Rattle.content_build.specs.Serializer.{Serialized};
+ghost use Rattle.content_de.specs.Sources.Deserializer.{subject};
+ghost use Rattle.content_de.specs.Sources.Origin.{tree_under};
+ghost use Rattle.serde_content.specs.RoundTrip.{ComesBack, CoercionKeeps, flags};
+
+use content_build::Builder;
+use content_de::{Deserialize, Deserializer};
+use content_ser::Serialize;
+use content_tree::{NamedValue, Result, Value};
+use std::alloc::Global;
+
+mod standard;
+mod tuple;
+
+/// A type whose values come back: each is sent without a stop, and what it is sent as is read again
+/// as an equal value.
+///
+/// The tree that a value's calls spell has owned texts and bytes and static names. It is read for
+/// people where the value was sent for people, with numbers coerced or not. [`round_trip`] does
+/// both.
+pub trait RoundTrip<'de>: Eq + Serialize + Deserialize<'de> {
+    /// A value's script has no stop. The tree that its calls spell isn't refused, and every value
+    /// that reading it may answer is equal to the value by the type's `==`.
+    ghost comes_back: { ComesBack Self.script Self.refusal Self.gives Self.eq };
+
+    /// Each value that a source may give without coercion it may give with it.
+    ghost keeps: { CoercionKeeps Self.refusal Self.gives };
+}
+
+/// A value that is sent and read again, with the same flag for people; numbers are coerced where
+/// the last flag says so. What comes is equal to the value.
+///
+/// # Errors
+///
+/// Out of memory, where an allocation failed.
+///
+/// ```rust
+/// let there = vec![in alloc; Some(1u8), None]?;
+/// assert!(rt; round_trip(alloc, &there, false, false)? == there);
+/// ```
+pub fn round_trip<'de, T: RoundTrip<'de>>(
+    alloc: Global,
+    value: &T,
+    human_readable: bool,
+    coerce: bool,
+) -> Result<T>
+    ensures value { IfOk result (λ back. T.eq value.now back ≡ true) }
+    ensures memory { IfErr result (λ e. IsOutOfMemory e) }
+{
+    let sent = send(alloc, value, human_readable)?;
+    T::deserialize(alloc, under(sent, human_readable, coerce))
+}
+
+/// The tree that the value's calls spell, as `Serializer::serialize` answers it, at any lifetime.
+fn send<'v, T: Serialize>(alloc: Global, value: &T, human_readable: bool) -> Result<Value<'v>>
+    ensures { Serialized (T.script value.now human_readable) result }
+{
+    let mut builder: Builder<'v> = Builder::new(alloc, human_readable);
+    value.serialize(alloc, &mut builder)?;
+    builder.finish()
+}
+
+/// Reads this value under these flags.
+fn under<'de, 'n>(
+    value: NamedValue<'de, 'n>,
+    human_readable: bool,
+    coerce: bool,
+) -> Deserializer<'de, 'n>
+    ensures { subject result ≡ tree_under (flags human_readable coerce) (tree_of value.entry) }
+{
+    let from = Deserializer::new(value);
+    let from = if human_readable {
+        from.human_readable()
+    } else {
+        from
+    };
+    if coerce { from.coerce_numbers() } else { from }
+}
