@@ -6,6 +6,7 @@ pub mod Walking
 pub mod Spelling
 pub mod Sorting
 pub mod Twice
+pub mod SameScript
 pub mod Naming
 pub mod Canonically
 mod DerivedEquality

@@ -15,7 +15,7 @@ mod serializer;
 
 pub use call::Call;
 pub use head::Head;
-pub use loose_form::{loose_once, script_spells};
+pub use loose_form::{canonical_once, loose_once, script_spells, static_is_canonical};
 pub use own::{Announced, Parts};
 pub use replaying::replay;
 pub use serialize::Serialize;

@@ -1,6 +1,8 @@
 //! What the script of a value says of it.
 
-ghost use Rattle.content_ser.specs.Sending.Canonical.{LooseOnce, ScriptSpells};
+ghost use Rattle.content_ser.specs.Sending.Canonical.{
+    LooseOnce, ScriptSpells, CanonicalOnce, StaticIsCanonical,
+};
 
 /// Where the script of a tree has no stop, its calls spell the tree, its texts owned and its names
 /// static.
@@ -11,4 +13,14 @@ pub fn script_spells()
 /// The loose form of a loose form is itself.
 pub fn loose_once()
     ensures { LooseOnce }
+{}
+
+/// The canonical form of a canonical form is itself.
+pub fn canonical_once()
+    ensures { CanonicalOnce }
+{}
+
+/// A tree whose names, variants and keys are all static is its own canonical form.
+pub fn static_is_canonical()
+    ensures { StaticIsCanonical }
 {}

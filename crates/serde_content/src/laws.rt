@@ -3,6 +3,7 @@
 #![tactic(auto, using(content_build::proofs::Agreement::one_tree, content_build::proofs::Agreement::unique_cut))]
 
 ghost use Rattle.content_ser.specs.Laws.Lists.{OneTree, UniqueCut};
+ghost use Rattle.content_ser.specs.Sending.Canonical.{EqualCalls};
 
 pub use content_build::laws::{
     compare_serializers, equal_refusals, equal_serializers, sent_is_listed, steps_are_exact,
@@ -10,7 +11,7 @@ pub use content_build::laws::{
 pub use content_build::{canonical_is_built, canonical_is_missing};
 pub use content_de::laws::{compare_deserializers, equal_deserializers, plain_once, plain_variant};
 pub use content_ser::laws::{canonical_or_stops, canonical_spelled, equal_by_contents};
-pub use content_ser::{loose_once, script_spells};
+pub use content_ser::{canonical_once, loose_once, script_spells, static_is_canonical};
 pub use content_tree::laws::{
     compare_errors, compare_expected, compare_kinds, compare_numbers, compare_types, equal_bytes,
     equal_data, equal_enums, equal_errors, equal_expected, equal_found_data, equal_images,
@@ -26,4 +27,10 @@ pub fn unique_cut()
 /// One list of calls spells one tree.
 pub fn one_tree()
     ensures { OneTree }
+{}
+
+/// Two trees that have canonical forms are sent by the same calls exactly if those forms are equal,
+/// whatever is borrowed in them.
+pub fn equal_calls()
+    ensures { EqualCalls }
 {}

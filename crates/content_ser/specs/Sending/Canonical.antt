@@ -1,11 +1,11 @@
 -- The canonical form of a tree, and what the script of a tree says of it.
-use Rattle.std.specs.Prelude.{◌≡◌, ◌⊎◌, Bool, None, IsSome}
+use Rattle.std.specs.Prelude.{◌≡◌, ◌⊎◌, ◌↔◌, Bool, None, IsSome}
 use Rattle.content_tree.specs.Values.Text.{Text, static_name, to_owned}
-use Rattle.content_tree.specs.Values.Tree.{Tree, at_texts, owned}
+use Rattle.content_tree.specs.Values.Tree.{Tree, at_texts, owned, unmarked}
 use Rattle.content_ser.specs.Scripts.Script.{calls_of, stop_of}
 use Rattle.content_ser.specs.Sending.Loose.{loose}
 use Rattle.content_ser.specs.Grammar.Spells.{SpellsWhole}
-use Rattle.content_ser.specs.Sending.StaticNames.{HasStaticKeys}
+use Rattle.content_ser.specs.Sending.StaticNames.{HasStaticNames, HasStaticKeys}
 use Rattle.content_ser.specs.Sending.TreeScript.{script_of, loose_script}
 
 -- the canonical form of a tree: its loose form, where that has no owned field key
@@ -39,3 +39,17 @@ abbrev pub CanonicalOrStops : Type 0
 CanonicalOrStops = (t : Tree) (readable : Bool)
     → ((c : Tree) × IsCanonical t c)
     ⊎ (((c : Tree) → ¬ IsCanonical t c) × IsSome (stop_of (loose_script t readable)))
+
+-- the canonical form of a canonical form is itself
+abbrev pub CanonicalOnce : Type 0
+CanonicalOnce = (t c d : Tree) → IsCanonical t c → IsCanonical c d ↔ (d ≡ c)
+
+-- a tree whose names, variants and keys are all static is its own canonical form
+abbrev pub StaticIsCanonical : Type 0
+StaticIsCanonical = (t : Tree) → HasStaticNames t → HasStaticKeys t → IsCanonical t t
+
+-- where two trees have canonical forms, they are sent by the same calls exactly if the forms are
+-- equal, every mark taken off
+abbrev pub EqualCalls : Type 0
+EqualCalls = (t u c d : Tree) (readable : Bool) → IsCanonical t c → IsCanonical u d
+    → (loose_script t readable ≡ loose_script u readable) ↔ (unmarked c ≡ unmarked d)
