@@ -13,19 +13,28 @@ where
     text.parse::<T>().ok().ok_or(Stop::NoRow)
 }
 
+/// The number that the digits spell, of the kind of this type.
+fn number_as<T: FromStr + Into<Number>>(digits: &str) -> Result<Number>
+where
+    T::Err: Drop,
+{
+    let number: T = parse(digits)?;
+    Ok(number.into())
+}
+
 /// The number of this kind that the digits spell.
 pub fn number_of(kind: &str, digits: &str) -> Result<Number> {
     match kind {
-        "i8" => Ok(Number::I8(parse(digits)?)),
-        "u8" => Ok(Number::U8(parse(digits)?)),
-        "i16" => Ok(Number::I16(parse(digits)?)),
-        "u16" => Ok(Number::U16(parse(digits)?)),
-        "i32" => Ok(Number::I32(parse(digits)?)),
-        "u32" => Ok(Number::U32(parse(digits)?)),
-        "i64" => Ok(Number::I64(parse(digits)?)),
-        "u64" => Ok(Number::U64(parse(digits)?)),
-        "i128" => Ok(Number::I128(parse(digits)?)),
-        "u128" => Ok(Number::U128(parse(digits)?)),
+        "i8" => number_as::<i8>(digits),
+        "u8" => number_as::<u8>(digits),
+        "i16" => number_as::<i16>(digits),
+        "u16" => number_as::<u16>(digits),
+        "i32" => number_as::<i32>(digits),
+        "u32" => number_as::<u32>(digits),
+        "i64" => number_as::<i64>(digits),
+        "u64" => number_as::<u64>(digits),
+        "i128" => number_as::<i128>(digits),
+        "u128" => number_as::<u128>(digits),
         _ => Err(Stop::NoRow),
     }
 }

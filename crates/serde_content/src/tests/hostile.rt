@@ -29,6 +29,7 @@ fn a_refused_builder_has_failed(rt: HostRuntime) -> Result<(), Fail> {
     assert!(rt; is_refused(builder.serialize_unit(), &ErrorKind::Misplaced));
     assert!(rt; builder.is_failed());
     assert!(rt; is_refused(builder.end(), &ErrorKind::Failed));
+    assert!(rt; is_refused(builder.collect_str(alloc, &7u8), &ErrorKind::Failed));
     assert!(rt; is_stuck(builder, &ErrorKind::Failed));
     assert!(rt; is_stuck(Builder::new(alloc, false), &ErrorKind::Unfinished));
     let mut builder: Builder<'static> = Builder::new(alloc, false);
@@ -66,5 +67,30 @@ fn a_swallowed_stop_has_made_its_calls(rt: HostRuntime) -> Result<(), Fail> {
     assert!(rt; is_stopped(value.serialize(alloc, &mut builder)));
     assert!(rt; !builder.is_failed());
     assert!(rt; is_refused(builder.serialize_element(), &ErrorKind::Misplaced));
+    Ok(())
+}
+
+/// A sequence of a struct of the static name S without fields.
+fn empty_in_a_sequence(alloc: Global) -> Answer<Value<'static>> {
+    let empty = Struct {
+        name: CowStr::Borrowed("S"),
+        data: Data::Struct {
+            fields: Vec::new(alloc),
+        },
+    };
+    Ok(Value::Seq(vec![in alloc; Value::Struct(Box::new(alloc, empty)?)]?))
+}
+
+#[test]
+fn after_a_swallowed_stop_the_open_nodes_end(rt: HostRuntime) -> Result<(), Fail> {
+    let alloc = rt.alloc();
+    let value = with_owned_key(alloc)?;
+    let mut builder: Builder<'static> = Builder::new(alloc, false);
+    builder.serialize_seq(None)?;
+    builder.serialize_element()?;
+    assert!(rt; is_stopped(value.serialize(alloc, &mut builder)));
+    builder.end()?;
+    builder.end()?;
+    assert!(rt; builder.finish()? == empty_in_a_sequence(alloc)?);
     Ok(())
 }
