@@ -119,19 +119,19 @@ whole_run calls at s h r = rw (take_all at calls h) at r
 pub beginning : (a b : List Event) → IsViable (a ++ b) → IsViable a
 beginning a b (more, (t, w)) = (b ++ more, (t, subst (λ l. SpellsWhole l t) (append_assoc a b more) w))
 
-beginning_take : (n : ℕ) (calls : List Event) → IsViable calls → IsViable (take n calls)
+pub beginning_take : (n : ℕ) (calls : List Event) → IsViable calls → IsViable (take n calls)
 beginning_take n calls v = beginning (take n calls) (drop n calls) (subst IsViable (sym (take-append-drop n calls)) v)
 
-take-take : (m n : ℕ) (calls : List Event) → m ≤ n → take m (take n calls) ≡ take m calls
+pub take-take : (m n : ℕ) (calls : List Event) → m ≤ n → take m (take n calls) ≡ take m calls
 take-take zero n calls h = refl
 take-take (suc m) zero calls h = absurd (omega arith)
 take-take (suc m) (suc n) [] h = refl
 take-take (suc m) (suc n) (c ∷ cs) h = ap (λ l. c ∷ l) (take-take m n cs (omega arith))
 
-earlier : (m n : ℕ) (calls : List Event) → m ≤ n → IsViable (take n calls) → IsViable (take m calls)
+pub earlier : (m n : ℕ) (calls : List Event) → m ≤ n → IsViable (take n calls) → IsViable (take m calls)
 earlier m n calls h v = subst IsViable (take-take m n calls h) (beginning_take m (take n calls) v)
 
-viable_whole : (calls : List Event) → IsWhole calls → IsViable calls
+pub viable_whole : (calls : List Event) → IsWhole calls → IsViable calls
 viable_whole calls (t, w) = viable_from_run calls (done t) (run_from_whole calls w)
 
 pub whole_only : (calls : List Event) (r : Result NamedValue CallsError) (t : Tree) → IsAnswer calls r → SpellsWhole calls t → IfTaken r t
@@ -146,7 +146,7 @@ whole_only calls (Err e) t a w = go (kind_of e.error) a
     go Misplaced h = absurd (h.2 (beginning_take (e.at + 1) calls (viable_whole calls (t, w))))
     go Unfinished h = absurd (h.2 (t, w))
 
-same_place : (calls : List Event) (i j : ℕ) → IsViable (take i calls) → ¬ IsViable (take (i + 1) calls) → IsViable (take j calls) → ¬ IsViable (take (j + 1) calls) → i ≡ j
+pub same_place : (calls : List Event) (i j : ℕ) → IsViable (take i calls) → ¬ IsViable (take (i + 1) calls) → IsViable (take j calls) → ¬ IsViable (take (j + 1) calls) → i ≡ j
 same_place calls i j vi ni vj nj =
     ⊎_elim
     (λ (l : i < j). absurd (ni (earlier (i + 1) j calls (omega arith) vj)))
@@ -157,7 +157,7 @@ pub misplaced_only : (calls : List Event) (r : Result NamedValue CallsError) (i 
 misplaced_only calls (Ok v) i a m = absurd (m.2 (beginning_take (i + 1) calls (viable_whole calls (tree_of v, a))))
 misplaced_only calls (Err e) i a m = go (kind_of e.error) refl a
   where
-    go : (k : ErrorKind) → kind_of e.error ≡ k → IsRefusal calls e.at k → IfRefused (Err e) Misplaced i
+    go : (k : ErrorKind) → kind_of e.error ≡ k → IsRefusal calls e.at k → IfRefused {A = NamedValue} (Err e) Misplaced i
     go OutOfMemory x h = inr x
     go (Unexpected found expected) x h = absurd h
     go (Custom message) x h = absurd h
@@ -169,7 +169,7 @@ pub unfinished_only : (calls : List Event) (r : Result NamedValue CallsError) �
 unfinished_only calls (Ok v) a vi n = absurd (n (tree_of v, a))
 unfinished_only calls (Err e) a vi n = go (kind_of e.error) refl a
   where
-    go : (k : ErrorKind) → kind_of e.error ≡ k → IsRefusal calls e.at k → IfRefused (Err e) Unfinished (length calls)
+    go : (k : ErrorKind) → kind_of e.error ≡ k → IsRefusal calls e.at k → IfRefused {A = NamedValue} (Err e) Unfinished (length calls)
     go OutOfMemory x h = inr x
     go (Unexpected found expected) x h = absurd h
     go (Custom message) x h = absurd h

@@ -34,7 +34,7 @@ IfTaken (Ok v) t = tree_of v ≡ t
 IfTaken (Err e) t = kind_of e.error ≡ OutOfMemory
 
 -- refused at this place for this cause, unless memory ran out
-abbrev pub IfRefused : Result NamedValue CallsError → ErrorKind → ℕ → Type 0
+abbrev pub IfRefused : {A : Type 0} → Result A CallsError → ErrorKind → ℕ → Type 0
 IfRefused (Ok v) cause at = ⊥
 IfRefused (Err e) cause at = ((kind_of e.error ≡ cause) × (e.at ≡ at)) ⊎ (kind_of e.error ≡ OutOfMemory)
 

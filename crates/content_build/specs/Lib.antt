@@ -2,6 +2,7 @@ pub mod Partial
 pub mod Inner
 pub mod Builder
 pub mod Answers
+pub mod Cuts
 pub mod Recorder
 pub mod Serializer
 pub mod Canonical

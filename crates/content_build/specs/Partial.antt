@@ -1,5 +1,5 @@
 -- A partial tree, and the step that each call takes in it.
-use Rattle.std.specs.Prelude.{ℕ, List, [], ◌∷◌, Option, Some, None}
+use Rattle.std.specs.Prelude.{ℕ, ◌+◌, List, [], ◌∷◌, length, Option, Some, None}
 use Rattle.content_tree.specs.Values.Text.{Text, static_name}
 use Rattle.content_tree.specs.Values.Tree as tree
 use Rattle.content_tree.specs.Values.Tree.{Tree, Trees, no_trees, tree_then, Pairs, no_pairs}
@@ -58,6 +58,12 @@ pub data Partial : Type 0 where
 -- no call yet
 abbrev pub fresh : Partial
 fresh = due []
+
+-- how many trees are open
+abbrev pub open_count : Partial → ℕ
+open_count (due ps) = length ps
+open_count (between c ps) = length ps + 1
+open_count (done t) = 0
 
 -- the innermost slot gets this tree, and what is finished by it fills the next
 abbrev pub fill : List Slot → Tree → Partial

@@ -4,7 +4,7 @@ ghost use Rattle.std.specs.Prelude.{◌≡◌, IfErr, false};
 ghost use Rattle.content_tree.specs.Errors.Kind.{IsOutOfMemory};
 ghost use Rattle.content_ser.specs.Calls.Call.{event_of};
 ghost use Rattle.content_ser.specs.Serializers.Step.{Takes};
-ghost use Rattle.content_build.specs.Partial.{Partial, fresh, step};
+ghost use Rattle.content_build.specs.Partial.{Partial, fresh, open_count, step};
 ghost use Rattle.content_build.specs.Builder.{seen_of, refuses, AnswersExactly, Finishes};
 
 use crate::frames::Frames;
@@ -51,6 +51,15 @@ impl<'v> Builder<'v> {
             frames: Frames::new(alloc),
             human_readable,
         }
+    }
+
+    /// How many trees are open, where the builder has not failed.
+    #[tactic(auto, unfolding(crate::specs::Builder::seen_of))]
+    pub(crate) fn open_count(&self) -> usize
+        ensures { (seen_of self.now).failed ≡ false
+            → result ≡ open_count (seen_of self.now).state }
+    {
+        self.frames.open_count()
     }
 
     /// The tree that the calls spell. Its texts and bytes are owned and its names static.

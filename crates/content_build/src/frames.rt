@@ -1,10 +1,10 @@
 //! A partial tree, and the calls on it.
 #![tactic(auto, using(crate::proofs::Pushes::pushes))]
 
-ghost use Rattle.std.specs.Prelude.{◌≡◌, Some, IfErr};
+ghost use Rattle.std.specs.Prelude.{◌≡◌, Some, IfErr, IfSome};
 ghost use Rattle.content_tree.specs.Errors.Kind.{IsOutOfMemory};
 ghost use Rattle.content_build.specs.Partial as partial;
-ghost use Rattle.content_build.specs.Partial.{fresh};
+ghost use Rattle.content_build.specs.Partial.{fresh, open_count};
 ghost use Rattle.content_build.specs.Inner.Tokens.{token_view};
 ghost use Rattle.content_build.specs.Inner.Frames.{compound_view, slots_view, partial_tree};
 ghost use Rattle.content_build.specs.Builder.{has_failed, or_fresh, Finishes};
@@ -120,6 +120,18 @@ impl<'v> Frames<'v> {
             Focus::Due => false,
             Focus::Between(_) => false,
             Focus::Done(_) => false,
+        }
+    }
+
+    /// How many trees are open. Nothing is said of it after a refusal.
+    pub(crate) fn open_count(&self) -> usize
+        ensures { IfSome (partial_tree self.now) (λ s. result ≡ open_count s) }
+    {
+        match self.focus {
+            Focus::Due => self.slots.len(),
+            Focus::Between(_) => self.slots.len() + 1,
+            Focus::Done(_) => 0,
+            Focus::Failed => 0,
         }
     }
 

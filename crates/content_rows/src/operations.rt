@@ -21,6 +21,10 @@ impl Operations for WritingRows {
     fn answer(alloc: Global, operation: &str, arguments: &str) -> Result<String> {
         match operation {
             "calls" => building::calls(alloc, read_calls(alloc, arguments)?.as_slice()),
+            "calls_prefix" => building::calls_prefix(
+                alloc,
+                read_calls(alloc, arguments)?.as_slice(),
+            ),
             "refusal" => building::refusal(alloc, read_calls(alloc, arguments)?.as_slice()),
             "builder" => building::builder(alloc, read_calls(alloc, arguments)?.as_slice()),
             "record" => sending::record(alloc, read_calls(alloc, arguments)?.as_slice()),

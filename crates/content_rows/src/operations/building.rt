@@ -1,7 +1,7 @@
 //! Trees that are built of calls.
 
 use crate::methods::make_call;
-use content_build::{Builder, Recorder, Serializer, from_calls};
+use content_build::{Builder, CallsError, Recorder, Serializer, from_calls, from_calls_prefix};
 use content_ser::{Call, Serializer as _, replay as make_calls};
 use content_tree::{Error, ErrorKind, Value};
 use row_text::number::parse;
@@ -31,15 +31,29 @@ fn kind_of(error: &Error) -> Result<&'static str> {
     }
 }
 
+/// Where and why calls are refused.
+fn refused(alloc: Global, refusal: &CallsError) -> Result<String> {
+    let at = refusal.at;
+    let kind = kind_of(&refusal.error)?;
+    Ok(format!(in alloc; "refused at {at} {kind}")?)
+}
+
 /// The tree that the calls spell, or where and why they are refused.
 pub fn calls(alloc: Global, calls: &[Call<'_>]) -> Result<String> {
     match from_calls(alloc, calls) {
         Ok(value) => taken(alloc, &value),
-        Err(refusal) => {
-            let at = refusal.at;
-            let kind = kind_of(&refusal.error)?;
-            Ok(format!(in alloc; "refused at {at} {kind}")?)
+        Err(refusal) => refused(alloc, &refusal),
+    }
+}
+
+/// The tree that a beginning of the calls spells and its length, or where and why they are refused.
+pub fn calls_prefix(alloc: Global, calls: &[Call<'_>]) -> Result<String> {
+    match from_calls_prefix(alloc, calls) {
+        Ok((value, length)) => {
+            let tree = taken(alloc, &value)?;
+            Ok(format!(in alloc; "{tree}, {length}")?)
         }
+        Err(refusal) => refused(alloc, &refusal),
     }
 }
 
