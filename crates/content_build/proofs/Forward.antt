@@ -85,7 +85,7 @@ after-none (spells.value v ∷ items) = after-none items
 after-none (spells.key l ∷ items) = after-push items no_pairs l tree.unit
 after-none (spells.entry l v ∷ items) = after-push items no_pairs l v
 
-next-same : (m : ItemCall) (s : Partial) → next_item m m s ≡ Some s
+pub next-same : (m : ItemCall) (s : Partial) → next_item m m s ≡ Some s
 next-same token.element s = refl
 next-same token.tuple_field s = refl
 

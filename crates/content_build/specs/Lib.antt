@@ -1,4 +1,5 @@
 pub mod Partial
+pub mod Limit
 pub mod Inner
 pub mod Builder
 pub mod Answers
