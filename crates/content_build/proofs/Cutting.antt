@@ -1,7 +1,8 @@
 -- The beginning that spells a tree.
 use Rattle.std.proofs.Common.{◌≡◌, ℕ, ◌+◌, ◌<◌, ◌≤◌, false, List, [], ◌∷◌, ◌++◌, length}
-use Rattle.std.proofs.Common.{take, drop, Some, Result, Ok, Err, IfSome, refl, sym, ap}
-use Rattle.std.proofs.Common.{subst, ◌∙◌, arith, inl, inr, ⊎_elim, length-append}
+use Rattle.std.proofs.Common.{take, drop, Option, Some, None, Result, Ok, Err, IfSome, option_map}
+use Rattle.std.proofs.Common.{Bool, true, cond, refl, sym, ap, subst, ◌∙◌, arith, inl, inr, ⊎_elim}
+use Rattle.std.proofs.Common.{length-append}
 use Rattle.std.proofs.lemmas.List.{take-append-drop, take_all, length-take-le}
 use Rattle.std.proofs.lemmas.Bool.{cases_lt}
 use Rattle.content_tree.specs.Errors.Kind.{kind_of}
@@ -21,13 +22,16 @@ use Rattle.content_ser.specs.Serializers.Step.{Seen, Takes}
 use Rattle.content_build.specs.Answers.{IsRefusal, IfRefused}
 use Rattle.content_build.specs.Builder.{refuses, Finishes}
 use Rattle.content_build.specs.Cuts.{SpellsFirst, OnlyCut, NoCut, IsCutRefusal, IsCut, IfCut}
+use Rattle.content_build.specs.Limit.{Limited, fresh_under, step, run}
+use Rattle.content_build.specs.Partial as partial
 use Rattle.content_build.specs.Partial.{Partial, Slot, due, between, done, in_row, in_map}
 use Rattle.content_build.specs.Partial.{in_record, child, element, key, value, entry_key}
-use Rattle.content_build.specs.Partial.{entry_value, field_value, fill, next_item, step_token, step}
-use Rattle.content_build.specs.Partial.{run, fresh, open_count}
+use Rattle.content_build.specs.Partial.{entry_value, field_value, fill, next_item, step_token}
+use Rattle.content_build.specs.Partial.{fresh, open_count}
 use Rattle.content_build.specs.declared.calls_error.CallsError.{CallsError}
-use Rattle.content_build.proofs.Backward.{whole_from_run}
 use Rattle.content_build.proofs.Agreement.{run_from_whole, unique_cut, one_tree}
+use Rattle.content_build.proofs.Limits as limits
+use Rattle.content_build.proofs.Limits.{under, whole_from_run}
 use Rattle.content_build.proofs.Headline.{earlier, viable_whole, take-take, same_place}
 use Rattle.content_build.proofs.Headline.{beginning_take}
 
@@ -69,8 +73,14 @@ begun (between (in_map prs) ps) finish = begun-fill ps _
 begun (between (in_record r fs) ps) finish = begun-fill ps _
 begun _ _ = tt
 
+-- the partial tree after a call
+step_inside : (limit : Option ℕ) (b : Bool) (o : Option Partial) (n : Limited) → option_map (under limit) (cond b o None) ≡ Some n → o ≡ Some n.tree
+step_inside limit true (Some m) n e = let same : under limit m ≡ n = cc in ap (λ x. Some x.tree) same
+step_inside limit true None n e = absurd (cc)
+step_inside limit false o n e = absurd (cc)
+
 -- after a call no tree is open only where the whole one is done
-none_open : (s : Partial) (c : Event) (n : Partial) → step s c ≡ Some n → open_count n ≡ 0 → (t : Tree) × (n ≡ done t)
+none_open : (s : Partial) (c : Event) (n : Partial) → partial.step s c ≡ Some n → open_count n ≡ 0 → (t : Tree) × (n ≡ done t)
 none_open s c n e closed = by_cases n (subst (λ o. IfSome o IsBegun) e (begun s (token.token_of c))) closed
   where
     by_cases : (m : Partial) → IsBegun m → open_count m ≡ 0 → (t : Tree) × (m ≡ done t)
@@ -80,8 +90,9 @@ none_open s c n e closed = by_cases n (subst (λ o. IfSome o IsBegun) e (begun s
     by_cases (done t) b z = (t, refl)
 
 -- the same of a call that a builder took
-pub none_after : (old new : Seen Partial) (c : Event) → old.failed ≡ false → Takes step refuses old c (Ok tt) new → open_count new.state ≡ 0 → (t : Tree) × (new.state ≡ done t)
-none_after old new c standing t closed = none_open old.state c new.state (t.otherwise standing).1 closed
+pub none_after : (old new : Seen Limited) (c : Event) → old.failed ≡ false → Takes step refuses old c (Ok tt) new → open_count new.state.tree ≡ 0 → (t : Tree) × (new.state.tree ≡ done t)
+none_after old new c standing t closed =
+    none_open old.state.tree c new.state.tree (step_inside old.state.limit _ _ new.state (t.otherwise standing).1) closed
 
 -- no beginning up to this length spells a tree
 abbrev pub NoCutTo : ℕ → List Event → Type 0
@@ -103,7 +114,7 @@ no_cut_more calls at none not n h w =
 no_cut_beyond : (calls : List Event) (at : ℕ) → NoCutTo at calls → ¬ IsViable (take (at + 1) calls) → NoCut calls
 no_cut_beyond calls at none not n w =
     ⊎_elim
-    (λ (l : at < n). not (earlier (at + 1) n calls (omega arith) (viable_whole (take n calls) w)))
+    (λ (l : at < n). not (earlier None (at + 1) n calls (omega arith) (viable_whole None (take n calls) w)))
     (λ (l : n ≤ at). none n l w)
     (cases_lt at n)
 
@@ -136,26 +147,26 @@ only_cut calls n l w m lm wm =
     (cases_lt m n)
 
 -- the tree of a beginning
-pub cut_here : (calls : List Event) (n : ℕ) (s : Partial) (v : NamedValue) → n ≤ length calls → run fresh (take n calls) ≡ Some s → (t : Tree) × (s ≡ done t) → Finishes false s (Ok v)
+pub cut_here : (calls : List Event) (n : ℕ) (s : Limited) (v : NamedValue) → n ≤ length calls → run (fresh_under None) (take n calls) ≡ Some s → (t : Tree) × (s.tree ≡ done t) → Finishes false s.tree (Ok v)
     → SpellsFirst calls n (tree_of v) × OnlyCut calls n
 cut_here calls n s v l r d f =
     let same : tree_of v ≡ d.0 = subst (λ x. Finishes false x (Ok v)) d.1 f in
-    let spelled : SpellsWhole (take n calls) (tree_of v) = whole_from_run (take n calls) (tree_of v) (r ∙ (ap (λ x. Some x) d.1 ∙ ap (λ u. Some (done u)) (sym same))) in
+    let spelled : SpellsWhole (take n calls) (tree_of v) = whole_from_run None tt (take n calls) s (tree_of v) r (d.1 ∙ ap done (sym same)) in
     ((l, spelled), only_cut calls n l (tree_of v, spelled))
 
 -- a beginning that spells a tree, for which memory ran out
-pub cut_unmade : (calls : List Event) (n : ℕ) (s : Partial) (e : Error) → n ≤ length calls → run fresh (take n calls) ≡ Some s → (t : Tree) × (s ≡ done t) → Finishes false s (Err e)
+pub cut_unmade : (calls : List Event) (n : ℕ) (s : Limited) (e : Error) → n ≤ length calls → run (fresh_under None) (take n calls) ≡ Some s → (t : Tree) × (s.tree ≡ done t) → Finishes false s.tree (Err e)
     → IsCutRefusal calls n (kind_of e)
 cut_unmade calls n s e l r d f =
     let memory : kind_of e ≡ OutOfMemory = subst (λ x. Finishes false x (Err e)) d.1 f in
-    subst (IsCutRefusal calls n) (sym memory) (inr (l, (d.0, whole_from_run (take n calls) d.0 (r ∙ ap (λ x. Some x) d.1))))
+    subst (IsCutRefusal calls n) (sym memory) (inr (l, (d.0, whole_from_run None tt (take n calls) s d.0 r d.1)))
 
 -- the calls so far spell no tree where some is open
-pub open_not_whole : (calls : List Event) (s : Partial) → run fresh calls ≡ Some s → ¬ (open_count s ≡ 0) → ¬ IsWhole calls
+pub open_not_whole : (calls : List Event) (s : Limited) → run (fresh_under None) calls ≡ Some s → ¬ (open_count s.tree ≡ 0) → ¬ IsWhole calls
 open_not_whole calls s r some w =
-    let e : Some s ≡ Some (done w.0) = sym r ∙ run_from_whole calls w.1 in
-    let same : s ≡ done w.0 = cc in
-    some (ap open_count same)
+    let e : Some s ≡ Some (under None (done w.0)) = sym r ∙ limits.run_from_whole None tt calls w.0 w.1 in
+    let same : s ≡ under None (done w.0) = cc in
+    some (ap (λ x. open_count x.tree) same)
 
 -- the end of a list of which no beginning spells a tree
 pub never_cut : (calls : List Event) (at : ℕ) → length calls ≤ at → NoCutTo at calls → IsViable (take at calls) → IsCutRefusal calls (length calls) Unfinished
@@ -189,8 +200,8 @@ cut_misplaced_only calls (Err e) i a none m = by_cause (kind_of e.error) refl a
     by_cause (Unexpected found expected) x h = absurd h
     by_cause (Custom message) x h = absurd h
     by_cause Failed x h = absurd h
-    by_cause Misplaced x h = inl (x, same_place calls e.at i h.1.1 h.1.2 m.1 m.2)
-    by_cause Unfinished x h = absurd (m.2 (beginning_take (i + 1) calls h.1.1))
+    by_cause Misplaced x h = inl (x, same_place None calls e.at i h.1.1 h.1.2 m.1 m.2)
+    by_cause Unfinished x h = absurd (m.2 (beginning_take None (i + 1) calls h.1.1))
 
 pub cut_unfinished_only : (calls : List Event) (r : Result (NamedValue × ℕ) CallsError) → IsCut calls r → NoCut calls → IsViable calls → IfRefused r Unfinished (length calls)
 cut_unfinished_only calls (Ok found) a none v = absurd (none found.1 (tree_of found.0, a.0.1))
@@ -201,7 +212,7 @@ cut_unfinished_only calls (Err e) a none v = by_cause (kind_of e.error) refl a
     by_cause (Unexpected found expected) x h = absurd h
     by_cause (Custom message) x h = absurd h
     by_cause Failed x h = absurd h
-    by_cause Misplaced x h = absurd (h.1.2 (beginning_take (e.at + 1) calls v))
+    by_cause Misplaced x h = absurd (h.1.2 (beginning_take None (e.at + 1) calls v))
     by_cause Unfinished x h = inl (x, h.1.0)
 
 pub ruleset only = (cut_only, cut_misplaced_only, cut_unfinished_only)

@@ -1,22 +1,27 @@
 //! The serialiser that builds a tree.
 
-ghost use Rattle.std.specs.Prelude.{◌≡◌, IfErr, false};
+ghost use Rattle.std.specs.Prelude.{◌≡◌, ◌≤◌, IfErr, Some, false, option_and_then};
 ghost use Rattle.content_tree.specs.Errors.Kind.{IsOutOfMemory};
 ghost use Rattle.content_ser.specs.Calls.Call.{event_of};
 ghost use Rattle.content_ser.specs.Serializers.Step.{Takes};
-ghost use Rattle.content_build.specs.Partial.{Partial, fresh, open_count, step};
-ghost use Rattle.content_build.specs.Builder.{seen_of, refuses, AnswersExactly, Finishes};
+ghost use Rattle.content_build.specs.Inner.Taken.{AnswersStep};
+ghost use Rattle.content_build.specs.Inner.Tokens.{token_view};
+ghost use Rattle.content_build.specs.Limit.{Limited, fresh, fresh_under, step, step_under};
+ghost use Rattle.content_build.specs.Partial.{open_count};
+ghost use Rattle.content_build.specs.Builder.{built, seen_of, refuses, AnswersExactly, Finishes};
 
 use crate::frames::Frames;
+use crate::limit::fits;
 use crate::token::Token;
 use content_ser::{Call, Serializer};
-use content_tree::{Result, Value};
+use content_tree::{ErrorKind, Result, Value};
 use std::alloc::Global;
 
 /// A serialiser that builds the tree that its calls spell.
 ///
-/// Its state is a partial tree: fresh, open, or done. A call after which no list of calls can spell
-/// a tree answers `Misplaced`, before any memory is taken for it. A call for which an allocation
+/// Its state is a partial tree: fresh, open, or done; and the limit on nesting, if it was made with
+/// one ([`with_limit`](Builder::with_limit)). A call after which no list of calls can spell a tree,
+/// within the limit, answers `Misplaced`, before any memory is taken for it. A call for which an allocation
 /// failed answers `OutOfMemory`. Every call after either answers `Failed`; `collect_str` alone
 /// prints first, and where an allocation for that failed it answers `OutOfMemory` and changes
 /// nothing. Hints and lengths reserve nothing. Texts and bytes are copied, names never. The calls
@@ -35,21 +40,70 @@ use std::alloc::Global;
 /// ```
 #[derive(Drop)]
 pub struct Builder<'v> {
-    frames: Frames<'v>,
+    /// Nothing once a call would have passed the limit.
+    frames: Option<Frames<'v>>,
     human_readable: bool,
+    limit: Option<usize>,
+}
+
+/// Takes a call under a limit.
+fn take(frames: &mut Option<Frames<'_>>, limit: Option<usize>, call: Token<'_>) -> Result<()>
+    ensures { AnswersStep (built frames.old)
+        (option_and_then (λ s. step_under limit s (token_view call.entry)) (built frames.old))
+        result (built frames.new) }
+{
+    let Some(open) = frames else {
+        return Err(ErrorKind::Failed.into());
+    };
+    if fits(open, limit, &call) {
+        open.take(call)
+    } else {
+        *frames = None;
+        Err(ErrorKind::Misplaced.into())
+    }
 }
 
 impl<'v> Builder<'v> {
     /// A builder to which no call was made, which takes no memory. The flag is what
     /// [`is_human_readable`](Serializer::is_human_readable) answers; nothing else rests on it.
-    #[tactic(auto, unfolding(crate::specs::Builder::seen_of))]
     pub fn new(alloc: Global, human_readable: bool) -> Builder<'v>
         ensures { seen_of result
             ≡ record { state = fresh; failed = false; readable = human_readable } }
     {
+        Builder::under(alloc, human_readable, None)
+    }
+
+    /// A builder to which no call was made, under a limit on how deep trees nest, which is at least
+    /// 1. It takes no memory. (Ours.)
+    ///
+    /// The tree of the whole list has depth 1, and a tree inside another that one's depth plus 1;
+    /// the trees of values that are dropped count too. A call that would pass the limit answers
+    /// `Misplaced`: at the limit a leaf and an opening call are taken, and a `Some`, a newtype
+    /// call and a call that announces an item are refused.
+    ///
+    /// ```rust
+    /// let mut builder = Builder::with_limit(alloc, false, 1);
+    /// builder.serialize_seq(None)?;
+    /// assert!(rt; builder.serialize_element().is_err());
+    /// ```
+    pub fn with_limit(alloc: Global, human_readable: bool, limit: usize) -> Builder<'v>
+        requires { 1 ≤ limit }
+        ensures { seen_of result
+            ≡ record { state = fresh_under (Some limit); failed = false; readable = human_readable } }
+    {
+        Builder::under(alloc, human_readable, Some(limit))
+    }
+
+    /// A builder to which no call was made, with a limit or none.
+    #[tactic(auto, unfolding(crate::specs::Builder::seen_of))]
+    pub(crate) fn under(alloc: Global, human_readable: bool, limit: Option<usize>) -> Builder<'v>
+        ensures { seen_of result
+            ≡ record { state = fresh_under limit; failed = false; readable = human_readable } }
+    {
         Builder {
-            frames: Frames::new(alloc),
+            frames: Some(Frames::new(alloc)),
             human_readable,
+            limit,
         }
     }
 
@@ -57,9 +111,12 @@ impl<'v> Builder<'v> {
     #[tactic(auto, unfolding(crate::specs::Builder::seen_of))]
     pub(crate) fn open_count(&self) -> usize
         ensures { (seen_of self.now).failed ≡ false
-            → result ≡ open_count (seen_of self.now).state }
+            → result ≡ open_count (seen_of self.now).state.tree }
     {
-        self.frames.open_count()
+        match &self.frames {
+            Some(frames) => frames.open_count(),
+            None => 0,
+        }
     }
 
     /// The tree that the calls spell. Its texts and bytes are owned and its names static.
@@ -68,16 +125,20 @@ impl<'v> Builder<'v> {
     /// tree yet. It takes no memory.
     #[tactic(auto, unfolding(crate::specs::Builder::seen_of))]
     pub fn finish(self) -> Result<Value<'v>>
-        ensures value { Finishes (seen_of self.entry).failed (seen_of self.entry).state result }
+        ensures value { Finishes (seen_of self.entry).failed
+            (seen_of self.entry).state.tree result }
         // it takes no memory
         ensures memory { IfErr result (λ e. ¬ IsOutOfMemory e) }
     {
-        self.frames.finish()
+        match self.frames {
+            Some(frames) => frames.finish(),
+            None => Err(ErrorKind::Failed.into()),
+        }
     }
 }
 
 impl<'v> Serializer for Builder<'v> {
-    ghost State = { Partial };
+    ghost State = { Limited };
 
     ghost seen = { seen_of };
 
@@ -85,18 +146,18 @@ impl<'v> Serializer for Builder<'v> {
 
     ghost refuses = { refuses };
 
-    /// Errors: `Misplaced` where no whole list begins with the calls so far and this one,
-    /// `OutOfMemory` where an allocation failed, `Failed` after either. Memory is taken for texts,
+    /// Errors: `Misplaced` where no whole list, within the limit, begins with the calls so far and
+    /// this one, `OutOfMemory` where an allocation failed, `Failed` after either. Memory is taken for texts,
     /// bytes, items and boxes.
     fn call(&mut self, call: Call<'_>) -> Result<()>
-        // one step of the partial tree
+        // one step of the partial tree, under its limit
         ensures taken { Takes step refuses (seen_of self.old)
             (event_of call.entry) result (seen_of self.new) }
-        // it is taken, or refused for memory, only where some whole list begins with the calls so
-        // far and this one, and refused as out of place only where none does
+        // it is taken, or refused for memory, only where some list that is whole within the limit
+        // begins with the calls so far and this one, and refused as out of place only where none does
         ensures exact { AnswersExactly (seen_of self.old) (event_of call.entry) result }
     {
-        self.frames.take(Token::of(&call))
+        take(&mut self.frames, self.limit, Token::of(&call))
     }
 
     #[tactic(auto, unfolding(crate::specs::Builder::seen_of))]
@@ -106,6 +167,9 @@ impl<'v> Serializer for Builder<'v> {
 
     #[tactic(auto, unfolding(crate::specs::Builder::seen_of))]
     fn is_failed(&self) -> bool {
-        self.frames.is_failed()
+        match &self.frames {
+            Some(frames) => frames.is_failed(),
+            None => true,
+        }
     }
 }

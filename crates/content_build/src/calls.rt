@@ -1,11 +1,14 @@
 //! The tree that a list of calls spells.
 
-ghost use Rattle.std.specs.Prelude.{ℕ, length};
+ghost use Rattle.std.specs.Prelude.{ℕ, ◌≤◌, length, Some};
 ghost use Rattle.content_tree.specs.Values.Tree.{Tree};
 ghost use Rattle.content_tree.specs.declared.error.ErrorKind.TheVariants.{Misplaced, Unfinished};
 ghost use Rattle.content_ser.specs.Calls.Call.{events_of};
+ghost use Rattle.content_ser.specs.Grammar.Depth.{IsLimit, SpellsWithin, IsWholeWithin};
+ghost use Rattle.content_ser.specs.Grammar.Depth.{IsViableWithin};
 ghost use Rattle.content_ser.specs.Grammar.Spells.{SpellsWhole, IsWhole, IsViable};
-ghost use Rattle.content_build.specs.Answers.{IsAnswer, IsRefusal, IfTaken, IfRefused};
+ghost use Rattle.content_build.specs.Answers.{IsAnswer, IsAnswerUnder, IsRefusal, IsRefusalUnder};
+ghost use Rattle.content_build.specs.Answers.{IfTaken, IfRefused};
 
 use crate::builder::Builder;
 use crate::calls_error::CallsError;
@@ -13,11 +16,16 @@ use content_ser::{Call, Serializer};
 use content_tree::Value;
 use std::alloc::Global;
 
-/// The tree that the calls spell, or the place of the first call that is refused.
-fn build<'v>(alloc: Global, calls: &[Call<'_>]) -> Result<Value<'v>, CallsError>
-    ensures { IsAnswer (events_of calls.now) result }
+/// The tree that the calls spell under the limit, or the place of the first call that is refused.
+fn build<'v>(
+    alloc: Global,
+    calls: &[Call<'_>],
+    limit: Option<usize>,
+) -> Result<Value<'v>, CallsError>
+    requires { IsLimit limit }
+    ensures { IsAnswerUnder limit (events_of calls.now) result }
 {
-    let mut builder = Builder::new(alloc, false);
+    let mut builder = Builder::under(alloc, false, limit);
     for (at, call) in calls.iter().enumerate() {
         match builder.call(call.lend()) {
             Ok(()) => {}
@@ -49,7 +57,6 @@ fn build<'v>(alloc: Global, calls: &[Call<'_>]) -> Result<Value<'v>, CallsError>
 ///     Err(refusal) => assert_eq!(rt; refusal.at, 1),
 /// }
 /// ```
-#[tactic(auto, using(crate::proofs::Headline::only))]
 pub fn from_calls<'v>(alloc: Global, calls: &[Call<'_>]) -> Result<Value<'v>, CallsError>
     // a tree that the calls spell, or a refusal at the right place for the right cause
     ensures answer { IsAnswer (events_of calls.now) result }
@@ -62,5 +69,43 @@ pub fn from_calls<'v>(alloc: Global, calls: &[Call<'_>]) -> Result<Value<'v>, Ca
     ensures unfinished { IsViable (events_of calls.now) → ¬ IsWhole (events_of calls.now)
         → IfRefused result Unfinished (length calls.now) }
 {
-    build(alloc, calls)
+    build(alloc, calls, None)
+}
+
+/// The tree that a list of calls spells within a limit on how deep trees nest, which is at least 1:
+/// [`from_calls`] for lists from strangers. (Ours.)
+///
+/// The tree of the whole list has depth 1, and a tree inside another that one's depth plus 1; the
+/// trees of values that are dropped count too. A list in which some depth passes the limit spells
+/// none, and is refused as `Misplaced` at the first call after which each list that spells a tree
+/// passes it: a `Some`, a newtype call, or a call that announces an item.
+///
+/// ```rust
+/// let calls = [Call::Seq(None), Call::Element, Call::Unit, Call::End];
+/// assert!(rt; from_calls_within(alloc, &calls, 2).is_ok());
+/// match from_calls_within(alloc, &calls, 1) {
+///     Ok(_) => assert!(rt; false),
+///     Err(refusal) => assert_eq!(rt; refusal.at, 1),
+/// }
+/// ```
+pub fn from_calls_within<'v>(
+    alloc: Global,
+    calls: &[Call<'_>],
+    limit: usize,
+) -> Result<Value<'v>, CallsError>
+    requires { 1 ≤ limit }
+    // a tree that the calls spell within the limit, or a refusal at the right place for the right
+    // cause
+    ensures answer { IsAnswerUnder (Some limit) (events_of calls.now) result }
+    // what spells a tree within the limit is taken
+    ensures whole { (t : Tree) → SpellsWithin limit (events_of calls.now) t → IfTaken result t }
+    // the first call after which no list that is whole within the limit can follow is out of place
+    ensures misplaced { (at : ℕ) → IsRefusalUnder (Some limit) (events_of calls.now) at Misplaced
+        → IfRefused result Misplaced at }
+    // what could go on to spell a tree within the limit, and spells none, is unfinished
+    ensures unfinished { IsViableWithin limit (events_of calls.now)
+        → ¬ IsWholeWithin limit (events_of calls.now)
+        → IfRefused result Unfinished (length calls.now) }
+{
+    build(alloc, calls, Some(limit))
 }

@@ -2,11 +2,12 @@
 
 ghost use Rattle.std.specs.Prelude.{◌≡◌};
 ghost use Rattle.std.specs.Bool.{Decides};
-ghost use Rattle.std.specs.Ordering.{bool_cmp};
+ghost use Rattle.std.specs.Option.{option_cmp};
+ghost use Rattle.std.specs.Ordering.{bool_cmp, nat_cmp, ordering_then};
 ghost use Rattle.content_build.specs.Answers.{SameRefusal};
 ghost use Rattle.content_build.specs.Builder.{StepsAreExact};
 ghost use Rattle.content_build.specs.Recorder.{SentIsListed};
-ghost use Rattle.content_build.specs.Serializer.{is_readable};
+ghost use Rattle.content_build.specs.Serializer.{is_readable, limit_of};
 
 use crate::calls_error::CallsError;
 use crate::serializer::Serializer;
@@ -33,17 +34,20 @@ pub fn equal_refusals(a: &CallsError, b: &CallsError) -> bool
     *a == *b
 }
 
-/// What `==` of serialisers answers: whether their flags are the same. It takes no memory.
+/// What `==` of serialisers answers: whether their flags and their limits are the same. It takes
+/// no memory.
 pub fn equal_serializers(a: Serializer, b: Serializer) -> bool
-    ensures { Decides result (is_readable a ≡ is_readable b) }
+    ensures { Decides result ((is_readable a ≡ is_readable b) × (limit_of a ≡ limit_of b)) }
 {
     a == b
 }
 
 /// What the order of serialisers answers: that with the flag off is less than that with the flag
-/// on. It takes no memory.
+/// on; of two with the same flag that with no limit is less than that with one, and then that with
+/// the smaller limit. It takes no memory.
 pub fn compare_serializers(a: Serializer, b: Serializer) -> Ordering
-    ensures { result ≡ bool_cmp (is_readable a) (is_readable b) }
+    ensures { result ≡ ordering_then (bool_cmp (is_readable a) (is_readable b))
+        (option_cmp nat_cmp (limit_of a) (limit_of b)) }
 {
     a.cmp(&b)
 }

@@ -7,6 +7,7 @@ mod calls_error;
 mod canonical;
 mod frames;
 pub mod laws;
+mod limit;
 mod parts;
 mod prefix;
 mod recorder;
@@ -15,7 +16,7 @@ mod slots;
 mod token;
 
 pub use builder::Builder;
-pub use calls::from_calls;
+pub use calls::{from_calls, from_calls_within};
 pub use calls_error::CallsError;
 pub use canonical::{canonical_is_built, canonical_is_missing};
 pub use prefix::from_calls_prefix;

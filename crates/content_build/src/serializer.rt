@@ -1,7 +1,8 @@
 //! The tree of anything that can be serialised.
 
-ghost use Rattle.std.specs.Prelude.{◌≡◌, true, false};
-ghost use Rattle.content_build.specs.Serializer.{is_readable, Serialized};
+ghost use Rattle.std.specs.Prelude.{◌≡◌, ◌≤◌, ℕ, true, false, None, Some};
+ghost use Rattle.content_build.specs.Serializer.{is_readable, limit_of, Serialized};
+ghost use Rattle.content_build.specs.Serializer.{SerializedWithin};
 
 use crate::builder::Builder;
 use content_ser::Serialize;
@@ -10,8 +11,9 @@ use std::alloc::Global;
 
 /// Makes the tree of anything that can be serialised. The name and the flag are `serde-content`'s.
 ///
-/// It has one flag: whether what is serialised is told that it is for people to read, which is off
-/// at first. Serialisers go by that flag in `==` and in the order.
+/// It has a flag, whether what is serialised is told that it is for people to read, which is off at
+/// first; and perhaps a limit on how deep trees nest (ours), at first none. Serialisers go by the
+/// flag and then by the limit in `==` and in the order, none before any.
 ///
 /// ```rust
 /// let held = Box::new(alloc, Value::from(7u8))?;
@@ -20,35 +22,65 @@ use std::alloc::Global;
 #[derive(Clone, Copy, Debug, PartialEq, Eq, PartialOrd, Ord)]
 pub struct Serializer {
     human_readable: bool,
+    limit: Option<usize>,
 }
 
 impl Serializer {
-    /// A serialiser with the flag off. It takes no memory.
+    /// A serialiser with the flag off and no limit. It takes no memory.
     pub fn new() -> Serializer
-        ensures { is_readable result ≡ false }
+        ensures readable { is_readable result ≡ false }
+        ensures limit { limit_of result ≡ None }
     {
         Serializer {
             human_readable: false,
+            limit: None,
         }
     }
 
     /// The same with the flag on. It takes no memory.
     pub fn human_readable(self) -> Serializer
-        ensures { is_readable result ≡ true }
+        ensures readable { is_readable result ≡ true }
+        ensures limit { limit_of result ≡ limit_of self }
     {
         Serializer {
             human_readable: true,
+            limit: self.limit,
+        }
+    }
+
+    /// The same under this limit on how deep trees nest, which is at least 1, in the place of any
+    /// before. It takes no memory. (Ours.)
+    ///
+    /// A leaf and an empty compound have depth 1, and what holds others has one more than the
+    /// deepest of them; the trees of values that are dropped count too.
+    ///
+    /// ```rust
+    /// assert!(rt; Serializer::new().depth_limit(2).serialize(alloc, &Some(7u8)).is_ok());
+    /// assert!(rt; Serializer::new().depth_limit(1).serialize(alloc, &Some(7u8)).is_err());
+    /// ```
+    pub fn depth_limit(self, limit: usize) -> Serializer
+        requires { 1 ≤ limit }
+        ensures readable { is_readable result ≡ is_readable self }
+        ensures limit { limit_of result ≡ Some limit }
+    {
+        Serializer {
+            human_readable: self.human_readable,
+            limit: Some(limit),
         }
     }
 
     /// The tree that the value's calls spell, with every text and byte value owned.
     ///
     /// Where the value's script stops, the error is of kind `Custom` with the stop's text. It is of
-    /// kind `OutOfMemory` where an allocation failed. No other error comes.
+    /// kind `OutOfMemory` where an allocation failed, and of kind `Misplaced` exactly where there is
+    /// a limit that the calls don't keep. No other error comes.
     pub fn serialize<T: Serialize>(self, alloc: Global, value: &T) -> Result<Value<'static>>
-        ensures { Serialized (T.script value.now (is_readable self)) result }
+        ensures unlimited { limit_of self ≡ None
+            → Serialized (T.script value.now (is_readable self)) result }
+        ensures within { (limit : ℕ) → limit_of self ≡ Some limit → 1 ≤ limit
+            → SerializedWithin limit (T.script value.now (is_readable self)) result }
     {
-        let mut builder: Builder<'static> = Builder::new(alloc, self.human_readable);
+        let mut builder: Builder<'static> = Builder::under(alloc, self.human_readable, self.limit);
         value.serialize(alloc, &mut builder)?;
         builder.finish()
     }
@@ -56,7 +88,8 @@ impl Serializer {
 
 /// As [`Serializer::new`].
 impl Default for Serializer {
-    ghost is_default = { λ serializer. is_readable serializer ≡ false };
+    ghost is_default = { λ serializer.
+        (is_readable serializer ≡ false) × (limit_of serializer ≡ None) };
 
     fn default() -> Serializer {
         Serializer::new()

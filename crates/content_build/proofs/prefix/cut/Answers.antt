@@ -1,11 +1,11 @@
-use Rattle.std.proofs.Common.{◌≤◌, ◌+◌, length, take, Ok, Err, sym, ap, subst, ◌∙◌, arith}
+use Rattle.std.proofs.Common.{◌≤◌, ◌+◌, length, take, None, Ok, Err, sym, ap, subst, ◌∙◌, arith}
 use Rattle.content_tree.specs.Errors.Kind.{kind_of}
 use Rattle.content_ser.specs.Calls.Call.{event_of, events_of}
 use Rattle.content_ser.specs.Serializers.Step.{Takes}
 use Rattle.content_build.specs.Builder.{seen_of, refuses, Finishes}
 use Rattle.content_build.specs.Cuts.{IsCutRefusal}
-use Rattle.content_build.specs.Partial.{step}
-use Rattle.content_build.proofs.Agreement.{viable_from_run}
+use Rattle.content_build.specs.Limit.{step}
+use Rattle.content_build.proofs.Limits.{viable_from_run}
 use Rattle.content_build.proofs.Cutting.{none_after, no_cut_more, cut_refused, cut_here, cut_unmade}
 use Rattle.content_build.proofs.Cutting.{open_not_whole, never_cut}
 use Rattle.content_build.proofs.Headline.{length-events, events-take, refused, onward}
@@ -17,7 +17,7 @@ returns-in-Err c =
     let old = seen_of c.loop-at.builder in
     let new = seen_of c.call.new.self in
     cut_refused (events_of c.args.calls.now) c.loop-at.at (kind_of c.in-Err.error) (rw length-events c.loop-at-test.true) none
-    (refused c.args.calls.now c.loop-at.at c.index-calls-at.result old new c.in-Err.error c.loop-at-test.true standing run
+    (refused None tt c.args.calls.now c.loop-at.at c.index-calls-at.result old new c.in-Err.error c.loop-at-test.true standing run
     (subst (λ e. Takes step refuses old e (Err c.in-Err.error) new) (c.lend.ensures ∙ ap event_of c.index-calls-at.is) c.in-Err.ensures.taken))
 
 pub loop-at-preserved : goal.loop-at-preserved
@@ -26,7 +26,7 @@ loop-at-preserved c =
     let old = seen_of c.loop-at.builder in
     let new = seen_of c.call.new.self in
     let events = events_of c.args.calls.now in
-    let next = onward c.args.calls.now c.loop-at.at c.index-calls-at.result old new c.loop-at-test.true standing run
+    let next = onward None c.args.calls.now c.loop-at.at c.index-calls-at.result old new c.loop-at-test.true standing run
     (subst (λ e. Takes step refuses old e (Ok tt) new) (c.lend.ensures ∙ ap event_of c.index-calls-at.is) c.in-Ok.ensures.taken) in (
       next.0,
       next.1,
@@ -41,11 +41,11 @@ returns-in-Ok-finish c =
     let new = seen_of c.call.new.self in
     let calls = c.args.calls.now in
     let taken = subst (λ e. Takes step refuses old e (Ok tt) new) (c.lend.ensures ∙ ap event_of c.index-calls-at.is) c.in-Ok.ensures.taken in
-    let next = onward calls c.loop-at.at c.index-calls-at.result old new c.loop-at-test.true standing run taken in
+    let next = onward None calls c.loop-at.at c.index-calls-at.result old new c.loop-at-test.true standing run taken in
     let less : c.loop-at.at + 1 ≤ length (events_of calls) = rw length-events (omega arith) in
     cut_here (events_of calls) (c.loop-at.at + 1) new.state c.in-Ok-finish.value less (rw events-take at next.1)
     (none_after old new _ standing taken (sym (c.open_count.ensures next.0) ∙ c.if-open_count-eq0.true))
-    (subst (λ f. Finishes f new.state (Ok c.in-Ok-finish.value)) next.0 c.in-Ok-finish.ensures.value)
+    (subst (λ f. Finishes f new.state.tree (Ok c.in-Ok-finish.value)) next.0 c.in-Ok-finish.ensures.value)
 
 pub returns-in-Err-finish : goal.returns-in-Err-finish
 returns-in-Err-finish c =
@@ -54,11 +54,11 @@ returns-in-Err-finish c =
     let new = seen_of c.call.new.self in
     let calls = c.args.calls.now in
     let taken = subst (λ e. Takes step refuses old e (Ok tt) new) (c.lend.ensures ∙ ap event_of c.index-calls-at.is) c.in-Ok.ensures.taken in
-    let next = onward calls c.loop-at.at c.index-calls-at.result old new c.loop-at-test.true standing run taken in
+    let next = onward None calls c.loop-at.at c.index-calls-at.result old new c.loop-at-test.true standing run taken in
     let less : c.loop-at.at + 1 ≤ length (events_of calls) = rw length-events (omega arith) in
     cut_unmade (events_of calls) (c.loop-at.at + 1) new.state c.in-Err-finish.error less (rw events-take at next.1)
     (none_after old new _ standing taken (sym (c.open_count.ensures next.0) ∙ c.if-open_count-eq0.true))
-    (subst (λ f. Finishes f new.state (Err c.in-Err-finish.error)) next.0 c.in-Err-finish.ensures.value)
+    (subst (λ f. Finishes f new.state.tree (Err c.in-Err-finish.error)) next.0 c.in-Err-finish.ensures.value)
 
 pub returns : goal.returns
 returns c =
@@ -68,4 +68,4 @@ returns c =
     let state = (seen_of c.loop-at.builder).state in
     let ends : length events ≤ c.loop-at.at = rw length-events c.loop-at-test.false in
     subst (IsCutRefusal events (length calls)) (sym c.into.ensures)
-    (rw (← length-events calls) (never_cut events c.loop-at.at ends none (viable_from_run (take c.loop-at.at events) state (rw events-take at run))))
+    (rw (← length-events calls) (never_cut events c.loop-at.at ends none (viable_from_run None tt (take c.loop-at.at events) state (rw events-take at run))))

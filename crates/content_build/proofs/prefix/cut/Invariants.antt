@@ -1,7 +1,7 @@
 use Rattle.std.proofs.Common.{◌≡◌, false, Some, take}
 use Rattle.content_ser.specs.Calls.Call.{events_of}
-use Rattle.content_build.specs.Partial.{fresh, run}
 use Rattle.content_build.specs.Builder.{seen_of}
+use Rattle.content_build.specs.Limit.{fresh, run}
 use Rattle.content_build.proofs.Cutting.{NoCutTo}
 use Rattle.content_build.proofs.prefix.cut.Given as goal
 
