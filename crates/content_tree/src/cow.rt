@@ -5,7 +5,8 @@ ghost use Rattle.content_tree.specs.Values.Cases.{string_in, vec_in};
 ghost use Rattle.content_tree.specs.Errors.Kind.{IsOutOfMemory};
 
 use crate::error::Result;
-use std::alloc::Global;
+use std::alloc::{AllocError, Global};
+use std::result::Result as Answer;
 
 /// A text, borrowed or owned. A borrowed name is called static: in [`Value`](crate::Value) it lives
 /// as long as the program.
@@ -54,8 +55,17 @@ impl<'a> CowStr<'a> {
         ensures moved { IfSome (string_in self.entry) (λ text. result ≡ Ok text) }
         ensures memory { IfErr result (λ e. IsOutOfMemory e) }
     {
+        Ok(self.own(alloc)?)
+    }
+
+    /// The same, where an allocation fails with that alone.
+    #[inline(always)]
+    pub(crate) fn own(self, alloc: Global) -> Answer<String, AllocError>
+        ensures value { IfOk result (λ text. string_bytes text ≡ text_content self.entry) }
+        ensures moved { IfSome (string_in self.entry) (λ text. result ≡ Ok text) }
+    {
         match self {
-            CowStr::Borrowed(text) => Ok(String::from_str(alloc, text)?),
+            CowStr::Borrowed(text) => String::from_str(alloc, text),
             CowStr::Owned(text) => Ok(text),
         }
     }
@@ -66,6 +76,15 @@ impl<'a> CowStr<'a> {
         ensures value { IfOk result (λ copy. text_of copy ≡ text_of self.now) }
         ensures succeeds { IsTrue (text_of self.now).borrowed → IsOk result }
         ensures memory { IfErr result (λ e. IsOutOfMemory e) }
+    {
+        Ok(self.copy(alloc)?)
+    }
+
+    /// The same, where an allocation fails with that alone.
+    #[inline(always)]
+    pub(crate) fn copy(&self, alloc: Global) -> Answer<CowStr<'a>, AllocError>
+        ensures value { IfOk result (λ copy. text_of copy ≡ text_of self.now) }
+        ensures succeeds { IsTrue (text_of self.now).borrowed → IsOk result }
     {
         match self {
             CowStr::Borrowed(text) => Ok(CowStr::Borrowed(text)),
@@ -102,8 +121,17 @@ impl<'a> CowBytes<'a> {
         ensures moved { IfSome (vec_in self.entry) (λ bytes. result ≡ Ok bytes) }
         ensures memory { IfErr result (λ e. IsOutOfMemory e) }
     {
+        Ok(self.own(alloc)?)
+    }
+
+    /// The same, where an allocation fails with that alone.
+    #[inline(always)]
+    pub(crate) fn own(self, alloc: Global) -> Answer<Vec<u8>, AllocError>
+        ensures value { IfOk result (λ bytes. bytes.items ≡ bytes_content self.entry) }
+        ensures moved { IfSome (vec_in self.entry) (λ bytes. result ≡ Ok bytes) }
+    {
         match self {
-            CowBytes::Borrowed(bytes) => Ok(bytes.to_vec(alloc)?),
+            CowBytes::Borrowed(bytes) => bytes.to_vec(alloc),
             CowBytes::Owned(bytes) => Ok(bytes),
         }
     }
@@ -114,6 +142,15 @@ impl<'a> CowBytes<'a> {
         ensures value { IfOk result (λ copy. bytes_of copy ≡ bytes_of self.now) }
         ensures succeeds { IsTrue (bytes_of self.now).borrowed → IsOk result }
         ensures memory { IfErr result (λ e. IsOutOfMemory e) }
+    {
+        Ok(self.copy(alloc)?)
+    }
+
+    /// The same, where an allocation fails with that alone.
+    #[inline(always)]
+    pub(crate) fn copy(&self, alloc: Global) -> Answer<CowBytes<'a>, AllocError>
+        ensures value { IfOk result (λ copy. bytes_of copy ≡ bytes_of self.now) }
+        ensures succeeds { IsTrue (bytes_of self.now).borrowed → IsOk result }
     {
         match self {
             CowBytes::Borrowed(bytes) => Ok(CowBytes::Borrowed(bytes)),

@@ -1,4 +1,7 @@
 //! Values that own their texts and bytes.
+//!
+//! Inside, an `AllocError` alone is answered, and what holds parts is made anew by a function of
+//! its own, so that a level of a deep value takes little stack.
 ghost use Rattle.std.specs.Prelude.{◌≡◌, None, Ok, IsOk, IfOk, IfErr, IfSome};
 ghost use Rattle.content_tree.specs.Errors.Kind.{IsOutOfMemory};
 ghost use Rattle.content_tree.specs.Memory.{OwningTakesNoMemory, StructOwningTakesNoMemory};
@@ -16,13 +19,13 @@ ghost use Rattle.content_tree.specs.Values.Value.{held_view, trees_view, pairs_v
 use crate::cow::{CowBytes, CowStr};
 use crate::error::Result;
 use crate::value::{NamedData, NamedEnum, NamedStruct, NamedValue};
-use std::alloc::Global;
+use std::alloc::{AllocError, Global};
+use std::result::Result as Answer;
 
 impl<'a, 'n> NamedValue<'a, 'n> {
     /// The same tree with every text and byte value owned; names, variants and keys stay as they
     /// were. Owned texts and bytes are moved, borrowed ones copied; vectors and boxes are made
     /// anew. Where an allocation fails: an error of kind `OutOfMemory`.
-    #[cycle(own_value)]
     pub fn into_owned(self, alloc: Global) -> Result<NamedValue<'static, 'n>>
         ensures value { IfOk result (λ own. tree_of own ≡ owned (tree_of self.entry)) }
         ensures succeeds { OwningTakesNoMemory (tree_of self.entry) → IsOk result }
@@ -32,32 +35,7 @@ impl<'a, 'n> NamedValue<'a, 'n> {
             (λ own. result ≡ Ok (value.Bytes (bytes.Owned own))) }
         ensures memory { IfErr result (λ e. IsOutOfMemory e) }
     {
-        match self {
-            NamedValue::Unit => Ok(NamedValue::Unit),
-            NamedValue::Bool(boolean) => Ok(NamedValue::Bool(boolean)),
-            NamedValue::Number(number) => Ok(NamedValue::Number(number)),
-            NamedValue::Char(character) => Ok(NamedValue::Char(character)),
-            NamedValue::String(text) => {
-                let text = text.into_owned(alloc)?;
-                Ok(NamedValue::String(CowStr::Owned(text)))
-            }
-            NamedValue::Bytes(bytes) => {
-                let bytes = bytes.into_owned(alloc)?;
-                Ok(NamedValue::Bytes(CowBytes::Owned(bytes)))
-            }
-            NamedValue::Seq(items) => Ok(NamedValue::Seq(own_items(alloc, items)?)),
-            NamedValue::Map(pairs) => Ok(NamedValue::Map(own_pairs(alloc, pairs)?)),
-            NamedValue::Option(held) => Ok(NamedValue::Option(own_held(alloc, held)?)),
-            NamedValue::Struct(inner) => {
-                let inner = Box::into_inner(inner).into_owned(alloc)?;
-                Ok(NamedValue::Struct(Box::new(alloc, inner)?))
-            }
-            NamedValue::Enum(inner) => {
-                let inner = Box::into_inner(inner).into_owned(alloc)?;
-                Ok(NamedValue::Enum(Box::new(alloc, inner)?))
-            }
-            NamedValue::Tuple(items) => Ok(NamedValue::Tuple(own_items(alloc, items)?)),
-        }
+        Ok(own_value(alloc, self)?)
     }
 }
 
@@ -65,7 +43,6 @@ impl<'a, 'n> NamedStruct<'a, 'n> {
     /// The same tree with every text and byte value owned; names, variants and keys stay as they
     /// were. Owned texts and bytes are moved, borrowed ones copied; vectors and boxes are made
     /// anew. Where an allocation fails: an error of kind `OutOfMemory`.
-    #[cycle(own_value)]
     pub fn into_owned(self, alloc: Global) -> Result<NamedStruct<'static, 'n>>
         ensures value { IfOk result (λ own. struct_tree own ≡ owned (struct_tree self.entry)) }
         ensures succeeds { StructOwningTakesNoMemory (struct_tree self.entry) → IsOk result }
@@ -73,7 +50,7 @@ impl<'a, 'n> NamedStruct<'a, 'n> {
         ensures memory { IfErr result (λ e. IsOutOfMemory e) }
     {
         let NamedStruct { name, data } = self;
-        let data = data.into_owned(alloc)?;
+        let data = own_data(alloc, data)?;
         Ok(NamedStruct { name, data })
     }
 }
@@ -82,7 +59,6 @@ impl<'a, 'n> NamedEnum<'a, 'n> {
     /// The same tree with every text and byte value owned; names, variants and keys stay as they
     /// were. Owned texts and bytes are moved, borrowed ones copied; vectors and boxes are made
     /// anew. Where an allocation fails: an error of kind `OutOfMemory`.
-    #[cycle(own_value)]
     pub fn into_owned(self, alloc: Global) -> Result<NamedEnum<'static, 'n>>
         ensures value { IfOk result (λ own. enum_tree own ≡ owned (enum_tree self.entry)) }
         ensures succeeds { StructOwningTakesNoMemory (enum_tree self.entry) → IsOk result }
@@ -95,7 +71,7 @@ impl<'a, 'n> NamedEnum<'a, 'n> {
             variant,
             data,
         } = self;
-        let data = data.into_owned(alloc)?;
+        let data = own_data(alloc, data)?;
         Ok(NamedEnum {
             name,
             variant_index,
@@ -109,93 +85,172 @@ impl<'a, 'n> NamedData<'a, 'n> {
     /// The same tree with every text and byte value owned; names, variants and keys stay as they
     /// were. Owned texts and bytes are moved, borrowed ones copied; vectors and boxes are made
     /// anew. Where an allocation fails: an error of kind `OutOfMemory`.
-    #[cycle(own_value)]
     pub fn into_owned(self, alloc: Global) -> Result<NamedData<'static, 'n>>
         ensures value { IfOk result (λ own. tree_data_of own ≡ owned_data
             (tree_data_of self.entry)) }
         ensures succeeds { DataOwningTakesNoMemory (tree_data_of self.entry) → IsOk result }
         ensures memory { IfErr result (λ e. IsOutOfMemory e) }
     {
-        match self {
-            NamedData::Unit => Ok(NamedData::Unit),
-            NamedData::NewType { value } => Ok(NamedData::NewType {
-                value: value.into_owned(alloc)?,
-            }),
-            NamedData::Tuple { values } => Ok(NamedData::Tuple {
-                values: own_items(alloc, values)?,
-            }),
-            NamedData::Struct { fields } => Ok(NamedData::Struct {
-                fields: own_fields(alloc, fields)?,
-            }),
-        }
+        Ok(own_data(alloc, self)?)
     }
 }
 
 #[cycle(own_value)]
+#[inline(always)]
+fn own_value<'a, 'n>(
+    alloc: Global,
+    value: NamedValue<'a, 'n>,
+) -> Answer<NamedValue<'static, 'n>, AllocError>
+    ensures value { IfOk result (λ own. tree_of own ≡ owned (tree_of value.entry)) }
+    ensures succeeds { OwningTakesNoMemory (tree_of value.entry) → IsOk result }
+    ensures text { IfSome (string_at value.entry)
+        (λ own. result ≡ Ok (value.String (text.Owned own))) }
+    ensures bytes { IfSome (vec_at value.entry)
+        (λ own. result ≡ Ok (value.Bytes (bytes.Owned own))) }
+{
+    match value {
+        NamedValue::Unit => Ok(NamedValue::Unit),
+        NamedValue::Bool(boolean) => Ok(NamedValue::Bool(boolean)),
+        NamedValue::Number(number) => Ok(NamedValue::Number(number)),
+        NamedValue::Char(character) => Ok(NamedValue::Char(character)),
+        NamedValue::String(text) => Ok(NamedValue::String(CowStr::Owned(text.own(alloc)?))),
+        NamedValue::Bytes(bytes) => Ok(NamedValue::Bytes(CowBytes::Owned(bytes.own(alloc)?))),
+        NamedValue::Seq(items) => Ok(NamedValue::Seq(own_items(alloc, items)?)),
+        NamedValue::Map(pairs) => Ok(NamedValue::Map(own_pairs(alloc, pairs)?)),
+        NamedValue::Option(held) => Ok(NamedValue::Option(own_held(alloc, held)?)),
+        NamedValue::Struct(inner) => Ok(NamedValue::Struct(own_struct(alloc, inner)?)),
+        NamedValue::Enum(inner) => Ok(NamedValue::Enum(own_enum(alloc, inner)?)),
+        NamedValue::Tuple(items) => Ok(NamedValue::Tuple(own_items(alloc, items)?)),
+    }
+}
+
+#[cycle(own_value)]
+#[inline(never)]
+fn own_struct<'a, 'n>(
+    alloc: Global,
+    inner: Box<NamedStruct<'a, 'n>>,
+) -> Answer<Box<NamedStruct<'static, 'n>>, AllocError>
+    ensures value { IfOk result (λ own. struct_tree own.value ≡ owned
+        (struct_tree inner.entry.value)) }
+{
+    let NamedStruct { name, data } = Box::into_inner(inner);
+    let data = own_data(alloc, data)?;
+    Ok(Box::new(alloc, NamedStruct { name, data })?)
+}
+
+#[cycle(own_value)]
+#[inline(never)]
+fn own_enum<'a, 'n>(
+    alloc: Global,
+    inner: Box<NamedEnum<'a, 'n>>,
+) -> Answer<Box<NamedEnum<'static, 'n>>, AllocError>
+    ensures value { IfOk result (λ own. enum_tree own.value ≡ owned (enum_tree inner.entry.value)) }
+{
+    let NamedEnum {
+        name,
+        variant_index,
+        variant,
+        data,
+    } = Box::into_inner(inner);
+    let data = own_data(alloc, data)?;
+    let owned = NamedEnum {
+        name,
+        variant_index,
+        variant,
+        data,
+    };
+    Ok(Box::new(alloc, owned)?)
+}
+
+#[cycle(own_value)]
+#[inline(always)]
+fn own_data<'a, 'n>(
+    alloc: Global,
+    inner: NamedData<'a, 'n>,
+) -> Answer<NamedData<'static, 'n>, AllocError>
+    ensures value { IfOk result (λ own. tree_data_of own ≡ owned_data
+        (tree_data_of inner.entry)) }
+    ensures succeeds { DataOwningTakesNoMemory (tree_data_of inner.entry) → IsOk result }
+{
+    match inner {
+        NamedData::Unit => Ok(NamedData::Unit),
+        NamedData::NewType { value } => Ok(NamedData::NewType {
+            value: own_value(alloc, value)?,
+        }),
+        NamedData::Tuple { values } => Ok(NamedData::Tuple {
+            values: own_items(alloc, values)?,
+        }),
+        NamedData::Struct { fields } => Ok(NamedData::Struct {
+            fields: own_fields(alloc, fields)?,
+        }),
+    }
+}
+
+#[cycle(own_value)]
+#[inline(never)]
 fn own_held<'a, 'n>(
     alloc: Global,
     held: Option<Box<NamedValue<'a, 'n>>>,
-) -> Result<Option<Box<NamedValue<'static, 'n>>>>
+) -> Answer<Option<Box<NamedValue<'static, 'n>>>, AllocError>
     ensures value { IfOk result (λ own. held_view own ≡ owned (held_view held.entry)) }
     ensures succeeds { held.entry ≡ None → IsOk result }
-    ensures memory { IfErr result (λ e. IsOutOfMemory e) }
 {
     match held {
         None => Ok(None),
         Some(inner) => {
-            let inner = Box::into_inner(inner).into_owned(alloc)?;
+            let inner = own_value(alloc, Box::into_inner(inner))?;
             Ok(Some(Box::new(alloc, inner)?))
         }
     }
 }
 
 #[cycle(own_value)]
+#[inline(never)]
 fn own_items<'a, 'n>(
     alloc: Global,
     items: Vec<NamedValue<'a, 'n>>,
-) -> Result<Vec<NamedValue<'static, 'n>>>
+) -> Answer<Vec<NamedValue<'static, 'n>>, AllocError>
     ensures value { IfOk result (λ own. trees_view own.items ≡ at_texts_each to_owned (λ n. n)
         (trees_view items.entry.items)) }
-    ensures memory { IfErr result (λ e. IsOutOfMemory e) }
 {
-    let mut owned = Vec::new(alloc);
+    let mut owned = Vec::with_capacity(alloc, items.len())?;
     for item in items {
-        owned.push(item.into_owned(alloc)?)?;
+        owned.push_reserved(own_value(alloc, item)?);
     }
     Ok(owned)
 }
 
 #[cycle(own_value)]
+#[inline(never)]
 fn own_pairs<'a, 'n>(
     alloc: Global,
     pairs: Vec<(NamedValue<'a, 'n>, NamedValue<'a, 'n>)>,
-) -> Result<Vec<(NamedValue<'static, 'n>, NamedValue<'static, 'n>)>>
+) -> Answer<Vec<(NamedValue<'static, 'n>, NamedValue<'static, 'n>)>, AllocError>
     ensures value { IfOk result (λ own. pairs_view own.items ≡ at_texts_pairs to_owned (λ n. n)
         (pairs_view pairs.entry.items)) }
-    ensures memory { IfErr result (λ e. IsOutOfMemory e) }
 {
-    let mut owned = Vec::new(alloc);
+    let mut owned = Vec::with_capacity(alloc, pairs.len())?;
     for (key, value) in pairs {
-        let key = key.into_owned(alloc)?;
-        let value = value.into_owned(alloc)?;
-        owned.push((key, value))?;
+        let key = own_value(alloc, key)?;
+        let value = own_value(alloc, value)?;
+        owned.push_reserved((key, value));
     }
     Ok(owned)
 }
 
 #[cycle(own_value)]
+#[inline(never)]
 fn own_fields<'a, 'n>(
     alloc: Global,
     fields: Vec<(CowStr<'n>, NamedValue<'a, 'n>)>,
-) -> Result<Vec<(CowStr<'n>, NamedValue<'static, 'n>)>>
+) -> Answer<Vec<(CowStr<'n>, NamedValue<'static, 'n>)>, AllocError>
     ensures value { IfOk result (λ own. fields_view own.items ≡ at_texts_fields to_owned (λ n. n)
         (fields_view fields.entry.items)) }
-    ensures memory { IfErr result (λ e. IsOutOfMemory e) }
 {
-    let mut owned = Vec::new(alloc);
+    let mut owned = Vec::with_capacity(alloc, fields.len())?;
     for (key, value) in fields {
-        let value = value.into_owned(alloc)?;
-        owned.push((key, value))?;
+        let value = own_value(alloc, value)?;
+        owned.push_reserved((key, value));
     }
     Ok(owned)
 }
