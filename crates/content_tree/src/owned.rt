@@ -99,16 +99,16 @@ impl<'a, 'n> NamedData<'a, 'n> {
 #[inline(always)]
 fn own_value<'a, 'n>(
     alloc: Global,
-    value: NamedValue<'a, 'n>,
+    held: NamedValue<'a, 'n>,
 ) -> Answer<NamedValue<'static, 'n>, AllocError>
-    ensures value { IfOk result (λ own. tree_of own ≡ owned (tree_of value.entry)) }
-    ensures succeeds { OwningTakesNoMemory (tree_of value.entry) → IsOk result }
-    ensures text { IfSome (string_at value.entry)
+    ensures value { IfOk result (λ own. tree_of own ≡ owned (tree_of held.entry)) }
+    ensures succeeds { OwningTakesNoMemory (tree_of held.entry) → IsOk result }
+    ensures text { IfSome (string_at held.entry)
         (λ own. result ≡ Ok (value.String (text.Owned own))) }
-    ensures bytes { IfSome (vec_at value.entry)
+    ensures bytes { IfSome (vec_at held.entry)
         (λ own. result ≡ Ok (value.Bytes (bytes.Owned own))) }
 {
-    match value {
+    match held {
         NamedValue::Unit => Ok(NamedValue::Unit),
         NamedValue::Bool(boolean) => Ok(NamedValue::Bool(boolean)),
         NamedValue::Number(number) => Ok(NamedValue::Number(number)),
@@ -117,7 +117,7 @@ fn own_value<'a, 'n>(
         NamedValue::Bytes(bytes) => Ok(NamedValue::Bytes(CowBytes::Owned(bytes.own(alloc)?))),
         NamedValue::Seq(items) => Ok(NamedValue::Seq(own_items(alloc, items)?)),
         NamedValue::Map(pairs) => Ok(NamedValue::Map(own_pairs(alloc, pairs)?)),
-        NamedValue::Option(held) => Ok(NamedValue::Option(own_held(alloc, held)?)),
+        NamedValue::Option(inner) => Ok(NamedValue::Option(own_held(alloc, inner)?)),
         NamedValue::Struct(inner) => Ok(NamedValue::Struct(own_struct(alloc, inner)?)),
         NamedValue::Enum(inner) => Ok(NamedValue::Enum(own_enum(alloc, inner)?)),
         NamedValue::Tuple(items) => Ok(NamedValue::Tuple(own_items(alloc, items)?)),
@@ -130,7 +130,7 @@ fn own_struct<'a, 'n>(
     alloc: Global,
     inner: Box<NamedStruct<'a, 'n>>,
 ) -> Answer<Box<NamedStruct<'static, 'n>>, AllocError>
-    ensures value { IfOk result (λ own. struct_tree own.value ≡ owned
+    ensures { IfOk result (λ own. struct_tree own.value ≡ owned
         (struct_tree inner.entry.value)) }
 {
     let NamedStruct { name, data } = Box::into_inner(inner);
@@ -144,7 +144,7 @@ fn own_enum<'a, 'n>(
     alloc: Global,
     inner: Box<NamedEnum<'a, 'n>>,
 ) -> Answer<Box<NamedEnum<'static, 'n>>, AllocError>
-    ensures value { IfOk result (λ own. enum_tree own.value ≡ owned (enum_tree inner.entry.value)) }
+    ensures { IfOk result (λ own. enum_tree own.value ≡ owned (enum_tree inner.entry.value)) }
 {
     let NamedEnum {
         name,
@@ -210,7 +210,7 @@ fn own_items<'a, 'n>(
     alloc: Global,
     items: Vec<NamedValue<'a, 'n>>,
 ) -> Answer<Vec<NamedValue<'static, 'n>>, AllocError>
-    ensures value { IfOk result (λ own. trees_view own.items ≡ at_texts_each to_owned (λ n. n)
+    ensures { IfOk result (λ own. trees_view own.items ≡ at_texts_each to_owned (λ n. n)
         (trees_view items.entry.items)) }
 {
     let mut owned = Vec::with_capacity(alloc, items.len())?;
@@ -226,7 +226,7 @@ fn own_pairs<'a, 'n>(
     alloc: Global,
     pairs: Vec<(NamedValue<'a, 'n>, NamedValue<'a, 'n>)>,
 ) -> Answer<Vec<(NamedValue<'static, 'n>, NamedValue<'static, 'n>)>, AllocError>
-    ensures value { IfOk result (λ own. pairs_view own.items ≡ at_texts_pairs to_owned (λ n. n)
+    ensures { IfOk result (λ own. pairs_view own.items ≡ at_texts_pairs to_owned (λ n. n)
         (pairs_view pairs.entry.items)) }
 {
     let mut owned = Vec::with_capacity(alloc, pairs.len())?;
@@ -244,7 +244,7 @@ fn own_fields<'a, 'n>(
     alloc: Global,
     fields: Vec<(CowStr<'n>, NamedValue<'a, 'n>)>,
 ) -> Answer<Vec<(CowStr<'n>, NamedValue<'static, 'n>)>, AllocError>
-    ensures value { IfOk result (λ own. fields_view own.items ≡ at_texts_fields to_owned (λ n. n)
+    ensures { IfOk result (λ own. fields_view own.items ≡ at_texts_fields to_owned (λ n. n)
         (fields_view fields.entry.items)) }
 {
     let mut owned = Vec::with_capacity(alloc, fields.len())?;

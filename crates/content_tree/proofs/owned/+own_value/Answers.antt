@@ -11,17 +11,17 @@ pub own_data-returns-in_ok-own_fields-in-Struct-clause-value :
     goal.own_data-returns-in_ok-own_fields-in-Struct-clause-value
 own_data-returns-in_ok-own_fields-in-Struct-clause-value t c = grind (rules, tree_data_of-Struct)
 
-pub own_fields-returns-clause-value : goal.own_fields-returns-clause-value
-own_fields-returns-clause-value t c =
+pub own_fields-returns : goal.own_fields-returns
+own_fields-returns t c =
     let all : c.args.fields.items ≡ c.loop-key.yielded = nothing_left _ _ _ c.loop-key.invariant.2 (omega (arith, c.in-None.ensures.steps.0)) in
     ap fields_of c.loop-key.invariant.5 ∙ fields_owned c.loop-key.yielded ∙ ap (λ fs. at_texts_fields to_owned (λ n. n) (fields_view fs)) (sym all)
 
-pub own_items-returns-clause-value : goal.own_items-returns-clause-value
-own_items-returns-clause-value t c =
+pub own_items-returns : goal.own_items-returns
+own_items-returns t c =
     let all : c.args.items.items ≡ c.loop-item.yielded = nothing_left _ _ _ c.loop-item.invariant.2 (omega (arith, c.in-None.ensures.steps.0)) in
     ap trees_of c.loop-item.invariant.5 ∙ trees_owned c.loop-item.yielded ∙ ap (λ ts. at_texts_each to_owned (λ n. n) (trees_view ts)) (sym all)
 
-pub own_pairs-returns-clause-value : goal.own_pairs-returns-clause-value
-own_pairs-returns-clause-value t c =
+pub own_pairs-returns : goal.own_pairs-returns
+own_pairs-returns t c =
     let all : c.args.pairs.items ≡ c.loop-key.yielded = nothing_left _ _ _ c.loop-key.invariant.2 (omega (arith, c.in-None.ensures.steps.0)) in
     ap pairs_of c.loop-key.invariant.5 ∙ pairs_owned c.loop-key.yielded ∙ ap (λ ps. at_texts_pairs to_owned (λ n. n) (pairs_view ps)) (sym all)
