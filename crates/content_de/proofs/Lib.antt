@@ -6,3 +6,4 @@ pub mod Ends
 pub mod Ties
 pub mod Plains
 pub mod PlainLaws
+pub mod Coercion

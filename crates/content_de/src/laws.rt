@@ -4,7 +4,7 @@ ghost use Rattle.std.specs.Prelude.{◌≡◌};
 ghost use Rattle.std.specs.Bool.{Decides};
 ghost use Rattle.content_de.specs.Sources.Deserializer.{subject};
 ghost use Rattle.content_de.specs.Sources.Order.{SameSubject, subject_cmp};
-ghost use Rattle.content_de.specs.Laws.{PlainOnce, PlainVariant};
+ghost use Rattle.content_de.specs.Laws.{CoercionKeeps, PlainOnce, PlainVariant};
 
 use crate::deserializer::Deserializer;
 use std::cmp::Ordering;
@@ -46,4 +46,11 @@ pub fn plain_once()
 #[tactic(auto, using(crate::proofs::PlainLaws::variant_stays))]
 pub fn plain_variant()
     ensures { PlainVariant }
+{}
+
+/// A request that is taken is taken with coercion too: with the same datum, and the same parts but
+/// for that flag, which they have then. The parts of a variant are taken so as well.
+#[tactic(auto, using(crate::proofs::Coercion::coercion_kept))]
+pub fn coercion_keeps()
+    ensures { CoercionKeeps }
 {}
