@@ -28,11 +28,11 @@ sent_or_memory sc e (Ok y) such s is = absurd is
 sent_or_memory sc e (Err x) such s is = subst (λ z. IsOutOfMemory z) (sym is) (refused_for_memory sc e such s)
 
 -- what is read of the tree that a value was sent as
-pub returned : {A : Type 0} {script : ScriptOf A} {refusal : Refusal} {gives : Gives A} {eq : A → A → Bool} → ComesBack script refusal gives eq
-    → (x : A) (f : Flags) (v : NamedValue) → Serialized (script x f.human_readable) (Ok v)
+pub returned : {A : Type 0} {exists : A → Type 0} {script : ScriptOf A} {refusal : Refusal} {gives : Gives A} {eq : A → A → Bool} → ComesBack exists script refusal gives eq
+    → (x : A) → exists x → (f : Flags) (v : NamedValue) → Serialized (script x f.human_readable) (Ok v)
     → GivesOnly (refusal (tree_under f (tree_of v))) (gives (tree_under f (tree_of v))) (λ y. eq x y ≡ true)
-returned {script} {refusal} {gives} {eq} back x f v s =
-    let b = back.of_value x f in
+returned {script} {refusal} {gives} {eq} back x real f v s =
+    let b = back.of_value x real f in
     subst (λ t. GivesOnly (refusal (tree_under f t)) (gives (tree_under f t)) (λ y. eq x y ≡ true)) (one_tree (calls_of (script x f.human_readable)) b.whole (tree_of v) b.spelled s.1) b.such
 
 -- no cause but out of memory

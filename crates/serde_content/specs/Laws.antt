@@ -2,5 +2,6 @@ pub mod Spelled
 pub mod Leaves
 pub mod Holders
 pub mod Rows
+pub mod Maps
 pub mod Records
 pub mod Variants

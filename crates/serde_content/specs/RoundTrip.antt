@@ -1,5 +1,9 @@
 -- What a round trip means: a value is sent, and the tree that its calls spell is read again.
-use Rattle.std.specs.Prelude.{◌≡◌, Bool, true, false, Option, None}
+use Rattle.std.specs.Prelude.{◌≡◌, Bool, true, false, List, Option, None}
+use Rattle.std.specs.List.{AllByRecursion}
+use Rattle.std.specs.List.Sorted.{IsStrictlySortedBy}
+use Rattle.std.specs.Map.{keys_of}
+use Rattle.std.specs.declared.cmp.Ordering.{Ordering}
 use Rattle.content_tree.specs.Values.Tree.{Tree}
 use Rattle.content_tree.specs.Errors.Cause.{Cause}
 use Rattle.content_ser.specs.Scripts.Script.{Script, calls_of, stop_of}
@@ -20,14 +24,19 @@ pub record GivesOnly {A : Type 0} (refusal : Option Cause) (gives such : A → T
   pub free : refusal ≡ None
   pub only : (x : A) → gives x → such x
 
--- a value is sent as a tree that, read for people where it was sent for people, with or without coercion, gives an equal value
-pub record ComesBack {A : Type 0} (script : ScriptOf A) (refusal : Refusal) (gives : Gives A) (eq : A → A → Bool) : Type 0 where
-  pub of_value : (x : A) (f : Flags) → SpellsSuch (λ t. GivesOnly (refusal (tree_under f t)) (gives (tree_under f t)) (λ y. eq x y ≡ true)) (script x f.human_readable)
+-- a value that exists is sent as a tree that, read for people where it was sent for people, with or without coercion, gives an equal value
+pub record ComesBack {A : Type 0} (exists : A → Type 0) (script : ScriptOf A) (refusal : Refusal) (gives : Gives A) (eq : A → A → Bool) : Type 0 where
+  pub of_value : (x : A) → exists x → (f : Flags) → SpellsSuch (λ t. GivesOnly (refusal (tree_under f t)) (gives (tree_under f t)) (λ y. eq x y ≡ true)) (script x f.human_readable)
 
 -- there is no refusal, and this value may be given
 pub record MayGive {A : Type 0} (refusal : Option Cause) (gives : A → Type 0) (x : A) : Type 0 where
   pub free : refusal ≡ None
   pub given : gives x
+
+-- the entries of a map that exists: the keys ascend, and each key and value exists
+pub record EntriesExist {K V : Type 0} (key : K → Type 0) (value : V → Type 0) (order : K → K → Ordering) (es : List (K × V)) : Type 0 where
+  pub ascend : IsStrictlySortedBy order (keys_of es)
+  pub each : AllByRecursion (λ e. key e.0 × value e.1) es
 
 -- the two flags
 abbrev pub flags : (human_readable coerces : Bool) → Flags

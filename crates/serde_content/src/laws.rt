@@ -9,7 +9,9 @@ pub use content_build::laws::{
     compare_serializers, equal_refusals, equal_serializers, sent_is_listed, steps_are_exact,
 };
 pub use content_build::{canonical_is_built, canonical_is_missing};
-pub use content_de::laws::{compare_deserializers, equal_deserializers, plain_once, plain_variant};
+pub use content_de::laws::{
+    coercion_keeps, compare_deserializers, equal_deserializers, plain_once, plain_variant,
+};
 pub use content_ser::laws::{canonical_or_stops, canonical_spelled, equal_by_contents};
 pub use content_ser::{canonical_once, loose_once, script_spells, static_is_canonical};
 pub use content_tree::laws::{

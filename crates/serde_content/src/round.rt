@@ -1,6 +1,6 @@
 //! Values that come back: what is sent is read again as an equal value.
 
-ghost use Rattle.std.specs.Prelude.{◌≡◌, true, IfOk, IfErr};
+ghost use Rattle.std.specs.Prelude.{◌≡◌, true, IfOk, IfErr, ⊤};
 ghost use Rattle.content_tree.specs.Errors.Kind.{IsOutOfMemory};
 ghost use Rattle.content_tree.specs.Values.Value.{tree_of};
 ghost use Rattle.content_build.specs.Serializer.{Serialized};
@@ -14,6 +14,7 @@ use content_ser::Serialize;
 use content_tree::{NamedValue, Result, Value};
 use std::alloc::Global;
 
+mod map;
 mod standard;
 mod tuple;
 
@@ -24,9 +25,18 @@ mod tuple;
 /// people where the value was sent for people, with numbers coerced or not. [`round_trip`] does
 /// both.
 pub trait RoundTrip<'de>: Eq + Serialize + Deserialize<'de> {
-    /// A value's script has no stop. The tree that its calls spell isn't refused, and every value
-    /// that reading it may answer is equal to the value by the type's `==`.
-    ghost comes_back: { ComesBack Self.script Self.refusal Self.gives Self.eq };
+    /// Holds of each value of the type. Of most types all that contracts can name are values. What
+    /// they see of a `BTreeMap` is a list of entries, and a map is one whose keys ascend.
+    ghost exists: { Self → Type 0 } = { λ value. ⊤ };
+
+    /// Tells proofs that this value exists. It answers nothing and takes no memory; what holds
+    /// others looks at each of them.
+    fn known(&self)
+        ensures { exists self.now };
+
+    /// The script of a value that exists has no stop. The tree that its calls spell isn't refused,
+    /// and every value that reading it may answer is equal to the value by the type's `==`.
+    ghost comes_back: { ComesBack exists Self.script Self.refusal Self.gives Self.eq };
 
     /// Each value that a source may give without coercion it may give with it.
     ghost keeps: { CoercionKeeps Self.refusal Self.gives };
@@ -52,6 +62,7 @@ pub fn round_trip<'de, T: RoundTrip<'de>>(
     ensures value { IfOk result (λ back. T.eq value.now back ≡ true) }
     ensures memory { IfErr result (λ e. IsOutOfMemory e) }
 {
+    value.known();
     let sent = send(alloc, value, human_readable)?;
     T::deserialize(alloc, under(sent, human_readable, coerce))
 }

@@ -1,6 +1,7 @@
 -- What holds others comes back where they do.
-use Rattle.std.specs.Prelude.{◌≡◌, Bool, true, false, List, [], ◌∷◌, Option, None, Some, refl}
+use Rattle.std.specs.Prelude.{◌≡◌, Bool, true, false, List, [], ◌∷◌, Option, None, Some, IfSome, refl}
 use Rattle.std.specs.Option.{option_eq}
+use Rattle.std.specs.List.{AllByRecursion}
 use Rattle.std.specs.Cmp.Lexicographic.{pointwise}
 use Rattle.content_tree.specs.Values.Tree as tree
 use Rattle.content_tree.specs.Values.Tree.{Tree, Trees}
@@ -36,11 +37,11 @@ second_free None b e = e
 second_free (Some c) b e = absurd (cc e)
 
 -- what stands for another value
-pub seen_back : {A B : Type 0} {script : ScriptOf A} {refusal : Refusal} {gives : Gives A} {eq : A → A → Bool} (see : B → A) → ComesBack script refusal gives eq
-    → ComesBack (λ b. script (see b)) refusal (λ s b. gives s (see b)) (λ a b. eq (see a) (see b))
+pub seen_back : {A B : Type 0} {exists : A → Type 0} {script : ScriptOf A} {refusal : Refusal} {gives : Gives A} {eq : A → A → Bool} (see : B → A) → ComesBack exists script refusal gives eq
+    → ComesBack (λ b. exists (see b)) (λ b. script (see b)) refusal (λ s b. gives s (see b)) (λ a b. eq (see a) (see b))
 seen_back see back = record {
-  of_value = λ b f.
-      let there = back.of_value (see b) f in
+  of_value = λ b real f.
+      let there = back.of_value (see b) real f in
       record { free = there.free; whole = there.whole; spelled = there.spelled; such = record { free = there.such.free; only = λ y h. there.such.only (see y) h } };
 }
 
@@ -49,15 +50,15 @@ pub seen_keeps : {A B : Type 0} {refusal : Refusal} {gives : Gives A} (see : B �
 seen_keeps see keeps = record { of_origin = λ o h b p. let there = keeps.of_origin o h (see b) (record { free = p.free; given = p.given }) in record { free = there.free; given = there.given } }
 
 -- a value that an option holds, or none
-option_such : {A : Type 0} {script : ScriptOf A} {refusal : Refusal} {gives : Gives A} {eq : A → A → Bool} → ComesBack script refusal gives eq → (x : Option A) (f : Flags)
+option_such : {A : Type 0} {exists : A → Type 0} {script : ScriptOf A} {refusal : Refusal} {gives : Gives A} {eq : A → A → Bool} → ComesBack exists script refusal gives eq → (x : Option A) → IfSome x exists → (f : Flags)
     → SpellsSuch (λ t. GivesOnly (held_refusal refusal (held_by (tree_under f t))) (HeldGives gives (held_by (tree_under f t))) (λ y. option_eq eq x y ≡ true)) (option_script script x f.human_readable)
-option_such {A} {script} {refusal} {gives} {eq} back None f = leaf_such tree.absent refl (record { free = refl; only = none_only })
+option_such {A} {exists} {script} {refusal} {gives} {eq} back None real f = leaf_such tree.absent refl (record { free = refl; only = none_only })
   where
     none_only : (y : Option A) → HeldGives gives None y → option_eq eq None y ≡ true
     none_only None h = refl
     none_only (Some y) h = absurd h
-option_such {A} {script} {refusal} {gives} {eq} back (Some x) f =
-    wrapped_such token.in_some refl (λ t such. record { free = such.free; only = some_only t such }) (back.of_value x f)
+option_such {A} {exists} {script} {refusal} {gives} {eq} back (Some x) real f =
+    wrapped_such token.in_some refl (λ t such. record { free = such.free; only = some_only t such }) (back.of_value x real f)
   where
     some_only : (t : Tree) → GivesOnly (refusal (tree_under f t)) (gives (tree_under f t)) (λ y. eq x y ≡ true)
         → (y : Option A) → HeldGives gives (Some (tree_under f t)) y → option_eq eq (Some x) y ≡ true
@@ -65,9 +66,9 @@ option_such {A} {script} {refusal} {gives} {eq} back (Some x) f =
     some_only t such (Some y) h = such.only y h
 
 -- an optional value
-pub option_back : {A : Type 0} {script : ScriptOf A} {refusal : Refusal} {gives : Gives A} {eq : A → A → Bool} → ComesBack script refusal gives eq
-    → ComesBack (option_script script) (λ s. held_refusal refusal (held_by s)) (λ s x. HeldGives gives (held_by s) x) (option_eq eq)
-option_back back = record { of_value = λ x f. option_such back x f }
+pub option_back : {A : Type 0} {exists : A → Type 0} {script : ScriptOf A} {refusal : Refusal} {gives : Gives A} {eq : A → A → Bool} → ComesBack exists script refusal gives eq
+    → ComesBack (λ o. IfSome o exists) (option_script script) (λ s. held_refusal refusal (held_by s)) (λ s x. HeldGives gives (held_by s) x) (option_eq eq)
+option_back back = record { of_value = λ x real f. option_such back x real f }
 
 -- what an option may give
 option_kept : {A : Type 0} {refusal : Refusal} {gives : Gives A} → CoercionKeeps refusal gives → (o : Origin) (h : Bool) (x : Option A)
@@ -90,15 +91,15 @@ pub option_keeps : {A : Type 0} {refusal : Refusal} {gives : Gives A} → Coerci
 option_keeps keeps = record { of_origin = λ o h x p. held_kept keeps o h x p }
 
 -- the items of a list
-items_back : {A : Type 0} {script : ScriptOf A} {refusal : Refusal} {gives : Gives A} {eq : A → A → Bool} → ComesBack script refusal gives eq → (xs : List A) (f : Flags)
+items_back : {A : Type 0} {exists : A → Type 0} {script : ScriptOf A} {refusal : Refusal} {gives : Gives A} {eq : A → A → Bool} → ComesBack exists script refusal gives eq → (xs : List A) → AllByRecursion exists xs → (f : Flags)
     → Spelled (RowSuch token.element (λ ts. GivesOnly (items_refusal refusal f ts) (ItemsGive gives f ts) (λ ys. pointwise eq xs ys ≡ true))) (items_script script xs f.human_readable)
-items_back {A} {script} {refusal} {gives} {eq} back [] f = row_end (record { free = refl; only = none_only })
+items_back {A} {exists} {script} {refusal} {gives} {eq} back [] real f = row_end (record { free = refl; only = none_only })
   where
     none_only : (ys : List A) → ItemsGive gives f tree.no_trees ys → pointwise eq [] ys ≡ true
     none_only [] h = refl
     none_only (y ∷ ys) h = absurd h
-items_back {A} {script} {refusal} {gives} {eq} back (x ∷ xs) f =
-    row_more refl (λ t ts one others. record { free = both_free one.free others.free; only = more_only t ts one others }) (back.of_value x f) (items_back back xs f)
+items_back {A} {exists} {script} {refusal} {gives} {eq} back (x ∷ xs) real f =
+    row_more refl (λ t ts one others. record { free = both_free one.free others.free; only = more_only t ts one others }) (back.of_value x real.0 f) (items_back back xs real.1 f)
   where
     more_only : (t : Tree) (ts : Trees) → GivesOnly (refusal (tree_under f t)) (gives (tree_under f t)) (λ y. eq x y ≡ true)
         → GivesOnly (items_refusal refusal f ts) (ItemsGive gives f ts) (λ ys. pointwise eq xs ys ≡ true)
@@ -107,10 +108,10 @@ items_back {A} {script} {refusal} {gives} {eq} back (x ∷ xs) f =
     more_only t ts one others (y ∷ ys) h = rw (one.only y h.0, others.only ys h.1) refl
 
 -- a list
-pub seq_back : {A : Type 0} {script : ScriptOf A} {refusal : Refusal} {gives : Gives A} {eq : A → A → Bool} → ComesBack script refusal gives eq
-    → ComesBack (seq_script script) (λ s. refusal_then (seq_at s) (seq_refusal refusal)) (λ s xs. IsTaken (seq_at s) (λ l. SeqGives gives l xs)) (pointwise eq)
+pub seq_back : {A : Type 0} {exists : A → Type 0} {script : ScriptOf A} {refusal : Refusal} {gives : Gives A} {eq : A → A → Bool} → ComesBack exists script refusal gives eq
+    → ComesBack (AllByRecursion exists) (seq_script script) (λ s. refusal_then (seq_at s) (seq_refusal refusal)) (λ s xs. IsTaken (seq_at s) (λ l. SeqGives gives l xs)) (pointwise eq)
 seq_back back = record {
-  of_value = λ xs f. such_spelled (spelled_call (λ calls rest e. (tree.seq e.0, spells_row e.1, record { free = e.2.free; only = e.2.only })) (items_back back xs f));
+  of_value = λ xs real f. such_spelled (spelled_call (λ calls rest e. (tree.seq e.0, spells_row e.1, record { free = e.2.free; only = e.2.only })) (items_back back xs real f));
 }
 
 -- the items that a sequence may give

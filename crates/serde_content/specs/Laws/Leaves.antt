@@ -1,5 +1,5 @@
 -- What is sent by one call comes back, and keeps what it gives under coercion.
-use Rattle.std.specs.Prelude.{◌≡◌, ℕ, ℤ, pos, Bool, true, false, None, Option, Some, refl}
+use Rattle.std.specs.Prelude.{◌≡◌, ℕ, ℤ, pos, Bool, true, false, None, Option, Some, refl, ⊤}
 use Rattle.std.specs.Prelude.{nat_eq, string_bytes, ◌&&◌, ◌||◌, if◌then◌else◌}
 use Rattle.std.specs.Bool.{beq}
 use Rattle.std.specs.Ordering.{int_eq}
@@ -42,20 +42,20 @@ pub heedless_keeps : {A : Type 0} (refusal : Origin → Option Cause) (gives : O
 heedless_keeps refusal gives = record { of_origin = λ o h x p. record { free = p.free; given = p.given } }
 
 -- a boolean
-pub bool_back : ComesBack (λ b. only (event.boolean b)) (λ s. refusal_of (bool_from s.origin)) (λ s b. bool_from s.origin ≡ taken b) beq
-bool_back = record { of_value = λ x f. leaf_such (tree.boolean x) refl (record { free = refl; only = λ y h. equal_to_itself bool_eq_equiv x y (cc) }) }
+pub bool_back : ComesBack (λ b. ⊤) (λ b. only (event.boolean b)) (λ s. refusal_of (bool_from s.origin)) (λ s b. bool_from s.origin ≡ taken b) beq
+bool_back = record { of_value = λ x real f. leaf_such (tree.boolean x) refl (record { free = refl; only = λ y h. equal_to_itself bool_eq_equiv x y (cc) }) }
 
 -- a character
-pub char_back : ComesBack (λ c. only (event.character c)) (λ s. refusal_of (char_from s.origin)) (λ s c. char_from s.origin ≡ taken c) nat_eq
-char_back = record { of_value = λ x f. leaf_such (tree.character x) refl (record { free = refl; only = λ y h. equal_to_itself nat_eq_equiv x y (cc) }) }
+pub char_back : ComesBack (λ c. ⊤) (λ c. only (event.character c)) (λ s. refusal_of (char_from s.origin)) (λ s c. char_from s.origin ≡ taken c) nat_eq
+char_back = record { of_value = λ x real f. leaf_such (tree.character x) refl (record { free = refl; only = λ y h. equal_to_itself nat_eq_equiv x y (cc) }) }
 
 -- the unit
-pub unit_back : ComesBack (λ u. only event.unit) (λ s. refusal_of (unit_from s.origin)) (λ s u. unit_from s.origin ≡ taken u) (λ x y. true)
-unit_back = record { of_value = λ x f. leaf_such tree.unit refl (record { free = refl; only = λ y h. refl }) }
+pub unit_back : ComesBack (λ u. ⊤) (λ u. only event.unit) (λ s. refusal_of (unit_from s.origin)) (λ s u. unit_from s.origin ≡ taken u) (λ x y. true)
+unit_back = record { of_value = λ x real f. leaf_such tree.unit refl (record { free = refl; only = λ y h. refl }) }
 
 -- a text
-pub text_back : ComesBack (λ (s : String Global). only (event.text (string_bytes s))) (λ s. refusal_of (text_from s.origin)) (λ s x. IsTaken (text_from s.origin) (HasContent (string_bytes x))) string_eq
-text_back = record { of_value = λ x f. leaf_such (tree.text (owned_text (string_bytes x))) refl (record { free = refl; only = λ y h. equal_to_itself nat_list_eq_equiv (string_bytes x) (string_bytes y) h }) }
+pub text_back : ComesBack (λ s. ⊤) (λ (s : String Global). only (event.text (string_bytes s))) (λ s. refusal_of (text_from s.origin)) (λ s x. IsTaken (text_from s.origin) (HasContent (string_bytes x))) string_eq
+text_back = record { of_value = λ x real f. leaf_such (tree.text (owned_text (string_bytes x))) refl (record { free = refl; only = λ y h. equal_to_itself nat_list_eq_equiv (string_bytes x) (string_bytes y) h }) }
 
 -- a number that is of the kind is taken
 taken_of_kind : (is inside coerces : Bool) (z : ℤ) (o : Outcome ℤ) → is ≡ true → or_else (if is || (coerces && inside) then Some z else None) o ≡ taken z
@@ -68,17 +68,17 @@ number_taken k n f is = taken_of_kind (is_of_kind k n) (in_range k (number_value
 
 -- numbers without a sign come back as this kind
 abbrev pub NaturalBack : NumberKind → (ℕ → Number) → Type 0
-NaturalBack k n = ComesBack (λ x. only (event.number (n x))) (λ s. refusal_of (number_from k s)) (λ s x. number_from k s ≡ taken (pos x)) nat_eq
+NaturalBack k n = ComesBack (λ x. ⊤) (λ x. only (event.number (n x))) (λ s. refusal_of (number_from k s)) (λ s x. number_from k s ≡ taken (pos x)) nat_eq
 
 -- numbers with a sign come back as this kind
 abbrev pub IntegerBack : NumberKind → (ℤ → Number) → Type 0
-IntegerBack k n = ComesBack (λ x. only (event.number (n x))) (λ s. refusal_of (number_from k s)) (λ s x. number_from k s ≡ taken x) int_eq
+IntegerBack k n = ComesBack (λ x. ⊤) (λ x. only (event.number (n x))) (λ s. refusal_of (number_from k s)) (λ s x. number_from k s ≡ taken x) int_eq
 
 -- a number without a sign
 natural_back : (k : NumberKind) (n : ℕ → Number) → ((x : ℕ) → is_of_kind k (n x) ≡ true) → ((x : ℕ) → number_value (n x) ≡ pos x)
     → NaturalBack k n
 natural_back k n kind value = record {
-  of_value = λ x f.
+  of_value = λ x real f.
       let is = number_taken k (n x) f (kind x) in
       leaf_such (tree.number (n x)) refl (record { free = ap refusal_of is; only = λ y h. equal_to_itself nat_eq_equiv x y (let v = value x in cc) });
 }
@@ -87,7 +87,7 @@ natural_back k n kind value = record {
 integer_back : (k : NumberKind) (n : ℤ → Number) → ((x : ℤ) → is_of_kind k (n x) ≡ true) → ((x : ℤ) → number_value (n x) ≡ x)
     → IntegerBack k n
 integer_back k n kind value = record {
-  of_value = λ x f.
+  of_value = λ x real f.
       let is = number_taken k (n x) f (kind x) in
       leaf_such (tree.number (n x)) refl (record { free = ap refusal_of is; only = λ y h. equal_to_itself int_eq_equiv x y (let v = value x in cc) });
 }
@@ -133,8 +133,8 @@ pub i128_back : IntegerBack kind.i128 num.I128
 i128_back = integer_back kind.i128 num.I128 (λ x. refl) (λ x. refl)
 
 -- a number of any kind
-pub number_back : ComesBack (λ n. only (event.number n)) (λ s. number_refusal (number_in (shape_at s))) (λ s n. number_in (shape_at s) ≡ Some n) (number_eq.ghosts).eq
-number_back = record { of_value = λ x f. leaf_such (tree.number x) refl (record { free = refl; only = λ y h. (equal_numbers x y).1 (cc) }) }
+pub number_back : ComesBack (λ n. ⊤) (λ n. only (event.number n)) (λ s. number_refusal (number_in (shape_at s))) (λ s n. number_in (shape_at s) ≡ Some n) (number_eq.ghosts).eq
+number_back = record { of_value = λ x real f. leaf_such (tree.number x) refl (record { free = refl; only = λ y h. (equal_numbers x y).1 (cc) }) }
 
 -- a number that is taken of its own kind is taken of any
 taken_coerced : (is inside : Bool) (v z : ℤ) (o : Outcome ℤ) → IsRefused o

@@ -38,18 +38,18 @@ named_itself : (name : List ℕ) (c : Cause) → unless_named name name c ≡ No
 named_itself name c = rw ((bytes_eq-Decides name name).1 refl) refl
 
 -- a field, and then the others
-pub field_back : {A Y : Type 0} {script : ScriptOf A} {refusal : Refusal} {gives : Gives A} {eq : A → A → Bool} {rest : Bool → Script} {others : MapLeft → Option Cause}
-    {given : Y → MapLeft → Type 0} {such : Y → Type 0} (name : List ℕ) → ComesBack script refusal gives eq → (x : A) (see : Y → A)
+pub field_back : {A Y : Type 0} {exists : A → Type 0} {script : ScriptOf A} {refusal : Refusal} {gives : Gives A} {eq : A → A → Bool} {rest : Bool → Script} {others : MapLeft → Option Cause}
+    {given : Y → MapLeft → Type 0} {such : Y → Type 0} (name : List ℕ) → ComesBack exists script refusal gives eq → (x : A) → exists x → (see : Y → A)
     → FieldsBack rest others given such
     → FieldsBack (field_first name (script x) rest) (field_then name refusal others) (λ y. FieldThen gives (see y) (given y)) (λ y. (eq x (see y) ≡ true) × such y)
-field_back name back x see more = record {
+field_back name back x real see more = record {
   of_flags = λ f.
       fields_more_such
       (λ t fs one last place. record {
         free = both_free (both_free one.free (named_itself name _)) (last (suc place)).free;
         only = λ y h. (one.only (see y) h.0, (last (suc place)).only y h.1);
       })
-      (back.of_value x f) (more.of_flags f);
+      (back.of_value x real f) (more.of_flags f);
 }
 
 -- a struct of these fields
@@ -60,11 +60,11 @@ struct_back fields f pass =
     such_spelled (spelled_call (λ calls rest e. (_, spells_record e.1, record { free = (e.2 0).free; only = λ y h. pass y ((e.2 0).only y h) })) (fields.of_flags f))
 
 -- a struct around one value
-pub newtype_struct_back : {A Y : Type 0} {script : ScriptOf A} {refusal : Refusal} {gives : Gives A} {eq : A → A → Bool} {passes : Y → Type 0} {name : List ℕ}
-    → ComesBack script refusal gives eq → (x : A) (see : Y → A) (f : Flags) → ((y : Y) → eq x (see y) ≡ true → passes y)
+pub newtype_struct_back : {A Y : Type 0} {exists : A → Type 0} {script : ScriptOf A} {refusal : Refusal} {gives : Gives A} {eq : A → A → Bool} {passes : Y → Type 0} {name : List ℕ}
+    → ComesBack exists script refusal gives eq → (x : A) → exists x → (see : Y → A) (f : Flags) → ((y : Y) → eq x (see y) ≡ true → passes y)
     → SpellsSuch (λ t. GivesOnly (newtype_struct_refusal name refusal (tree_under f t)) (λ y. NewtypeStructGives name gives (see y) (tree_under f t)) passes) (newtype_struct_script name (script x) f.human_readable)
-newtype_struct_back {name} back x see f pass =
-    wrapped_such (token.in_head (of_struct name)) refl (λ t one. record { free = one.free; only = λ y h. pass y (one.only (see y) h) }) (back.of_value x f)
+newtype_struct_back {name} back x real see f pass =
+    wrapped_such (token.in_head (of_struct name)) refl (λ t one. record { free = one.free; only = λ y h. pass y (one.only (see y) h) }) (back.of_value x real f)
 
 -- what entries may give as fields without coercion they may give with it
 pub record FieldsKeep {Y : Type 0} (refusal : MapLeft → Option Cause) (given : Y → MapLeft → Type 0) : Type 0 where

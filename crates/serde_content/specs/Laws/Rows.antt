@@ -38,26 +38,26 @@ pub parts_end : {Y : Type 0} {m : ItemCall} → PartsBack {Y = Y} m (only event.
 parts_end = record { of_flags = λ f. row_end (record { free = refl; only = λ y h. tt }) }
 
 -- a part after its call, and then the others
-part_after : {A Y : Type 0} {script : ScriptOf A} {refusal : Refusal} {gives : Gives A} {eq : A → A → Bool} {m : ItemCall} {rest : Bool → Script} {others : SeqLeft → Option Cause}
-    {given : Y → SeqLeft → Type 0} {such : Y → Type 0} (c : Event) → token.token_of c ≡ token.item m → ComesBack script refusal gives eq → (x : A) (see : Y → A) (expected found : ℕ)
+part_after : {A Y : Type 0} {exists : A → Type 0} {script : ScriptOf A} {refusal : Refusal} {gives : Gives A} {eq : A → A → Bool} {m : ItemCall} {rest : Bool → Script} {others : SeqLeft → Option Cause}
+    {given : Y → SeqLeft → Type 0} {such : Y → Type 0} (c : Event) → token.token_of c ≡ token.item m → ComesBack exists script refusal gives eq → (x : A) → exists x → (see : Y → A) (expected found : ℕ)
     → PartsBack m rest others given such
     → PartsBack m (item_first c (script x) rest) (part_then expected found refusal others) (λ y. PartThen gives (see y) (given y)) (λ y. (eq x (see y) ≡ true) × such y)
-part_after c is back x see expected found more =
-    record { of_flags = λ f. row_more is (λ t ts one last. record { free = both_free one.free last.free; only = λ y h. (one.only (see y) h.0, last.only y h.1) }) (back.of_value x f) (more.of_flags f) }
+part_after c is back x real see expected found more =
+    record { of_flags = λ f. row_more is (λ t ts one last. record { free = both_free one.free last.free; only = λ y h. (one.only (see y) h.0, last.only y h.1) }) (back.of_value x real f) (more.of_flags f) }
 
 -- an element, and then the others
-pub element_back : {A Y : Type 0} {script : ScriptOf A} {refusal : Refusal} {gives : Gives A} {eq : A → A → Bool} {rest : Bool → Script} {others : SeqLeft → Option Cause}
-    {given : Y → SeqLeft → Type 0} {such : Y → Type 0} → ComesBack script refusal gives eq → (x : A) (see : Y → A) (expected found : ℕ)
+pub element_back : {A Y : Type 0} {exists : A → Type 0} {script : ScriptOf A} {refusal : Refusal} {gives : Gives A} {eq : A → A → Bool} {rest : Bool → Script} {others : SeqLeft → Option Cause}
+    {given : Y → SeqLeft → Type 0} {such : Y → Type 0} → ComesBack exists script refusal gives eq → (x : A) → exists x → (see : Y → A) (expected found : ℕ)
     → PartsBack token.element rest others given such
     → PartsBack token.element (item_first event.element (script x) rest) (part_then expected found refusal others) (λ y. PartThen gives (see y) (given y)) (λ y. (eq x (see y) ≡ true) × such y)
-element_back back x see expected found more = part_after event.element refl back x see expected found more
+element_back back x real see expected found more = part_after event.element refl back x real see expected found more
 
 -- a value by place, and then the others
-pub tuple_field_back : {A Y : Type 0} {script : ScriptOf A} {refusal : Refusal} {gives : Gives A} {eq : A → A → Bool} {rest : Bool → Script} {others : SeqLeft → Option Cause}
-    {given : Y → SeqLeft → Type 0} {such : Y → Type 0} → ComesBack script refusal gives eq → (x : A) (see : Y → A) (expected found : ℕ)
+pub tuple_field_back : {A Y : Type 0} {exists : A → Type 0} {script : ScriptOf A} {refusal : Refusal} {gives : Gives A} {eq : A → A → Bool} {rest : Bool → Script} {others : SeqLeft → Option Cause}
+    {given : Y → SeqLeft → Type 0} {such : Y → Type 0} → ComesBack exists script refusal gives eq → (x : A) → exists x → (see : Y → A) (expected found : ℕ)
     → PartsBack token.tuple_field rest others given such
     → PartsBack token.tuple_field (item_first event.tuple_field (script x) rest) (part_then expected found refusal others) (λ y. PartThen gives (see y) (given y)) (λ y. (eq x (see y) ≡ true) × such y)
-tuple_field_back back x see expected found more = part_after event.tuple_field refl back x see expected found more
+tuple_field_back back x real see expected found more = part_after event.tuple_field refl back x real see expected found more
 
 -- a tuple of these parts
 pub tuple_back : {Y : Type 0} {script : Bool → Script} {refusal : SeqLeft → Option Cause} {given : Y → SeqLeft → Type 0} {such passes : Y → Type 0} {n : ℕ}

@@ -64,11 +64,11 @@ unit_variant_back {name} {index} {variant} = record {
 }
 
 -- a variant around one value
-pub newtype_variant_back : {A : Type 0} {script : ScriptOf A} {refusal : Refusal} {gives : Gives A} {eq : A → A → Bool} {name : List ℕ} {index : ℕ} {variant : List ℕ}
-    → ComesBack script refusal gives eq → (x : A)
+pub newtype_variant_back : {A : Type 0} {exists : A → Type 0} {script : ScriptOf A} {refusal : Refusal} {gives : Gives A} {eq : A → A → Bool} {name : List ℕ} {index : ℕ} {variant : List ℕ}
+    → ComesBack exists script refusal gives eq → (x : A) → exists x
     → VariantBack name index variant (newtype_variant_script name index variant (script x)) (newtype_variant_refusal refusal) (NewtypeVariantGives gives) (λ y. eq x y ≡ true)
-newtype_variant_back {name} {index} {variant} back x = record {
-  of_flags = λ f. wrapped_such (token.in_head (of_variant name index variant)) refl (λ t one. (tree.one t, refl, record { free = one.free; only = one.only })) (back.of_value x f);
+newtype_variant_back {name} {index} {variant} back x real = record {
+  of_flags = λ f. wrapped_such (token.in_head (of_variant name index variant)) refl (λ t one. (tree.one t, refl, record { free = one.free; only = one.only })) (back.of_value x real f);
 }
 
 -- a variant of values by place

@@ -65,10 +65,12 @@ impl<'de> Deserialize<'de> for Point {
 }
 
 impl<'de> RoundTrip<'de> for Point {
+    fn known(&self) {}
+
     ghost comes_back = { record {
-      of_value = λ p f. struct_back
-          (field_back (codes "x") i32_back p.x (λ q. q.x)
-          (field_back (codes "y") i32_back p.y (λ q. q.y)
+      of_value = λ p real f. struct_back
+          (field_back (codes "x") i32_back p.x tt (λ q. q.x)
+          (field_back (codes "y") i32_back p.y tt (λ q. q.y)
           fields_end_back))
           f (λ q h. both_hold h.0 h.1.0);
     } };

@@ -158,27 +158,29 @@ impl<'de> Deserialize<'de> for Shape {
 }
 
 impl<'de> RoundTrip<'de> for Shape {
+    fn known(&self) {}
+
     ghost comes_back = { record {
       of_value = elim [
-        | shape.Dot ↦ λ f. variant_back Self.refusal Self.gives unit_variant_back f (λ d. refl)
+        | shape.Dot ↦ λ real f. variant_back Self.refusal Self.gives unit_variant_back f (λ d. refl)
             (λ d only. elim [
               | shape.Dot ↦ λ it. refl
               | shape.Ring r ↦ λ it. other_variant it.0 refl
               | shape.Span a b ↦ λ it. other_variant it.0 refl
               | shape.Area w h ↦ λ it. other_variant it.0 refl
             ])
-        | shape.Ring r ↦ λ f. variant_back Self.refusal Self.gives
-            (newtype_variant_back u32_back r) f (λ d. refl)
+        | shape.Ring r ↦ λ real f. variant_back Self.refusal Self.gives
+            (newtype_variant_back u32_back r tt) f (λ d. refl)
             (λ d only. elim [
               | shape.Dot ↦ λ it. other_variant it.0 refl
               | shape.Ring s ↦ λ it. only s it.1
               | shape.Span a b ↦ λ it. other_variant it.0 refl
               | shape.Area w h ↦ λ it. other_variant it.0 refl
             ])
-        | shape.Span a b ↦ λ f. variant_back Self.refusal Self.gives
+        | shape.Span a b ↦ λ real f. variant_back Self.refusal Self.gives
             (tuple_variant_back
-            (tuple_field_back i32_back a (λ (z : ℤ × ℤ). z.0) 2 0
-            (tuple_field_back i32_back b (λ (z : ℤ × ℤ). z.1) 2 1
+            (tuple_field_back i32_back a tt (λ (z : ℤ × ℤ). z.0) 2 0
+            (tuple_field_back i32_back b tt (λ (z : ℤ × ℤ). z.1) 2 1
             parts_end)))
             f (λ d. refl)
             (λ d only. elim [
@@ -187,10 +189,10 @@ impl<'de> RoundTrip<'de> for Shape {
               | shape.Span c e ↦ λ it. let same = only (c, e) it.1 in both_hold same.0 same.1.0
               | shape.Area w h ↦ λ it. other_variant it.0 refl
             ])
-        | shape.Area w h ↦ λ f. variant_back Self.refusal Self.gives
+        | shape.Area w h ↦ λ real f. variant_back Self.refusal Self.gives
             (struct_variant_back
-            (field_back (codes "w") u32_back w (λ (z : ℕ × ℕ). z.0)
-            (field_back (codes "h") u32_back h (λ (z : ℕ × ℕ). z.1)
+            (field_back (codes "w") u32_back w tt (λ (z : ℕ × ℕ). z.0)
+            (field_back (codes "h") u32_back h tt (λ (z : ℕ × ℕ). z.1)
             fields_end_back)))
             f (λ d. refl)
             (λ d only. elim [

@@ -6,16 +6,16 @@ use Rattle.serde_content.proofs.round.round_trip.Goals as goal
 pub returns-in_err-sent-clause-memory : goal.returns-in_err-sent-clause-memory
 returns-in_err-sent-clause-memory g c =
     sent_or_memory (g.T.Serialize.script c.args.value.now c.args.human_readable) _ _
-    ((g.met.T.RoundTrip c.lifetimes (search rules)).comes_back.of_value c.args.value.now (flags c.args.human_readable c.args.coerce)) c.in_err-sent.ensures c.from_residual.ensures.1
+    ((g.met.T.RoundTrip c.lifetimes (search rules)).comes_back.of_value c.args.value.now c.known.ensures (flags c.args.human_readable c.args.coerce)) c.in_err-sent.ensures c.from_residual.ensures.1
 
 pub returns-clause-value : goal.returns-clause-value
 returns-clause-value g c =
     read_such g.T.Deserialize.refusal g.T.Deserialize.gives _ _ _
-    (returned (g.met.T.RoundTrip c.lifetimes (search rules)).comes_back c.args.value.now (flags c.args.human_readable c.args.coerce) _ c.in_ok-sent.ensures)
+    (returned (g.met.T.RoundTrip c.lifetimes (search rules)).comes_back c.args.value.now c.known.ensures (flags c.args.human_readable c.args.coerce) _ c.in_ok-sent.ensures)
     c.under.ensures c.deserialize.ensures
 
 pub returns-clause-memory : goal.returns-clause-memory
 returns-clause-memory g c =
     read_or_memory g.T.Deserialize.refusal g.T.Deserialize.gives _ _ _
-    (returned (g.met.T.RoundTrip c.lifetimes (search rules)).comes_back c.args.value.now (flags c.args.human_readable c.args.coerce) _ c.in_ok-sent.ensures)
+    (returned (g.met.T.RoundTrip c.lifetimes (search rules)).comes_back c.args.value.now c.known.ensures (flags c.args.human_readable c.args.coerce) _ c.in_ok-sent.ensures)
     c.under.ensures c.deserialize.ensures
