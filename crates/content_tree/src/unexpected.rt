@@ -3,16 +3,16 @@ ghost use Rattle.std.specs.Prelude.{Bool, true, false, ◌≡◌, MatchResult};
 ghost use Rattle.content_tree.specs.declared.error.ErrorKind.TheVariants as kind;
 ghost use Rattle.content_tree.specs.Values.Value.{tree_of, struct_tree, enum_tree};
 ghost use Rattle.content_tree.specs.Images.Image.{Image, image, number};
-ghost use Rattle.content_tree.specs.Errors.Kind.{kind_of};
+ghost use Rattle.content_tree.specs.Errors.Kind.{kind_of, IsOutOfMemory};
 ghost use Rattle.content_tree.specs.Errors.Unexpected.{IsUnexpected};
 
-use crate::error::{Error, Result};
+use crate::error::Error;
 use crate::expected::Expected;
 use crate::found::Found;
-use crate::image::{found_enum, found_struct};
+use crate::image::{found_enum, found_struct, found_value};
 use crate::number::Number;
 use crate::value::{NamedEnum, NamedStruct, NamedValue};
-use std::alloc::Global;
+use std::alloc::{AllocError, Global};
 
 /// What can be found where something else was expected.
 pub trait Unexpected {
@@ -46,7 +46,7 @@ impl<'a, 'n> Unexpected for NamedValue<'a, 'n> {
     ghost takes_memory = { true };
 
     fn unexpected(self, alloc: Global, expected: Expected) -> Error {
-        refusal(self.into_found(alloc), expected)
+        refusal(found_value(alloc, self), expected)
     }
 }
 
@@ -56,7 +56,7 @@ impl<'a, 'n> Unexpected for Box<NamedStruct<'a, 'n>> {
     ghost takes_memory = { true };
 
     fn unexpected(self, alloc: Global, expected: Expected) -> Error {
-        refusal(found_struct(alloc, Box::into_inner(self)), expected)
+        refusal(found_struct(alloc, self), expected)
     }
 }
 
@@ -66,17 +66,17 @@ impl<'a, 'n> Unexpected for Box<NamedEnum<'a, 'n>> {
     ghost takes_memory = { true };
 
     fn unexpected(self, alloc: Global, expected: Expected) -> Error {
-        refusal(found_enum(alloc, Box::into_inner(self)), expected)
+        refusal(found_enum(alloc, self), expected)
     }
 }
 
-/// The error of an image, or the error of making it.
-fn refusal(found: Result<Found>, expected: Expected) -> Error
+/// The error of an image; where there was no memory for the image, that of kind `OutOfMemory`.
+fn refusal(found: Result<Found, AllocError>, expected: Expected) -> Error
     ensures { MatchResult found (λ f. kind_of result ≡ kind.Unexpected f expected)
-        (λ e. result ≡ e) }
+        (λ _. IsOutOfMemory result) }
 {
     match found {
         Ok(found) => Error::unexpected(found, expected),
-        Err(error) => error,
+        Err(refused) => Error::from(refused),
     }
 }
