@@ -1,0 +1,2 @@
+mod Unplaced
+mod Points
