@@ -3,7 +3,7 @@
 use crate::methods::make_call;
 use content_build::{Builder, CallsError, Recorder, Serializer, from_calls, from_calls_prefix};
 use content_ser::{Call, Serializer as _, replay as make_calls};
-use content_tree::{Error, ErrorKind, Value};
+use content_tree::{Error, ErrorKind, Found, Value};
 use row_text::number::parse;
 use row_text::plain::plain;
 use row_text::show::write_tree;
@@ -122,12 +122,17 @@ pub fn canonical(alloc: Global, tokens: &mut Tokens<'_>) -> Result<String> {
     taken(alloc, &Serializer::new().serialize(alloc, &value)?)
 }
 
-/// The tree of the text that an image prints, collected by a builder.
+/// The tree of the text that an image prints, as a builder collects it.
+fn collected(alloc: Global, image: &Found) -> content_tree::Result<Value<'static>> {
+    let mut builder: Builder<'static> = Builder::new(alloc, false);
+    builder.collect_str(alloc, image)?;
+    builder.finish()
+}
+
+/// The tree of the text that an image prints.
 pub fn collect(alloc: Global, tokens: &mut Tokens<'_>) -> Result<String> {
     let image = read_image(alloc, tokens)?;
-    let mut builder: Builder<'static> = Builder::new(alloc, false);
-    builder.collect_str(alloc, &image)?;
-    taken(alloc, &builder.finish()?)
+    taken(alloc, &collected(alloc, &image)?)
 }
 
 /// What a builder and a recorder, made with this flag, say of it.

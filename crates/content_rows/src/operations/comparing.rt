@@ -13,10 +13,21 @@ use row_text::tokens::{Tokens, take_word};
 use row_text::tree::{read_image, read_tree};
 use std::alloc::Global;
 
+/// Two trees.
+fn read_trees<'a>(alloc: Global, tokens: &mut Tokens<'a>) -> Result<(Value<'a>, Value<'a>)> {
+    let left = read_tree(alloc, tokens)?;
+    Ok((left, read_tree(alloc, tokens)?))
+}
+
+/// Two images.
+fn read_images(alloc: Global, tokens: &mut Tokens<'_>) -> Result<(Found, Found)> {
+    let left = read_image(alloc, tokens)?;
+    Ok((left, read_image(alloc, tokens)?))
+}
+
 /// Of two trees.
 pub fn values(alloc: Global, tokens: &mut Tokens<'_>) -> Result<String> {
-    let left = read_tree(alloc, tokens)?;
-    let right = read_tree(alloc, tokens)?;
+    let (left, right) = read_trees(alloc, tokens)?;
     told(
         alloc,
         if_lawful(order(&left, &right), equal_values(&left, &right)),
@@ -25,8 +36,7 @@ pub fn values(alloc: Global, tokens: &mut Tokens<'_>) -> Result<String> {
 
 /// Of what two trees hold: texts, bytes, structs or enums.
 pub fn parts(alloc: Global, tokens: &mut Tokens<'_>) -> Result<String> {
-    let left = read_tree(alloc, tokens)?;
-    let right = read_tree(alloc, tokens)?;
+    let (left, right) = read_trees(alloc, tokens)?;
     let order = match (&left, &right) {
         (Value::String(left), Value::String(right)) => order(left, right),
         (Value::Bytes(left), Value::Bytes(right)) => order(left, right),
@@ -39,8 +49,7 @@ pub fn parts(alloc: Global, tokens: &mut Tokens<'_>) -> Result<String> {
 
 /// Of what two structs or two enums hold.
 pub fn data(alloc: Global, tokens: &mut Tokens<'_>) -> Result<String> {
-    let left = read_tree(alloc, tokens)?;
-    let right = read_tree(alloc, tokens)?;
+    let (left, right) = read_trees(alloc, tokens)?;
     let order = match (&left, &right) {
         (Value::Struct(left), Value::Struct(right)) => order(&left.data, &right.data),
         (Value::Enum(left), Value::Enum(right)) => order(&left.data, &right.data),
@@ -51,8 +60,7 @@ pub fn data(alloc: Global, tokens: &mut Tokens<'_>) -> Result<String> {
 
 /// Of two images.
 pub fn images(alloc: Global, tokens: &mut Tokens<'_>) -> Result<String> {
-    let left = read_image(alloc, tokens)?;
-    let right = read_image(alloc, tokens)?;
+    let (left, right) = read_images(alloc, tokens)?;
     told(
         alloc,
         if_lawful(order(&left, &right), equal_images(&left, &right)),
@@ -61,8 +69,7 @@ pub fn images(alloc: Global, tokens: &mut Tokens<'_>) -> Result<String> {
 
 /// Of what the images of two structs or enums hold.
 pub fn image_data(alloc: Global, tokens: &mut Tokens<'_>) -> Result<String> {
-    let left = read_image(alloc, tokens)?;
-    let right = read_image(alloc, tokens)?;
+    let (left, right) = read_images(alloc, tokens)?;
     let order = match (&left, &right) {
         (Found::Struct { data: left, .. }, Found::Struct { data: right, .. }) => {
             order(&**left, &**right)

@@ -89,15 +89,22 @@ fn number_of(number: Number) -> Number {
     }
 }
 
+/// Whether something is borrowed, and the value that lends it.
+fn case_and_lent(alloc: Global, borrowed: bool, lent: &Value<'_>) -> Result<String> {
+    let mut out = String::from_str(alloc, if borrowed { "borrowed " } else { "owned " })?;
+    write_tree(&mut out, lent)?;
+    Ok(out)
+}
+
 /// Whether a text or bytes say that they are borrowed, and what they hold, lent.
 pub fn borrowed(alloc: Global, tokens: &mut Tokens<'_>) -> Result<String> {
-    let value = read_tree(alloc, tokens)?;
-    let (borrowed, lent) = match &value {
-        Value::String(text) => (text.is_borrowed(), Value::from(text.as_str())),
-        Value::Bytes(bytes) => (bytes.is_borrowed(), Value::from(bytes.as_bytes())),
-        _ => return Err(Stop::NoRow),
-    };
-    let mut out = String::from_str(alloc, if borrowed { "borrowed " } else { "owned " })?;
-    write_tree(&mut out, &lent)?;
-    Ok(out)
+    match read_tree(alloc, tokens)? {
+        Value::String(text) => {
+            case_and_lent(alloc, text.is_borrowed(), &Value::from(text.as_str()))
+        }
+        Value::Bytes(bytes) => {
+            case_and_lent(alloc, bytes.is_borrowed(), &Value::from(bytes.as_bytes()))
+        }
+        _ => Err(Stop::NoRow),
+    }
 }
