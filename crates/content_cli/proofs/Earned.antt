@@ -15,46 +15,46 @@ use Rattle.content_tree.specs.declared.error.ErrorKind.{ErrorKind}
 use Rattle.content_tree.specs.declared.error.ErrorKind.TheVariants.{Unexpected, Custom, OutOfMemory}
 use Rattle.content_tree.specs.declared.error.ErrorKind.TheVariants.{Misplaced, Failed, Unfinished}
 use Rattle.content_ser.specs.Calls.Event.{Event}
-use Rattle.content_ser.specs.Grammar.Spells.{SpellsWhole, IsWhole, IsViable}
-use Rattle.content_build.specs.Answers.{IsRefusal}
-use Rattle.content_cli.specs.Lines.{first_bad, calls_of}
+use Rattle.content_ser.specs.Grammar.Depth.{SpellsUnder, IsWholeUnder, IsViableUnder}
+use Rattle.content_build.specs.Answers.{IsRefusalUnder}
+use Rattle.content_cli.specs.Lines.{limit_of, body_of, first_bad, calls_of}
 use Rattle.content_cli.specs.Answers.{Earns, EarnsStatus}
 use Rattle.content_cli.specs.declared.answer.Answer.{Answer}
 
 -- the line of a bad line is earned by it
-pub bad_earns : {E : Type 0} (input : List ℕ) (place : ℕ) (r : Result Answer E) → first_bad input ≡ Some place
+pub bad_earns : {E : Type 0} (input : List ℕ) (place : ℕ) (r : Result Answer E) → first_bad (body_of input) ≡ Some place
     → IfOk r (λ a. string_bytes a.line ≡ codes "bad line " ++ (decimal (place + 1) ++ codes "\n")) → IfOk r (λ a. a.status ≡ 2)
     → IfOk r (λ a. Earns input (string_bytes a.line) a.status)
 bad_earns input place (Ok a) bad says code = inl (record { place = place; bad = bad; says = says; code = code })
 bad_earns input place (Err e) bad says code = says
 
 -- the line of a tree is earned by calls that spell it
-pub taken_earns : {E : Type 0} (input : List ℕ) (calls : List Event) (t : Tree) (r : Result Answer E) → first_bad input ≡ None → calls ≡ calls_of input → SpellsWhole calls t
+pub taken_earns : {E : Type 0} (input : List ℕ) (calls : List Event) (t : Tree) (r : Result Answer E) → first_bad (body_of input) ≡ None → calls ≡ calls_of (body_of input) → SpellsUnder (limit_of input) calls t
     → IfOk r (λ a. string_bytes a.line ≡ codes "ok " ++ (printed (image t) ++ codes "\n")) → IfOk r (λ a. a.status ≡ 0)
     → IfOk r (λ a. Earns input (string_bytes a.line) a.status)
-taken_earns input calls t (Ok a) good same spelled says code = inr (inl (record { good = good; tree = t; spelled = subst (λ l. SpellsWhole l t) same spelled; says = says; code = code }))
+taken_earns input calls t (Ok a) good same spelled says code = inr (inl (record { good = good; tree = t; spelled = subst (λ l. SpellsUnder (limit_of input) l t) same spelled; says = says; code = code }))
 taken_earns input calls t (Err e) good same spelled says code = says
 
 -- the line of a refusal is earned by calls that are refused so
-pub refused_earns : {E : Type 0} (input : List ℕ) (calls : List Event) (at : ℕ) (cause : ErrorKind) (r : Result Answer E) → first_bad input ≡ None → calls ≡ calls_of input → IsRefusal calls at cause
+pub refused_earns : {E : Type 0} (input : List ℕ) (calls : List Event) (at : ℕ) (cause : ErrorKind) (r : Result Answer E) → first_bad (body_of input) ≡ None → calls ≡ calls_of (body_of input) → IsRefusalUnder (limit_of input) calls at cause
     → OnOk r (cause ≢ OutOfMemory) → IfOk r (λ a. string_bytes a.line ≡ codes "refused at " ++ (decimal at ++ (codes ": " ++ (kind_text cause ++ codes "\n")))) → IfOk r (λ a. a.status ≡ 1)
     → IfOk r (λ a. Earns input (string_bytes a.line) a.status)
 refused_earns input calls at cause (Ok a) good same refused caused says code =
-    inr (inr (record { good = good; at = at; cause = cause; refused = subst (λ l. IsRefusal l at cause) same refused; caused = caused; says = says; code = code }))
+    inr (inr (record { good = good; at = at; cause = cause; refused = subst (λ l. IsRefusalUnder (limit_of input) l at cause) same refused; caused = caused; says = says; code = code }))
 refused_earns input calls at cause (Err e) good same refused caused says code = says
 
 -- each beginning of a whole list is viable
-beginning_viable : (calls : List Event) (n : ℕ) → IsWhole calls → IsViable (take n calls)
-beginning_viable calls n whole = (drop n calls, subst IsWhole (sym (take-append-drop n calls)) whole)
+beginning_viable : (limit : Option ℕ) (calls : List Event) (n : ℕ) → IsWholeUnder limit calls → IsViableUnder limit (take n calls)
+beginning_viable limit calls n whole = (drop n calls, subst (IsWholeUnder limit) (sym (take-append-drop n calls)) whole)
 
 -- refused calls spell no tree
-refused_spells_none : (calls : List Event) (at : ℕ) (cause : ErrorKind) → IsRefusal calls at cause → cause ≢ OutOfMemory → ¬ IsWhole calls
-refused_spells_none calls at Misplaced h caused whole = h.2 (beginning_viable calls (at + 1) whole)
-refused_spells_none calls at Unfinished h caused whole = h.2 whole
-refused_spells_none calls at OutOfMemory h caused whole = caused refl
-refused_spells_none calls at Failed h caused whole = h
-refused_spells_none calls at (Unexpected found expected) h caused whole = h
-refused_spells_none calls at (Custom message) h caused whole = h
+refused_spells_none : (limit : Option ℕ) (calls : List Event) (at : ℕ) (cause : ErrorKind) → IsRefusalUnder limit calls at cause → cause ≢ OutOfMemory → ¬ IsWholeUnder limit calls
+refused_spells_none limit calls at Misplaced h caused whole = h.2 (beginning_viable limit calls (at + 1) whole)
+refused_spells_none limit calls at Unfinished h caused whole = h.2 whole
+refused_spells_none limit calls at OutOfMemory h caused whole = caused refl
+refused_spells_none limit calls at Failed h caused whole = h
+refused_spells_none limit calls at (Unexpected found expected) h caused whole = h
+refused_spells_none limit calls at (Custom message) h caused whole = h
 
 -- a bad line and none
 bad_or_not : {o : Option ℕ} {place : ℕ} {A : Type 0} → o ≡ Some place → o ≡ None → A
@@ -65,7 +65,7 @@ earns_status : (input line : List ℕ) (status : ℕ) → Earns input line statu
 earns_status input line status (inl h) = record { tree = λ good _. bad_or_not h.bad good; none = λ good _. bad_or_not h.bad good; bad = λ _ _. h.code }
 earns_status input line status (inr (inl h)) = record { tree = λ _ _. h.code; none = λ _ no. absurd (no (h.tree, h.spelled)); bad = λ place e. bad_or_not e h.good }
 earns_status input line status (inr (inr h)) =
-    record { tree = λ _ whole. absurd (refused_spells_none (calls_of input) h.at h.cause h.refused h.caused whole); none = λ _ _. h.code; bad = λ place e. bad_or_not e h.good }
+    record { tree = λ _ whole. absurd (refused_spells_none (limit_of input) (calls_of (body_of input)) h.at h.cause h.refused h.caused whole); none = λ _ _. h.code; bad = λ place e. bad_or_not e h.good }
 
 -- the status is at most 2
 earns_low : (input line : List ℕ) (status : ℕ) → Earns input line status → status ≤ 2

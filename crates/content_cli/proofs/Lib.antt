@@ -1,4 +1,5 @@
 pub mod Earned
+pub mod Limiting
 pub mod Parsed
 pub mod Texts
 pub mod Told

@@ -8,31 +8,31 @@ use Rattle.content_tree.specs.Printed.Images.{printed}
 use Rattle.content_tree.specs.Printed.Errors.{kind_text}
 use Rattle.content_tree.specs.declared.error.ErrorKind.{ErrorKind}
 use Rattle.content_tree.specs.declared.error.ErrorKind.TheVariants.{OutOfMemory}
-use Rattle.content_ser.specs.Grammar.Spells.{SpellsWhole, IsWhole}
-use Rattle.content_build.specs.Answers.{IsRefusal}
-use Rattle.content_cli.specs.Lines.{first_bad, calls_of}
+use Rattle.content_ser.specs.Grammar.Depth.{SpellsUnder, IsWholeUnder}
+use Rattle.content_build.specs.Answers.{IsRefusalUnder}
+use Rattle.content_cli.specs.Lines.{limit_of, body_of, first_bad, calls_of}
 
--- some line is no call: the first of them is named, counted from 1
+-- some line is no call, nor a first one that sets a limit: the first of them is named, counted from 1
 pub record IsBad (input line : List ℕ) (status : ℕ) : Type 0 where
   pub place : ℕ
-  pub bad : first_bad input ≡ Some place
+  pub bad : first_bad (body_of input) ≡ Some place
   pub says : line ≡ codes "bad line " ++ (decimal (place + 1) ++ codes "\n")
   pub code : status ≡ 2
 
--- the calls spell a tree, which is printed
+-- the calls spell a tree under the limit, which is printed
 pub record IsTaken (input line : List ℕ) (status : ℕ) : Type 0 where
-  pub good : first_bad input ≡ None
+  pub good : first_bad (body_of input) ≡ None
   pub tree : Tree
-  pub spelled : SpellsWhole (calls_of input) tree
+  pub spelled : SpellsUnder (limit_of input) (calls_of (body_of input)) tree
   pub says : line ≡ codes "ok " ++ (printed (image tree) ++ codes "\n")
   pub code : status ≡ 0
 
--- the calls spell no tree: the place and the cause, misplaced or unfinished, are named
+-- the calls spell no tree under the limit: the place and the cause, misplaced or unfinished, are named
 pub record IsRefused (input line : List ℕ) (status : ℕ) : Type 0 where
-  pub good : first_bad input ≡ None
+  pub good : first_bad (body_of input) ≡ None
   pub at : ℕ
   pub cause : ErrorKind
-  pub refused : IsRefusal (calls_of input) at cause
+  pub refused : IsRefusalUnder (limit_of input) (calls_of (body_of input)) at cause
   pub caused : cause ≢ OutOfMemory
   pub says : line ≡ codes "refused at " ++ (decimal at ++ (codes ": " ++ (kind_text cause ++ codes "\n")))
   pub code : status ≡ 1
@@ -47,6 +47,6 @@ Tells input status old new = (line : List ℕ) × Earns input line status × App
 
 -- which inputs earn the status
 pub record EarnsStatus (input : List ℕ) (status : ℕ) : Type 0 where
-  pub tree : first_bad input ≡ None → IsWhole (calls_of input) → status ≡ 0
-  pub none : first_bad input ≡ None → ¬ IsWhole (calls_of input) → status ≡ 1
-  pub bad : (place : ℕ) → first_bad input ≡ Some place → status ≡ 2
+  pub tree : first_bad (body_of input) ≡ None → IsWholeUnder (limit_of input) (calls_of (body_of input)) → status ≡ 0
+  pub none : first_bad (body_of input) ≡ None → ¬ IsWholeUnder (limit_of input) (calls_of (body_of input)) → status ≡ 1
+  pub bad : (place : ℕ) → first_bad (body_of input) ≡ Some place → status ≡ 2

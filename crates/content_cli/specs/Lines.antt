@@ -1,13 +1,25 @@
--- The calls and the first bad line of an input.
-use Rattle.std.specs.Prelude.{ℕ, ◌==◌, Bool, ◌&&◌, not, List, length, Option, is_none}
+-- The limit, the calls and the first bad line of an input.
+use Rattle.std.specs.Prelude.{ℕ, ◌==◌, Bool, cond, ◌&&◌, not, List, length, drop, Option, is_none}
 use Rattle.std.specs.Option.{option_to_list}
-use Rattle.std.specs.List.{slice_split, position, flat_map}
+use Rattle.std.specs.List.{slice_split, position, position_or_len, flat_map, before_first}
 use Rattle.content_ser.specs.Calls.Event.{Event}
-use Rattle.content_cli.specs.Words.{event_in}
+use Rattle.content_cli.specs.Words.{event_in, limit_in}
 
--- the input is cut at each line feed
+-- the byte that ends a line
+abbrev pub is_line_feed : ℕ → Bool
+is_line_feed b = b == 10
+
+-- the limit that the first line of an input sets, if it sets one
+abbrev pub limit_of : List ℕ → Option ℕ
+limit_of input = limit_in (before_first is_line_feed input)
+
+-- the lines of calls: a first line that sets a limit is emptied
+abbrev pub body_of : List ℕ → List ℕ
+body_of input = cond (is_none (limit_of input)) input (drop (position_or_len is_line_feed input) input)
+
+-- the lines of calls are cut at each line feed
 abbrev pub lines_of : List ℕ → List (List ℕ)
-lines_of input = slice_split (λ b. b == 10) input
+lines_of body = slice_split (λ b. b == 10) body
 
 -- a line of no bytes
 abbrev pub is_blank : List ℕ → Bool
@@ -19,8 +31,8 @@ is_bad line = not (is_blank line) && is_none (event_in line)
 
 -- where the first bad line stands, counted from 0
 abbrev pub first_bad : List ℕ → Option ℕ
-first_bad input = position is_bad (lines_of input)
+first_bad body = position is_bad (lines_of body)
 
 -- the calls of the lines, in order; a blank line spells none
 abbrev pub calls_of : List ℕ → List Event
-calls_of input = flat_map (λ line. option_to_list (event_in line)) (lines_of input)
+calls_of body = flat_map (λ line. option_to_list (event_in line)) (lines_of body)

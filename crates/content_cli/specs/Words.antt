@@ -1,7 +1,7 @@
 -- The call that a line spells.
 use Rattle.std.specs.Prelude.{ℕ, cond, nat_lt, List, length, codes, Option, None, Some}
 use Rattle.std.specs.Str.{bytes_eq}
-use Rattle.std.specs.Option.{option_map}
+use Rattle.std.specs.Option.{option_map, option_and_then}
 use Rattle.std.specs.List.{list_all, before_first, after_first, position_or_len}
 use Rattle.content_tree.specs.declared.number.Number.TheVariants as num
 use Rattle.content_ser.specs.Calls.Event as event
@@ -83,3 +83,16 @@ of_parts w (Some t) = of_phrase w t
 -- the call that a line spells, if it spells one
 abbrev pub event_in : List ℕ → Option Event
 event_in line = cond (list_all is_printable line) (of_parts (word_of line) (rest_of line)) None
+
+-- a number that is written plainly, from 1 to 2 ^ 64 - 1
+abbrev pub positive_of : List ℕ → Option ℕ
+positive_of t = option_and_then (λ n. cond (nat_lt 0 n) (Some n) None) (natural_of 64 t)
+
+-- the limit of a word and of what stands after it, if anything does: `limit N`
+abbrev pub limit_of_parts : List ℕ → Option (List ℕ) → Option ℕ
+limit_of_parts w None = None
+limit_of_parts w (Some t) = cond (bytes_eq w (codes "limit")) (positive_of t) None
+
+-- the limit that a line sets, if it sets one
+abbrev pub limit_in : List ℕ → Option ℕ
+limit_in line = cond (list_all is_printable line) (limit_of_parts (word_of line) (rest_of line)) None

@@ -9,11 +9,16 @@ ghost use Rattle.content_tree.specs.Printed.Images.{printed};
 ghost use Rattle.content_tree.specs.Printed.Errors.{error_text};
 ghost use Rattle.content_tree.specs.Values.Value.{tree_of};
 ghost use Rattle.content_tree.specs.declared.error.ErrorKind.TheVariants.{OutOfMemory};
+ghost use Rattle.content_ser.specs.Calls.Call.{events_of};
+ghost use Rattle.content_ser.specs.Grammar.Depth.{IsLimit};
+ghost use Rattle.content_build.specs.Answers.{IsAnswerUnder};
 ghost use Rattle.content_cli.specs.Answers.{Earns, EarnsStatus};
 
 use crate::calls::read_calls;
+use crate::limit::split_limit;
 use crate::line::first_bad_line;
-use content_build::{CallsError, from_calls};
+use content_build::{CallsError, from_calls, from_calls_within};
+use content_ser::Call;
 use content_tree::{ErrorKind, Value};
 use std::alloc::{AllocError, Global};
 
@@ -71,17 +76,33 @@ fn refused(alloc: Global, refusal: &CallsError) -> Result<Answer, AllocError>
     })
 }
 
+/// The tree that the calls spell, within the limit where there is one.
+fn build<'v>(
+    alloc: Global,
+    calls: &[Call<'_>],
+    limit: Option<usize>,
+) -> Result<Value<'v>, CallsError>
+    requires { IsLimit limit }
+    ensures { IsAnswerUnder limit (events_of calls.now) result }
+{
+    match limit {
+        None => from_calls(alloc, calls),
+        Some(limit) => from_calls_within(alloc, calls, limit),
+    }
+}
+
 /// The line and the status that the input earns, or an error where an allocation fails.
 pub fn make_answer(alloc: Global, input: &[u8]) -> Result<Answer, AllocError>
     ensures value { IfOk result (λ a. Earns input.now (string_bytes a.line) a.status) }
     ensures fits { IfOk result (λ a. EarnsStatus input.now a.status) }
     ensures low { IfOk result (λ a. a.status ≤ 2) }
 {
-    if let Some(place) = first_bad_line(input) {
+    let (limit, body) = split_limit(input);
+    if let Some(place) = first_bad_line(body) {
         return bad_line(alloc, place);
     }
-    let calls = read_calls(alloc, input)?;
-    match from_calls(alloc, calls.as_slice()) {
+    let calls = read_calls(alloc, body)?;
+    match build(alloc, calls.as_slice(), limit) {
         Ok(value) => taken(alloc, value),
         Err(refusal) => refused(alloc, &refusal),
     }

@@ -63,7 +63,7 @@ fn is_printable_text(line: &[u8]) -> bool
 }
 
 /// The line as text, if its bytes are 32 to 126.
-fn text_of(line: &[u8]) -> Option<&str>
+pub fn text_of(line: &[u8]) -> Option<&str>
     ensures { MatchOption result (list_all is_printable line.now ≡ false)
         (λ t. (list_all is_printable line.now ≡ true) × (t.now ≡ line.now)) }
 {
@@ -97,7 +97,7 @@ fn is_bad_line(line: &[u8]) -> bool
     !line.is_empty() && read_line(line).is_none()
 }
 
-/// Where the first bad line stands, counted from 0 with the empty lines. It takes no memory.
+/// Where the first bad line of calls stands, counted from 0 with the empty lines. It takes no memory.
 pub fn first_bad_line(input: &[u8]) -> Option<usize>
     ensures { result ≡ first_bad input.now }
 {

@@ -6,6 +6,7 @@ mod calls;
 mod forms;
 mod gather;
 mod hex;
+mod limit;
 mod line;
 mod numbers;
 mod plain;

@@ -23,13 +23,15 @@ fn finish<W: Sink>(writer: &mut W, line: &[u8], status: u8) -> u8
     }
 }
 
-/// Reads all input, turns each line into a call, builds a tree of the calls and writes one line.
+/// Reads all input, turns each line into a call, builds a tree of the calls and writes one line. A
+/// first line `limit N`, N from 1 to 18446744073709551615, is no call: it sets a limit on how deep
+/// trees nest.
 ///
 /// | Status | Line | When |
 /// |---|---|---|
-/// | 0 | `ok ` and the printed image of the tree | the calls spell a tree |
+/// | 0 | `ok ` and the printed image of the tree | the calls spell a tree, within the limit |
 /// | 1 | `refused at N: ` and the error's text, N the call's place from 0 | they spell none |
-/// | 2 | `bad line N`, N counted from 1 | a line is no call |
+/// | 2 | `bad line N`, N counted from 1 | a line is no call, nor a first one that sets a limit |
 /// | 3 | `out of memory` | an allocation failed before the line was made |
 /// | 4 | `read failed` | the reader answered a fault |
 /// | 5 | any part of a line | the writer answered a fault |

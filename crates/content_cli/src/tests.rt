@@ -100,8 +100,10 @@ const AMPLE: usize = 1_000;
 
 #[test]
 fn leaves_are_printed(rt: HostRuntime) -> Result<(), Fail> {
-    let cases: [(&[u8], &[u8]); 8] = [
+    let cases: [(&[u8], &[u8]); 10] = [
         (b"unit", b"ok ()\n"),
+        (b"limit 1\nunit\n", b"ok ()\n"),
+        (b"limit 18446744073709551615\n\nnone", b"ok None\n"),
         (b"bytes 666f6f\n", b"ok &[102, 111, 111]\n"),
         (b"bytes \n", b"ok &[]\n"),
         (b"str a\"b\\c\n", b"ok \"a\\\"b\\\\c\"\n"),
@@ -214,7 +216,7 @@ fn numbers_past_their_kind_are_bad(rt: HostRuntime) -> Result<(), Fail> {
 
 #[test]
 fn bad_lines_are_named(rt: HostRuntime) -> Result<(), Fail> {
-    let cases: [(&[u8], &[u8]); 15] = [
+    let cases: [(&[u8], &[u8]); 23] = [
         (b"u8 256\n", b"bad line 1\n"),
         (b"unit\n\nbool maybe\n", b"bad line 3\n"),
         (b"i8 -0\n", b"bad line 1\n"),
@@ -224,7 +226,15 @@ fn bad_lines_are_named(rt: HostRuntime) -> Result<(), Fail> {
         (b"bytes f\n", b"bad line 1\n"),
         (b"unit\r\n", b"bad line 1\n"),
         (b"unit\nunit\nbad\n", b"bad line 3\n"),
-        (b"limit 2\nunit\n", b"bad line 1\n"),
+        (b"limit 0\nunit\n", b"bad line 1\n"),
+        (b"limit 02\nunit\n", b"bad line 1\n"),
+        (b"limit\nunit\n", b"bad line 1\n"),
+        (b"limit \nunit\n", b"bad line 1\n"),
+        (b"limit 2 \nunit\n", b"bad line 1\n"),
+        (b"limit 18446744073709551616\n", b"bad line 1\n"),
+        (b"unit\nlimit 2\n", b"bad line 2\n"),
+        (b"\nlimit 2\n", b"bad line 2\n"),
+        (b"limit 2\nlimit 2\n", b"bad line 2\n"),
         (b"unit \n", b"bad line 1\n"),
         (b"str\n", b"bad line 1\n"),
         (b"str \x7f\n", b"bad line 1\n"),
@@ -241,7 +251,20 @@ fn bad_lines_are_named(rt: HostRuntime) -> Result<(), Fail> {
 
 #[test]
 fn refusals_are_placed(rt: HostRuntime) -> Result<(), Fail> {
-    let cases: [(&[u8], &[u8]); 5] = [
+    let cases: [(&[u8], &[u8]); 9] = [
+        (
+            b"limit 2\nsome\nsome\n",
+            b"refused at 1: call out of place\n",
+        ),
+        (
+            b"limit 1\n\nseq\nelement\n",
+            b"refused at 1: call out of place\n",
+        ),
+        (b"limit 2", b"refused at 0: call list is unfinished\n"),
+        (
+            b"limit 2\nsome\n",
+            b"refused at 1: call list is unfinished\n",
+        ),
         (b"", b"refused at 0: call list is unfinished\n"),
         (
             b"seq\nelement\nunit\n",
