@@ -9,6 +9,7 @@ mod sending;
 
 use crate::call::read_calls;
 use row_text::cursor::Cursor;
+use row_text::number::parse;
 use row_text::row::Operations;
 use row_text::stop::{Result, Stop};
 use row_text::tokens::{Tokens, read_tokens};
@@ -25,6 +26,11 @@ impl Operations for WritingRows {
                 alloc,
                 read_calls(alloc, arguments)?.as_slice(),
             ),
+            "calls_within" => {
+                let (limit, calls) = arguments.split_once('\t').ok_or(Stop::NoRow)?;
+                let calls = read_calls(alloc, calls)?;
+                building::calls_within(alloc, calls.as_slice(), parse(limit)?)
+            }
             "refusal" => building::refusal(alloc, read_calls(alloc, arguments)?.as_slice()),
             "builder" => building::builder(alloc, read_calls(alloc, arguments)?.as_slice()),
             "record" => sending::record(alloc, read_calls(alloc, arguments)?.as_slice()),
@@ -77,6 +83,7 @@ fn answer_tokens(alloc: Global, operation: &str, tokens: &mut Tokens<'_>) -> Res
         "send" => sending::send(alloc, tokens),
         "send_as" => sending::send_as(alloc, tokens),
         "canonical" => building::canonical(alloc, tokens),
+        "canonical_within" => building::canonical_within(alloc, tokens),
         "collect" => building::collect(alloc, tokens),
         "compare" => comparing::values(alloc, tokens),
         "compare_parts" => comparing::parts(alloc, tokens),

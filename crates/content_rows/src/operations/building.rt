@@ -1,7 +1,9 @@
 //! Trees that are built of calls.
 
 use crate::methods::make_call;
-use content_build::{Builder, CallsError, Recorder, Serializer, from_calls, from_calls_prefix};
+use content_build::{
+    Builder, CallsError, Recorder, Serializer, from_calls, from_calls_prefix, from_calls_within,
+};
 use content_ser::{Call, Serializer as _, replay as make_calls};
 use content_tree::{Error, ErrorKind, Found, Value};
 use row_text::number::parse;
@@ -53,6 +55,17 @@ pub fn calls_prefix(alloc: Global, calls: &[Call<'_>]) -> Result<String> {
             let tree = taken(alloc, &value)?;
             Ok(format!(in alloc; "{tree}, {length}")?)
         }
+        Err(refusal) => refused(alloc, &refusal),
+    }
+}
+
+/// The tree that the calls spell within a limit, or where and why they are refused.
+pub fn calls_within(alloc: Global, calls: &[Call<'_>], limit: usize) -> Result<String> {
+    if limit == 0 {
+        return Err(Stop::NoRow);
+    }
+    match from_calls_within(alloc, calls, limit) {
+        Ok(value) => taken(alloc, &value),
         Err(refusal) => refused(alloc, &refusal),
     }
 }
@@ -114,6 +127,22 @@ pub fn replay(alloc: Global, first: &[Call<'_>], second: &[Call<'_>]) -> Result<
     write_answer(&mut out, make_calls(second, &mut builder))?;
     write_end(alloc, &mut out, builder)?;
     Ok(out)
+}
+
+/// What a serialiser with a limit makes of a tree, or the kind of its error.
+pub fn canonical_within(alloc: Global, tokens: &mut Tokens<'_>) -> Result<String> {
+    let limit: usize = parse(take_word(tokens)?)?;
+    if limit == 0 {
+        return Err(Stop::NoRow);
+    }
+    let value = read_tree(alloc, tokens)?;
+    match Serializer::new()
+        .depth_limit(limit)
+        .serialize(alloc, &value)
+    {
+        Ok(value) => taken(alloc, &value),
+        Err(error) => Ok(String::from_str(alloc, kind_of(&error)?)?),
+    }
 }
 
 /// The canonical form of a tree.

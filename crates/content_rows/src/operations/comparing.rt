@@ -7,9 +7,10 @@ use content_tree::laws::{equal_images, equal_values};
 use content_tree::{Error, Found, Value};
 use row_text::expectation::{read_expected, read_type};
 use row_text::kind::read_kind;
+use row_text::number::parse;
 use row_text::order::{if_lawful, order, told};
 use row_text::stop::{Result, Stop};
-use row_text::tokens::{Tokens, take_word};
+use row_text::tokens::{Tokens, take_if_mark, take_mark, take_word};
 use row_text::tree::{read_image, read_tree};
 use std::alloc::Global;
 
@@ -110,13 +111,23 @@ pub fn errors(alloc: Global, tokens: &mut Tokens<'_>) -> Result<String> {
     told(alloc, order(&left, &right))
 }
 
-/// The serialiser that is named.
+/// The serialiser that is named, with a limit where one stands behind it in brackets.
 fn read_serializer(tokens: &mut Tokens<'_>) -> Result<Serializer> {
-    match take_word(tokens)? {
-        "new" => Ok(Serializer::new()),
-        "default" => Ok(Serializer::default()),
-        "human_readable" => Ok(Serializer::new().human_readable()),
-        _ => Err(Stop::NoRow),
+    let serializer = match take_word(tokens)? {
+        "new" => Serializer::new(),
+        "default" => Serializer::default(),
+        "human_readable" => Serializer::new().human_readable(),
+        _ => return Err(Stop::NoRow),
+    };
+    if !take_if_mark(tokens, b'(') {
+        return Ok(serializer);
+    }
+    let limit: usize = parse(take_word(tokens)?)?;
+    take_mark(tokens, b')')?;
+    if limit == 0 {
+        Err(Stop::NoRow)
+    } else {
+        Ok(serializer.depth_limit(limit))
     }
 }
 
