@@ -7,16 +7,11 @@ use Rattle.std.specs.Fmt.{decimal}
 use Rattle.std.specs.Prelude.{take, drop}
 use Rattle.std.proofs.lemmas.List.{take-append-drop}
 use Rattle.std.proofs.lemmas.Option.{none-some}
-use Rattle.content_tree.specs.Images.Image.{image}
-use Rattle.content_tree.specs.Printed.Images.{printed}
-use Rattle.content_tree.specs.Printed.Errors.{kind_text}
-use Rattle.content_tree.specs.Values.Tree.{Tree}
-use Rattle.content_tree.specs.declared.error.ErrorKind.{ErrorKind}
-use Rattle.content_tree.specs.declared.error.ErrorKind.TheVariants.{Unexpected, Custom, OutOfMemory}
-use Rattle.content_tree.specs.declared.error.ErrorKind.TheVariants.{Misplaced, Failed, Unfinished}
-use Rattle.content_ser.specs.Calls.Event.{Event}
-use Rattle.content_ser.specs.Grammar.Depth.{SpellsUnder, IsWholeUnder, IsViableUnder}
-use Rattle.content_build.specs.Answers.{IsRefusalUnder}
+use Rattle.serde_content.specs.Names.Words.{image, printed, kind_text, Tree, ErrorKind, Event}
+use Rattle.serde_content.specs.Names.Words.{SpellsUnder, IsWholeUnder, IsViableUnder}
+use Rattle.serde_content.specs.Names.Words.{IsRefusalUnder}
+use Rattle.serde_content.specs.Names.ErrorKind.{Unexpected, Custom, OutOfMemory, Misplaced, Failed}
+use Rattle.serde_content.specs.Names.ErrorKind.{Unfinished}
 use Rattle.content_cli.specs.Lines.{limit_of, body_of, first_bad, calls_of}
 use Rattle.content_cli.specs.Answers.{Earns, EarnsStatus}
 use Rattle.content_cli.specs.declared.answer.Answer.{Answer}

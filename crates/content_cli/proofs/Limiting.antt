@@ -3,15 +3,11 @@ use Rattle.std.proofs.Common.{◌≡◌, ℕ, ◌≤◌, Bool, true, false, cond
 use Rattle.std.proofs.Common.{Ok, Err, refl, option_and_then, length, not, arith}
 use Rattle.std.proofs.lemmas.Bool.{ltb-true, ltb-false}
 use Rattle.std.proofs.lemmas.List.Sums.{prefix_len-le-length}
-use Rattle.content_tree.specs.Errors.Kind.{kind_of}
-use Rattle.content_tree.specs.declared.error.ErrorKind.{ErrorKind}
-use Rattle.content_tree.specs.declared.error.ErrorKind.TheVariants.{Unexpected, Custom, OutOfMemory}
-use Rattle.content_tree.specs.declared.error.ErrorKind.TheVariants.{Misplaced, Failed, Unfinished}
-use Rattle.content_tree.specs.declared.value.NamedValue.{NamedValue}
-use Rattle.content_ser.specs.Calls.Event.{Event}
-use Rattle.content_ser.specs.Grammar.Depth.{IsLimit}
-use Rattle.content_build.specs.Answers.{IsRefusal, IsAnswer, IsRefusalUnder, IsAnswerUnder}
-use Rattle.content_build.specs.declared.calls_error.CallsError.{CallsError}
+use Rattle.serde_content.specs.Names.Words.{kind_of, ErrorKind, NamedValue, Event, IsLimit}
+use Rattle.serde_content.specs.Names.Words.{IsRefusal, IsAnswer, IsRefusalUnder, IsAnswerUnder}
+use Rattle.serde_content.specs.Names.Words.{CallsError}
+use Rattle.serde_content.specs.Names.ErrorKind.{Unexpected, Custom, OutOfMemory, Misplaced, Failed}
+use Rattle.serde_content.specs.Names.ErrorKind.{Unfinished}
 use Rattle.content_cli.specs.Lines.{is_line_feed}
 use Rattle.content_cli.specs.Numerals.{natural_of}
 use Rattle.content_cli.specs.Words.{limit_in, limit_of_parts, positive_of, word_of, rest_of}

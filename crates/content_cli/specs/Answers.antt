@@ -2,14 +2,9 @@
 use Rattle.std.specs.Prelude.{◌≡◌, ◌≢◌, ◌⊎◌, ℕ, ◌+◌, List, ◌++◌, codes, Option, Some, None}
 use Rattle.std.specs.Fmt.{decimal}
 use Rattle.std.specs.Io.KnownBytes.{Appends}
-use Rattle.content_tree.specs.Values.Tree.{Tree}
-use Rattle.content_tree.specs.Images.Image.{image}
-use Rattle.content_tree.specs.Printed.Images.{printed}
-use Rattle.content_tree.specs.Printed.Errors.{kind_text}
-use Rattle.content_tree.specs.declared.error.ErrorKind.{ErrorKind}
-use Rattle.content_tree.specs.declared.error.ErrorKind.TheVariants.{OutOfMemory}
-use Rattle.content_ser.specs.Grammar.Depth.{SpellsUnder, IsWholeUnder}
-use Rattle.content_build.specs.Answers.{IsRefusalUnder}
+use Rattle.serde_content.specs.Names.Words.{Tree, image, printed, kind_text, ErrorKind, SpellsUnder}
+use Rattle.serde_content.specs.Names.Words.{IsWholeUnder, IsRefusalUnder}
+use Rattle.serde_content.specs.Names.ErrorKind.{OutOfMemory}
 use Rattle.content_cli.specs.Lines.{limit_of, body_of, first_bad, calls_of}
 
 -- some line is no call, nor a first one that sets a limit: the first of them is named, counted from 1

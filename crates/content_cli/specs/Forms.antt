@@ -4,8 +4,8 @@ use Rattle.std.specs.Prelude.{[], ◌∷◌, length, codes, Option, None, Some}
 use Rattle.std.specs.Str.{bytes_eq}
 use Rattle.std.specs.Option.{option_map, option_and_then}
 use Rattle.std.specs.List.{before_first, after_first, position_or_len}
-use Rattle.content_ser.specs.Calls.Event as event
-use Rattle.content_ser.specs.Calls.Event.{Event}
+use Rattle.serde_content.specs.Names.Event as event
+use Rattle.serde_content.specs.Names.Words.{Event}
 use Rattle.content_cli.specs.Numerals.{natural_of, is_hex, unhex}
 
 -- a byte that a line may hold: 32 to 126

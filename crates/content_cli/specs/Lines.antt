@@ -2,7 +2,7 @@
 use Rattle.std.specs.Prelude.{ℕ, ◌==◌, Bool, cond, ◌&&◌, not, List, length, drop, Option, is_none}
 use Rattle.std.specs.Option.{option_to_list}
 use Rattle.std.specs.List.{slice_split, position, position_or_len, flat_map, before_first}
-use Rattle.content_ser.specs.Calls.Event.{Event}
+use Rattle.serde_content.specs.Names.Words.{Event}
 use Rattle.content_cli.specs.Words.{event_in, limit_in}
 
 -- the byte that ends a line

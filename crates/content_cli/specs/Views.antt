@@ -1,7 +1,7 @@
 -- What contracts see of the types of a line.
 use Rattle.std.specs.Prelude.{◌≡◌, Option, None, Some, MatchOption}
-use Rattle.content_ser.specs.Calls.Event as event
-use Rattle.content_ser.specs.Calls.Event.{Event}
+use Rattle.serde_content.specs.Names.Event as event
+use Rattle.serde_content.specs.Names.Words.{Event}
 use Rattle.content_cli.specs.Numerals.{unhex}
 use Rattle.content_cli.specs.Forms as forms
 use Rattle.content_cli.specs.declared.line.Line.{Line}

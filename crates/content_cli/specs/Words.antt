@@ -3,9 +3,9 @@ use Rattle.std.specs.Prelude.{ℕ, cond, nat_lt, List, length, codes, Option, No
 use Rattle.std.specs.Str.{bytes_eq}
 use Rattle.std.specs.Option.{option_map, option_and_then}
 use Rattle.std.specs.List.{list_all, before_first, after_first, position_or_len}
-use Rattle.content_tree.specs.declared.number.Number.TheVariants as num
-use Rattle.content_ser.specs.Calls.Event as event
-use Rattle.content_ser.specs.Calls.Event.{Event}
+use Rattle.serde_content.specs.Names.Number as num
+use Rattle.serde_content.specs.Names.Event as event
+use Rattle.serde_content.specs.Names.Words.{Event}
 use Rattle.content_cli.specs.Numerals.{natural_of, integer_of}
 use Rattle.content_cli.specs.Forms.{is_printable, is_space, boolean_of, character_of, octets_of}
 use Rattle.content_cli.specs.Forms.{name_of, named_length_of, variant_of, variant_length_of}

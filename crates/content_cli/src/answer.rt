@@ -3,23 +3,16 @@
 ghost use Rattle.std.specs.Prelude.{◌≡◌, ◌≢◌, ◌≤◌, ◌+◌, ◌++◌, codes, IfOk, OnOk};
 ghost use Rattle.std.specs.String.{string_bytes};
 ghost use Rattle.std.specs.Fmt.{decimal};
-ghost use Rattle.content_tree.specs.Images.Image.{image};
-ghost use Rattle.content_tree.specs.Errors.Kind.{kind_of};
-ghost use Rattle.content_tree.specs.Printed.Images.{printed};
-ghost use Rattle.content_tree.specs.Printed.Errors.{error_text};
-ghost use Rattle.content_tree.specs.Values.Value.{tree_of};
-ghost use Rattle.content_tree.specs.declared.error.ErrorKind.TheVariants.{OutOfMemory};
-ghost use Rattle.content_ser.specs.Calls.Call.{events_of};
-ghost use Rattle.content_ser.specs.Grammar.Depth.{IsLimit};
-ghost use Rattle.content_build.specs.Answers.{IsAnswerUnder};
+ghost use Rattle.serde_content.specs.Names.Words.{image, kind_of, printed, error_text, tree_of};
+ghost use Rattle.serde_content.specs.Names.Words.{events_of, IsLimit, IsAnswerUnder};
+ghost use Rattle.serde_content.specs.Names.ErrorKind.{OutOfMemory};
 ghost use Rattle.content_cli.specs.Answers.{Earns, EarnsStatus};
 
 use crate::calls::read_calls;
 use crate::limit::split_limit;
 use crate::line::first_bad_line;
-use content_build::{CallsError, from_calls, from_calls_within};
-use content_ser::Call;
-use content_tree::{ErrorKind, Value};
+use serde_content::ser::{Call, CallsError, from_calls, from_calls_within};
+use serde_content::{ErrorKind, Value};
 use std::alloc::{AllocError, Global};
 
 /// The line to be written, and the status.

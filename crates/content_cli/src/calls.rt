@@ -1,14 +1,14 @@
 //! From lines to calls.
 
 ghost use Rattle.std.specs.Prelude.{◌≡◌, IfOk};
-ghost use Rattle.content_ser.specs.Calls.Call.{event_of, events_of};
+ghost use Rattle.serde_content.specs.Names.Words.{event_of, events_of};
 ghost use Rattle.content_cli.specs.Lines.{calls_of};
 ghost use Rattle.content_cli.specs.Views.{line_event};
 
 use crate::hex;
 use crate::line::{Line, read_line};
-use content_ser::Call;
-use content_tree::{CowBytes, CowStr};
+use serde_content::ser::Call;
+use serde_content::{CowBytes, CowStr};
 use std::alloc::{AllocError, Global};
 
 /// The call that a line spells. Its text is borrowed from the line; bytes take memory.

@@ -2,7 +2,7 @@
 
 ghost use Rattle.std.specs.Prelude.{◌≡◌, drop};
 ghost use Rattle.std.specs.List.{before_first, position, position_or_len};
-ghost use Rattle.content_ser.specs.Grammar.Depth.{IsLimit};
+ghost use Rattle.serde_content.specs.Names.Words.{IsLimit};
 ghost use Rattle.content_cli.specs.Lines.{body_of, is_line_feed, limit_of};
 ghost use Rattle.content_cli.specs.Words.{limit_in, limit_of_parts, positive_of};
 ghost use Rattle.content_cli.specs.Words.{rest_of, word_of};

@@ -8,7 +8,7 @@ ghost use Rattle.content_cli.specs.Words.{event_in, of_parts, word_of, rest_of};
 ghost use Rattle.content_cli.specs.Views.{Reads};
 
 use crate::words::{read_phrase, read_word};
-use content_tree::Number;
+use serde_content::Number;
 use std::str;
 
 /// A variant of an enum, as a line names it: `N i V`.
@@ -24,7 +24,7 @@ pub struct Variant {
 
 /// The call that a line spells, borrowed from the line.
 ///
-/// Its variants are those of [`Call`](content_ser::Call). A text is the line's own, and bytes are
+/// Its variants are those of [`Call`](serde_content::ser::Call). A text is the line's own, and bytes are
 /// still digits.
 #[derive(Clone, Copy, Debug, PartialEq, Eq)]
 pub enum Line<'a> {

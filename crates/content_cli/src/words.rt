@@ -1,7 +1,7 @@
 //! The words of lines.
 
 ghost use Rattle.std.specs.Option.{option_map};
-ghost use Rattle.content_ser.specs.Calls.Event as event;
+ghost use Rattle.serde_content.specs.Names.Event as event;
 ghost use Rattle.content_cli.specs.Forms.{named_length_of, variant_length_of};
 ghost use Rattle.content_cli.specs.Words.{of_named, of_number, of_phrase, of_word};
 ghost use Rattle.content_cli.specs.Views.{Reads};
@@ -12,7 +12,7 @@ use crate::forms::{
 };
 use crate::line::Line;
 use crate::numbers;
-use content_tree::Number;
+use serde_content::Number;
 
 /// A line of one word.
 pub fn read_word<'a>(word: &str) -> Option<Line<'a>>

@@ -1,3 +1,4 @@
 pub mod Depth
 pub mod RoundTrip
 pub mod Laws
+pub mod Names

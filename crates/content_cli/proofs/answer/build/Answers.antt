@@ -1,6 +1,5 @@
 use Rattle.std.proofs.Common.{sym, subst}
-use Rattle.content_ser.specs.Calls.Call.{events_of}
-use Rattle.content_build.specs.Answers.{IsAnswerUnder}
+use Rattle.serde_content.specs.Names.Words.{events_of, IsAnswerUnder}
 use Rattle.content_cli.proofs.Limiting.{answer_under}
 use Rattle.content_cli.proofs.answer.build.Goals as goal
 

@@ -1,7 +1,5 @@
 use Rattle.std.proofs.Common.{rules, subst}
-use Rattle.content_tree.specs.Errors.Kind.{kind_of}
-use Rattle.content_ser.specs.Calls.Call.{events_of}
-use Rattle.content_build.specs.Answers.{IsRefusalUnder}
+use Rattle.serde_content.specs.Names.Words.{kind_of, events_of, IsRefusalUnder}
 use Rattle.content_cli.proofs.Earned.{refused_earns, answer_status}
 use Rattle.content_cli.proofs.answer.make_answer.Goals as goal
 

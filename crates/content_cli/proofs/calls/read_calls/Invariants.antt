@@ -2,7 +2,7 @@ use Rattle.std.proofs.Common.{◌≡◌, map}
 use Rattle.std.specs.List.{flat_map}
 use Rattle.std.specs.Option.{option_to_list}
 use Rattle.content_cli.specs.Words.{event_in}
-use Rattle.content_ser.specs.Calls.Call.{event_of}
+use Rattle.serde_content.specs.Names.Words.{event_of}
 use Rattle.content_cli.proofs.calls.read_calls.Given as goal
 
 abbrev pub invariant-loop-line : goal.invariant-loop-line

@@ -1,0 +1,5 @@
+-- Names of the crates below that the facade passes on, for crates that stand on it alone.
+pub mod Words
+pub mod Event
+pub mod ErrorKind
+pub mod Number
