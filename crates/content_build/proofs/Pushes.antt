@@ -8,9 +8,7 @@ use Rattle.content_tree.specs.Values.Tree as tree
 use Rattle.content_tree.specs.Values.Value.{tree_of, trees_view, pairs_view, fields_view}
 use Rattle.content_tree.specs.declared.cow.CowStr.{CowStr}
 use Rattle.content_tree.specs.declared.value.NamedValue.{NamedValue}
-use Rattle.content_build.specs.Partial.{push_tree, push_pair, push_field, set_last}
-use Rattle.content_build.specs.Inner.Frames.{slot_view, slots_view}
-use Rattle.content_build.specs.declared.slots.Slot.{Slot}
+use Rattle.content_build.specs.Partial.{push_tree, push_pair, push_field}
 
 pub trees_view-push : (vs : List NamedValue) (v : NamedValue) → trees_view (vs ++ v ∷ []) ≡ push_tree (trees_view vs) (tree_of v)
 trees_view-push [] v = refl
@@ -26,19 +24,4 @@ pub fields_view-push : (fs : List (CowStr × NamedValue)) (f : CowStr × NamedVa
 fields_view-push [] f = refl
 fields_view-push (g ∷ gs) f = ap (tree.field_then (text_of g.0) (tree_of g.1)) (fields_view-push gs f)
 
-pub slots_view-push : (ps : List Slot) (p : Slot) → slots_view (ps ++ p ∷ []) ≡ slot_view p ∷ slots_view ps
-slots_view-push ps p = ap (map slot_view) (reverse-append ps (p ∷ []))
-
-pub set_last_at : (ps : List (NamedValue × NamedValue)) (i : ℕ) → suc i ≡ length ps → (p : NamedValue × NamedValue) (v : NamedValue) →
-    p ≡ get_or ps i p → pairs_view (set ps i (p.0, v)) ≡ set_last (pairs_view ps) (tree_of v)
-set_last_at [] i e p v h = absurd (omega arith)
-set_last_at (q ∷ []) zero e p v h = ap (λ (k : NamedValue × NamedValue). tree.pair_then (tree_of k.0) (tree_of v) tree.no_pairs) h
-set_last_at (q ∷ []) (suc i) e p v h = absurd (omega arith)
-set_last_at (q ∷ r ∷ rest) zero e p v h = absurd (omega arith)
-set_last_at (q ∷ r ∷ rest) (suc i) e p v h = one_before i (set_last_at (r ∷ rest) i (omega arith) p v h)
-  where
-    one_before : (j : ℕ) → pairs_view (set (r ∷ rest) j (p.0, v)) ≡ set_last (pairs_view (r ∷ rest)) (tree_of v)
-        → pairs_view (q ∷ set (r ∷ rest) j (p.0, v)) ≡ tree.pair_then (tree_of q.0) (tree_of q.1) (set_last (pairs_view (r ∷ rest)) (tree_of v))
-    one_before j e = ap (tree.pair_then (tree_of q.0) (tree_of q.1)) e
-
-pub ruleset pushes = (trees_view-push, pairs_view-push, fields_view-push, slots_view-push)
+pub ruleset pushes = (trees_view-push, pairs_view-push, fields_view-push)

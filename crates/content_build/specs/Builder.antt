@@ -14,9 +14,8 @@ use Rattle.content_ser.specs.Serializers.Step.{out_of_place, no_memory}
 use Rattle.content_ser.specs.Grammar.Depth.{IsLimit, IsViableUnder}
 use Rattle.content_build.specs.Limit.{Limited, fresh_under, run, step}
 use Rattle.content_build.specs.Partial.{Partial, due, between, done, fresh}
-use Rattle.content_build.specs.Inner.Frames.{partial_tree}
+use Rattle.content_build.specs.Inner.Tape.{partial_tree}
 use Rattle.content_build.specs.declared.builder.Builder.{Builder}
-use Rattle.content_build.specs.declared.frames.Frames.{Frames}
 
 -- whether there is no partial tree
 abbrev pub has_failed : Option Partial → Bool
@@ -28,17 +27,13 @@ abbrev pub or_fresh : Option Partial → Partial
 or_fresh None = fresh
 or_fresh (Some s) = s
 
--- the partial tree that is built, or nothing after a refusal
-abbrev pub built : Option Frames → Option Partial
-built frames = option_and_then partial_tree frames
-
 -- a serialiser at this partial tree under this limit, or failed
 abbrev pub seen_at : Option ℕ → Option Partial → Bool → Seen Limited
 seen_at limit s readable = record { state = record { limit = limit; tree = or_fresh s }; failed = has_failed s; readable = readable }
 
 -- the builder as a serialiser
 unfoldable pub seen_of : Builder → Seen Limited
-seen_of b = seen_at b.limit (built b.frames) b.human_readable
+seen_of b = seen_at b.limit (partial_tree b.tape) b.human_readable
 
 -- with which error a builder refuses a call; nothing is said of what it keeps
 abbrev pub refuses : RefusalRule Limited

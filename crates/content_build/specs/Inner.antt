@@ -1,4 +1,11 @@
 -- What the private parts of a builder stand for.
 pub mod Tokens
-pub mod Frames
+pub mod Cells
+pub mod Forest
+pub mod Decoding
+pub mod Entries
+pub mod Sound
+pub mod Tape
+pub mod Values
 pub mod Taken
+pub mod Steps

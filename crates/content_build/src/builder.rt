@@ -1,29 +1,31 @@
 //! The serialiser that builds a tree.
 
-ghost use Rattle.std.specs.Prelude.{◌≡◌, ◌≤◌, IfErr, Some, false, option_and_then};
-ghost use Rattle.content_tree.specs.Errors.Kind.{IsOutOfMemory};
+ghost use Rattle.std.specs.Prelude.{◌≡◌, ◌≤◌, Some, false, option_and_then};
 ghost use Rattle.content_ser.specs.Calls.Call.{event_of};
 ghost use Rattle.content_ser.specs.Serializers.Step.{Takes};
 ghost use Rattle.content_build.specs.Inner.Taken.{AnswersStep};
+ghost use Rattle.content_build.specs.Inner.Tape.{partial_tree};
 ghost use Rattle.content_build.specs.Inner.Tokens.{token_view};
 ghost use Rattle.content_build.specs.Limit.{Limited, fresh, fresh_under, step, step_under};
 ghost use Rattle.content_build.specs.Partial.{open_count};
-ghost use Rattle.content_build.specs.Builder.{built, seen_of, refuses, AnswersExactly, Finishes};
+ghost use Rattle.content_build.specs.Builder.{seen_of, refuses, AnswersExactly, Finishes};
 
-use crate::frames::Frames;
 use crate::limit::fits;
+use crate::refusal::Refusal;
+use crate::tape::Tape;
 use crate::token::Token;
 use content_ser::{Call, Serializer};
-use content_tree::{ErrorKind, Result, Value};
+use content_tree::{Result, Value};
 use std::alloc::Global;
+use std::marker::PhantomData;
 
 /// A serialiser that builds the tree that its calls spell.
 ///
 /// Its state is a partial tree: fresh, open, or done; and the limit on nesting, if it was made with
 /// one ([`with_limit`](Builder::with_limit)). A call after which no list of calls can spell a tree,
-/// within the limit, answers `Misplaced`, before any memory is taken for it. A call for which an allocation
-/// failed answers `OutOfMemory`. Every call after either answers `Failed`; `collect_str` alone
-/// prints first, and where an allocation for that failed it answers `OutOfMemory` and changes
+/// within the limit, answers `Misplaced`, before any memory is taken for it. A call for which an
+/// allocation failed answers `OutOfMemory`. Every call after either answers `Failed`; `collect_str`
+/// alone prints first, and where an allocation for that failed it answers `OutOfMemory` and changes
 /// nothing. Hints and lengths reserve nothing. Texts and bytes are copied, names never. The calls
 /// are Serde's; that one out of place is an error is ours.
 ///
@@ -40,26 +42,25 @@ use std::alloc::Global;
 /// ```
 #[derive(Drop)]
 pub struct Builder<'v> {
-    /// Nothing once a call would have passed the limit.
-    frames: Option<Frames<'v>>,
-    human_readable: bool,
+    tape: Tape,
     limit: Option<usize>,
+    human_readable: bool,
+    values: PhantomData<Value<'v>>,
 }
 
 /// Takes a call under a limit.
-fn take(frames: &mut Option<Frames<'_>>, limit: Option<usize>, call: Token<'_>) -> Result<()>
-    ensures { AnswersStep (built frames.old)
-        (option_and_then (λ s. step_under limit s (token_view call.entry)) (built frames.old))
-        result (built frames.new) }
+#[inline(always)]
+fn take(tape: &mut Tape, limit: Option<usize>, call: Token<'_>) -> Result<()>
+    ensures { AnswersStep (partial_tree tape.old)
+        (option_and_then (λ s. step_under limit s (token_view call.entry))
+        (partial_tree tape.old))
+        result (partial_tree tape.new) }
 {
-    let Some(open) = frames else {
-        return Err(ErrorKind::Failed.into());
-    };
-    if fits(open, limit, &call) {
-        open.take(call)
+    if fits(tape, limit, &call) {
+        tape.take(call)
     } else {
-        *frames = None;
-        Err(ErrorKind::Misplaced.into())
+        tape.fail();
+        Err(Refusal::Misplaced.error())
     }
 }
 
@@ -101,9 +102,10 @@ impl<'v> Builder<'v> {
             ≡ record { state = fresh_under limit; failed = false; readable = human_readable } }
     {
         Builder {
-            frames: Some(Frames::new(alloc)),
-            human_readable,
+            tape: Tape::new(alloc),
             limit,
+            human_readable,
+            values: PhantomData,
         }
     }
 
@@ -113,27 +115,20 @@ impl<'v> Builder<'v> {
         ensures { (seen_of self.now).failed ≡ false
             → result ≡ open_count (seen_of self.now).state.tree }
     {
-        match &self.frames {
-            Some(frames) => frames.open_count(),
-            None => 0,
-        }
+        self.tape.open_count()
     }
 
     /// The tree that the calls spell. Its texts and bytes are owned and its names static.
     ///
     /// It answers `Failed` where the builder has failed, and `Unfinished` where the calls spell no
-    /// tree yet. It takes no memory.
+    /// tree yet. Memory is taken for the vectors, each of its items' number, and for the boxes of
+    /// the tree; where that fails: `OutOfMemory`.
     #[tactic(auto, unfolding(crate::specs::Builder::seen_of))]
     pub fn finish(self) -> Result<Value<'v>>
         ensures value { Finishes (seen_of self.entry).failed
             (seen_of self.entry).state.tree result }
-        // it takes no memory
-        ensures memory { IfErr result (λ e. ¬ IsOutOfMemory e) }
     {
-        match self.frames {
-            Some(frames) => frames.finish(),
-            None => Err(ErrorKind::Failed.into()),
-        }
+        self.tape.finish()
     }
 }
 
@@ -147,8 +142,9 @@ impl<'v> Serializer for Builder<'v> {
     ghost refuses = { refuses };
 
     /// Errors: `Misplaced` where no whole list, within the limit, begins with the calls so far and
-    /// this one, `OutOfMemory` where an allocation failed, `Failed` after either. Memory is taken for texts,
-    /// bytes, items and boxes.
+    /// this one, `OutOfMemory` where an allocation failed, `Failed` after either. Memory is taken
+    /// for texts, bytes and entries.
+    #[inline(always)]
     fn call(&mut self, call: Call<'_>) -> Result<()>
         // one step of the partial tree, under its limit
         ensures taken { Takes step refuses (seen_of self.old)
@@ -157,7 +153,7 @@ impl<'v> Serializer for Builder<'v> {
         // begins with the calls so far and this one, and refused as out of place only where none does
         ensures exact { AnswersExactly (seen_of self.old) (event_of call.entry) result }
     {
-        take(&mut self.frames, self.limit, Token::of(&call))
+        take(&mut self.tape, self.limit, Token::of(&call))
     }
 
     #[tactic(auto, unfolding(crate::specs::Builder::seen_of))]
@@ -167,9 +163,6 @@ impl<'v> Serializer for Builder<'v> {
 
     #[tactic(auto, unfolding(crate::specs::Builder::seen_of))]
     fn is_failed(&self) -> bool {
-        match &self.frames {
-            Some(frames) => frames.is_failed(),
-            None => true,
-        }
+        self.tape.is_failed()
     }
 }

@@ -1,12 +1,12 @@
 //! A limit on how deep trees nest.
 
 ghost use Rattle.std.specs.Prelude.{◌≡◌, true, Some, MatchOption};
-ghost use Rattle.content_build.specs.Inner.Frames.{partial_tree};
+ghost use Rattle.content_build.specs.Inner.Tape.{partial_tree};
 ghost use Rattle.content_build.specs.Inner.Tokens.{token_view};
 ghost use Rattle.content_build.specs.Limit as limits;
 ghost use Rattle.content_build.specs.Partial.{open_count};
 
-use crate::frames::Frames;
+use crate::tape::Tape;
 use crate::token::Token;
 
 /// Whether the tree that the call announces, if it announces one, keeps the limit where so many
@@ -27,12 +27,12 @@ fn fits_inside(count: usize, limit: usize, call: &Token<'_>) -> bool
 }
 
 /// Whether the call keeps the limit in this partial tree. After a refusal any call does.
-pub(crate) fn fits(frames: &Frames<'_>, limit: Option<usize>, call: &Token<'_>) -> bool
-    ensures { MatchOption (partial_tree frames.now) (result ≡ true)
+pub(crate) fn fits(tape: &Tape, limit: Option<usize>, call: &Token<'_>) -> bool
+    ensures { MatchOption (partial_tree tape.now) (result ≡ true)
         (λ s. result ≡ limits.fits limit (open_count s) (token_view call.now)) }
 {
     match limit {
         None => true,
-        Some(limit) => frames.is_failed() || fits_inside(frames.open_count(), limit, call),
+        Some(limit) => tape.is_failed() || fits_inside(tape.open_count(), limit, call),
     }
 }

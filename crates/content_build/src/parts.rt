@@ -1,13 +1,11 @@
-//! What stands around trees, and the trees made with it.
+//! What stands around trees, and the trees of heads.
 
 ghost use Rattle.std.specs.Prelude.{◌≡◌, IfOk};
-ghost use Rattle.content_tree.specs.Values.Value.{tree_of, tree_data_of, trees_view};
+ghost use Rattle.content_tree.specs.Values.Value.{tree_of, tree_data_of};
 ghost use Rattle.content_ser.specs.Calls.Head.{head_of, headed};
-ghost use Rattle.content_ser.specs.Grammar.Token.{wrapped, row_tree};
-ghost use Rattle.content_build.specs.Inner.Tokens.{wrap_view, row_view};
 
 use content_ser::Head;
-use content_tree::{CowStr, Data, NamedData, NamedEnum, NamedStruct, NamedValue, Value};
+use content_tree::{CowStr, Data, NamedEnum, NamedStruct, NamedValue, Value};
 use std::alloc::{AllocError, Global};
 
 /// What stands around one child.
@@ -23,36 +21,6 @@ pub(crate) enum Row {
     Seq,
     Tuple,
     Head(Head),
-}
-
-impl Wrap {
-    /// The tree around a child.
-    pub(crate) fn around<'v>(self, alloc: Global, child: Value<'v>) -> Result<Value<'v>, AllocError>
-        ensures { IfOk result (λ v. tree_of v ≡ wrapped (wrap_view self) (tree_of child.entry)) }
-    {
-        match self {
-            Wrap::Present => Ok(NamedValue::Option(Some(Box::new(alloc, child)?))),
-            Wrap::Head(head) => under(alloc, head, NamedData::NewType { value: child }),
-        }
-    }
-}
-
-impl Row {
-    /// The tree of a row with these items.
-    pub(crate) fn with<'v>(
-        self,
-        alloc: Global,
-        items: Vec<Value<'v>>,
-    ) -> Result<Value<'v>, AllocError>
-        ensures { IfOk result
-            (λ v. tree_of v ≡ row_tree (row_view self) (trees_view items.entry.items)) }
-    {
-        match self {
-            Row::Seq => Ok(NamedValue::Seq(items)),
-            Row::Tuple => Ok(NamedValue::Tuple(items)),
-            Row::Head(head) => under(alloc, head, NamedData::Tuple { values: items }),
-        }
-    }
 }
 
 /// The struct or the variant of this head that holds this.

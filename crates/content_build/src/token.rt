@@ -1,15 +1,13 @@
 //! What each call is in a list: the table of calls.
 
-ghost use Rattle.std.specs.Prelude.{◌≡◌, IfOk};
-ghost use Rattle.content_tree.specs.Values.Value.{tree_of};
+ghost use Rattle.std.specs.Prelude.{◌≡◌};
 ghost use Rattle.content_ser.specs.Calls.Call.{event_of};
 ghost use Rattle.content_ser.specs.Grammar.Token.{token_of};
-ghost use Rattle.content_build.specs.Inner.Tokens.{token_view, leaf_tree};
+ghost use Rattle.content_build.specs.Inner.Tokens.{token_view};
 
-use crate::parts::{Row, Wrap, under};
+use crate::parts::{Row, Wrap};
 use content_ser::{Call, Head};
-use content_tree::{CowBytes, CowStr, NamedData, NamedValue, Number, Value};
-use std::alloc::{AllocError, Global};
+use content_tree::Number;
 
 /// A call whose tree is whole.
 #[derive(Drop)]
@@ -49,6 +47,7 @@ pub(crate) enum Token<'a> {
 
 impl<'b> Token<'b> {
     /// What the call is in a list.
+    #[inline(always)]
     pub(crate) fn of(call: &'b Call<'_>) -> Token<'b>
         ensures { token_view result ≡ token_of (event_of call.now) }
     {
@@ -87,26 +86,6 @@ impl<'b> Token<'b> {
             Call::Value => Token::Item(Announcement::Value),
             Call::Entry => Token::Item(Announcement::Entry),
             Call::End => Token::End,
-        }
-    }
-}
-
-impl<'a> Leaf<'a> {
-    /// The tree of the call: its text and bytes are copied, its names are not.
-    pub(crate) fn make<'v>(self, alloc: Global) -> Result<Value<'v>, AllocError>
-        ensures { IfOk result (λ v. tree_of v ≡ leaf_tree self.entry) }
-    {
-        match self {
-            Leaf::Unit => Ok(NamedValue::Unit),
-            Leaf::Bool(v) => Ok(NamedValue::Bool(v)),
-            Leaf::Number(v) => Ok(NamedValue::Number(v)),
-            Leaf::Char(v) => Ok(NamedValue::Char(v)),
-            Leaf::Text(text) => Ok(NamedValue::String(CowStr::Owned(String::from_str(
-                alloc, text,
-            )?))),
-            Leaf::Bytes(bytes) => Ok(NamedValue::Bytes(CowBytes::Owned(bytes.to_vec(alloc)?))),
-            Leaf::Absent => Ok(NamedValue::Option(None)),
-            Leaf::Head(head) => under(alloc, head, NamedData::Unit),
         }
     }
 }

@@ -6,16 +6,24 @@ use Rattle.content_tree.specs.declared.error.ErrorKind.TheVariants.{Misplaced, F
 use Rattle.content_ser.specs.Grammar.Token.{Token}
 use Rattle.content_ser.specs.Serializers.Step.{Answer}
 use Rattle.content_build.specs.Partial.{Partial, step_token}
-use Rattle.content_build.specs.Inner.Frames.{focus_view}
-use Rattle.content_build.specs.declared.slots.Slot.{Slot}
-use Rattle.content_build.specs.declared.slots.Focus.{Focus}
+use Rattle.content_build.specs.Inner.Sound.{Stands}
+use Rattle.content_build.specs.declared.node.Entry.{Entry}
+use Rattle.content_build.specs.declared.node.OpenHead.{OpenHead}
+use Rattle.content_build.specs.declared.refusal.Refusal.{Refusal}
+use Rattle.content_build.specs.declared.refusal.Refusal.TheVariants as refusal
 
--- the next state, or why there is none
-abbrev pub GivesFocus : Option Partial → Result Focus Error → List Slot → Type 0
-GivesFocus None (Ok f) ps = ⊥
-GivesFocus None (Err e) ps = kind_of e ≡ Misplaced
-GivesFocus (Some next) (Ok f) ps = focus_view f ps ≡ Some next
-GivesFocus (Some next) (Err e) ps = IsOutOfMemory e
+-- with which error a call is refused
+abbrev pub IsErrorOf : Refusal → Error → Type 0
+IsErrorOf refusal.Misplaced e = kind_of e ≡ Misplaced
+IsErrorOf refusal.Failed e = kind_of e ≡ Failed
+IsErrorOf refusal.NoMemory e = IsOutOfMemory e
+
+-- what a call answers that leads to this, and what the tape stands for then
+abbrev pub TakenTo : Option Partial → Result (Unit {0}) Refusal → List Entry → List OpenHead → Type 0
+TakenTo None (Ok u) es hs = ⊥
+TakenTo None (Err e) es hs = e ≡ refusal.Misplaced
+TakenTo (Some next) (Ok u) es hs = Stands es hs next
+TakenTo (Some next) (Err e) es hs = e ≡ refusal.NoMemory
 
 -- the answer of a call in this state that leads to next, and the state after it
 abbrev pub AnswersStep : Option Partial → Option Partial → Answer → Option Partial → Type 0

@@ -1,0 +1,25 @@
+use Rattle.std.proofs.Common.{◌≡◌, ◌-◌, suc, ap, sym, ◌∙◌, refl, subst, arith, length, take, Some}
+use Rattle.content_ser.specs.Grammar.Token as token
+use Rattle.content_build.specs.Partial.{step_token}
+use Rattle.content_build.specs.Inner.Sound.{meaning, Stands}
+use Rattle.content_build.specs.Inner.Taken.{TakenTo}
+use Rattle.content_build.specs.Inner.Tokens.{leaf_tree}
+use Rattle.content_build.proofs.Calling.{the_slots, waiting_whole}
+use Rattle.content_build.proofs.steps.put.Goals as goal
+
+pub settle-requires : goal.settle-requires
+settle-requires c =
+    let es = c.args.entries.now.items in
+    let hs = c.args.heads.now.items in
+    let t = leaf_tree c.args.whole in
+    let (ps, e) = the_slots (meaning es hs) (c.if-not-is_due.ensures.0 refl) in
+    (ps, t, waiting_whole ps es c.push.new.self.items hs _ t (subst (Stands es hs) e c.requires) c.in_ok-node.ensures refl c.in_ok-push.ensures.items)
+
+pub returns : goal.returns
+returns c =
+    let es = c.args.entries.now.items in
+    let hs = c.args.heads.now.items in
+    let t = leaf_tree c.args.whole in
+    let (ps, e) = the_slots (meaning es hs) (c.if-not-is_due.ensures.0 refl) in
+    subst (λ s. TakenTo (step_token s (token.leaf t)) c.settle.result c.settle.new.entries.items c.settle.new.heads.items) (sym e)
+    (c.settle.ensures ps t (waiting_whole ps es c.push.new.self.items hs _ t (subst (Stands es hs) e c.requires) c.in_ok-node.ensures refl c.in_ok-push.ensures.items))

@@ -1,0 +1,253 @@
+-- The tape of a partial tree: a cell for each node, in the order in which nodes begin.
+use Rattle.std.specs.Prelude.{◌≡◌, ℕ, zero, suc, ◌+◌, List, [], ◌∷◌, ◌++◌, length, Bool}
+use Rattle.content_tree.specs.declared.number.Number.{Number}
+use Rattle.content_tree.specs.Values.Text.{Text, static_name}
+use Rattle.content_tree.specs.Values.Tree as tree
+use Rattle.content_tree.specs.Values.Tree.{Tree, TreeData, Trees, no_trees, tree_then, Pairs}
+use Rattle.content_tree.specs.Values.Tree.{no_pairs, pair_then, Fields, no_fields, field_then}
+use Rattle.content_ser.specs.Calls.Head as calls
+use Rattle.content_ser.specs.Calls.Head.{Head}
+use Rattle.content_ser.specs.Grammar.Token as token
+use Rattle.content_ser.specs.Grammar.Token.{Wrap, Row, ItemCall, item_call}
+use Rattle.content_build.specs.Partial as partial
+use Rattle.content_build.specs.Partial.{Partial, Slot, Compound}
+
+-- the names of a struct or of a variant with its index
+pub data Names : Type 0 where
+  of_struct : Text → Names
+  of_variant : Text → ℕ → Text → Names
+  deriving IsSet as Names-set
+
+-- what a struct or a variant holds
+pub data Shape : Type 0 where
+  nothing : Shape
+  one : Shape
+  many : Shape
+  fields : Shape
+  deriving IsSet as Shape-set
+
+-- a node that has no children and no names
+pub data Leaf : Type 0 where
+  unit : Leaf
+  absent : Leaf
+  boolean : Bool → Leaf
+  number : Number → Leaf
+  character : ℕ → Leaf
+  text : Text → Leaf
+  octets : Text → Leaf
+  deriving IsSet as Leaf-set
+
+-- a node without its children, or the key of the field whose node comes next
+pub data Node : Type 0 where
+  leaf : Leaf → Node
+  present : Node
+  seq : Node
+  tuple : Node
+  map : Node
+  headed : Shape → Names → Node
+  key : Text → Node
+  deriving IsSet as Node-set
+
+-- a node, and the number of cells of its whole tree, or 0 while it is open
+pub data Cell : Type 0 where
+  cell : Node → ℕ → Cell
+  deriving IsSet as Cell-set
+
+-- the number of cells of its whole tree
+abbrev pub cell_size : Cell → ℕ
+cell_size (cell node n) = n
+
+-- a finished node with what is inside it
+abbrev pub under : Node → List Cell → List Cell
+under node inside = cell node (suc (length inside)) ∷ inside
+
+-- what a struct or a variant holds
+abbrev pub shape_of : TreeData → Shape
+shape_of tree.no_data = nothing
+shape_of (tree.one t) = one
+shape_of (tree.many ts) = many
+shape_of (tree.named fs) = fields
+
+-- the tape of a tree
+abbrev mutual
+  pub flat : Tree → List Cell
+  flat tree.unit = cell (leaf unit) 1 ∷ []
+  flat (tree.boolean b) = cell (leaf (boolean b)) 1 ∷ []
+  flat (tree.number n) = cell (leaf (number n)) 1 ∷ []
+  flat (tree.character c) = cell (leaf (character c)) 1 ∷ []
+  flat (tree.text t) = cell (leaf (text t)) 1 ∷ []
+  flat (tree.octets t) = cell (leaf (octets t)) 1 ∷ []
+  flat (tree.seq ts) = under seq (flat_trees ts)
+  flat (tree.map ps) = under map (flat_pairs ps)
+  flat tree.absent = cell (leaf absent) 1 ∷ []
+  flat (tree.present t) = under present (flat t)
+  flat (tree.structure name d) = under (headed (shape_of d) (of_struct name)) (flat_data d)
+  flat (tree.enumeration name i variant d) = under (headed (shape_of d) (of_variant name i variant)) (flat_data d)
+  flat (tree.tuple ts) = under tuple (flat_trees ts)
+
+  -- of what a struct or a variant holds
+  pub flat_data : TreeData → List Cell
+  flat_data tree.no_data = []
+  flat_data (tree.one t) = flat t
+  flat_data (tree.many ts) = flat_trees ts
+  flat_data (tree.named fs) = flat_fields fs
+
+  -- of trees, one after another
+  pub flat_trees : Trees → List Cell
+  flat_trees no_trees = []
+  flat_trees (tree_then t ts) = flat t ++ flat_trees ts
+
+  -- of pairs, each key and then its value
+  pub flat_pairs : Pairs → List Cell
+  flat_pairs no_pairs = []
+  flat_pairs (pair_then k v ps) = flat k ++ (flat v ++ flat_pairs ps)
+
+  -- of fields, each after its key
+  pub flat_fields : Fields → List Cell
+  flat_fields no_fields = []
+  flat_fields (field_then k t fs) = cell (key k) 1 ∷ (flat t ++ flat_fields fs)
+
+-- what an open head waits for
+pub data Wait : Type 0 where
+  child : Wait
+  item : ItemCall → Wait
+  a_key : Wait
+  a_value : Wait
+  entry_key : Wait
+  entry_value : Wait
+  field : Wait
+  in_row : ItemCall → Wait
+  in_map : Wait
+  in_record : Wait
+  deriving IsSet as Wait-set
+
+-- an open head: its place on the tape, where the last value of a map begins or 0, and what it waits for
+pub data Open : Type 0 where
+  opened : ℕ → ℕ → Wait → Open
+  deriving IsSet as Open-set
+
+-- the names of a head, which are static
+abbrev pub names_of : Head → Names
+names_of (calls.of_struct n) = of_struct (static_name n)
+names_of (calls.of_variant n i v) = of_variant (static_name n) i (static_name v)
+
+-- the node around one child
+abbrev pub wrap_node : Wrap → Node
+wrap_node token.in_some = present
+wrap_node (token.in_head h) = headed one (names_of h)
+
+-- the node of items by place
+abbrev pub row_node : Row → Node
+row_node token.row_seq = seq
+row_node token.row_tuple = tuple
+row_node (token.row_head h) = headed many (names_of h)
+
+-- the node of fields
+abbrev pub record_node : Head → Node
+record_node h = headed fields (names_of h)
+
+-- the node of an opened compound
+abbrev pub compound_node : Compound → Node
+compound_node (partial.in_row r ts) = row_node r
+compound_node (partial.in_map prs) = map
+compound_node (partial.in_record h fs) = record_node h
+
+-- what is finished in it
+abbrev pub compound_cells : Compound → List Cell
+compound_cells (partial.in_row r ts) = flat_trees ts
+compound_cells (partial.in_map prs) = flat_pairs prs
+compound_cells (partial.in_record h fs) = flat_fields fs
+
+-- that no slot waits in it
+abbrev pub compound_wait : Compound → Wait
+compound_wait (partial.in_row r ts) = in_row (item_call r)
+compound_wait (partial.in_map prs) = in_map
+compound_wait (partial.in_record h fs) = in_record
+
+-- the node of a slot's head
+abbrev pub slot_node : Slot → Node
+slot_node (partial.child w) = wrap_node w
+slot_node (partial.element r ts) = row_node r
+slot_node (partial.key prs) = map
+slot_node (partial.value prs) = map
+slot_node (partial.entry_key prs) = map
+slot_node (partial.entry_value prs k) = map
+slot_node (partial.field_value h fs k) = record_node h
+
+-- what is finished in it, and the key of the field that is due
+abbrev pub slot_cells : Slot → List Cell
+slot_cells (partial.child w) = []
+slot_cells (partial.element r ts) = flat_trees ts
+slot_cells (partial.key prs) = flat_pairs prs
+slot_cells (partial.value prs) = flat_pairs prs
+slot_cells (partial.entry_key prs) = flat_pairs prs
+slot_cells (partial.entry_value prs k) = flat_pairs prs ++ flat k
+slot_cells (partial.field_value h fs k) = flat_fields fs ++ cell (key (static_name k)) 1 ∷ []
+
+-- what it waits for
+abbrev pub slot_wait : Slot → Wait
+slot_wait (partial.child w) = child
+slot_wait (partial.element r ts) = item (item_call r)
+slot_wait (partial.key prs) = a_key
+slot_wait (partial.value prs) = a_value
+slot_wait (partial.entry_key prs) = entry_key
+slot_wait (partial.entry_value prs k) = entry_value
+slot_wait (partial.field_value h fs k) = field
+
+-- how many cells stand before the last value, beyond those before the pairs; 0 where there is none
+abbrev pub last_value : ℕ → Pairs → ℕ
+last_value before no_pairs = 0
+last_value before (pair_then k v no_pairs) = before + length (flat k)
+last_value before (pair_then k v (pair_then a b ps)) = last_value ((before + length (flat k)) + length (flat v)) (pair_then a b ps)
+
+-- where the last value of a compound begins
+abbrev pub compound_last : ℕ → Compound → ℕ
+compound_last before (partial.in_row r ts) = 0
+compound_last before (partial.in_map prs) = last_value before prs
+compound_last before (partial.in_record h fs) = 0
+
+-- where the last value of a slot's head begins
+abbrev pub slot_last : ℕ → Slot → ℕ
+slot_last before (partial.child w) = 0
+slot_last before (partial.element r ts) = 0
+slot_last before (partial.key prs) = last_value before prs
+slot_last before (partial.value prs) = last_value before prs
+slot_last before (partial.entry_key prs) = last_value before prs
+slot_last before (partial.entry_value prs k) = (before + length (flat_pairs prs)) + length (flat k)
+slot_last before (partial.field_value h fs k) = 0
+
+-- the tape of slots that wait, from the innermost to the outermost
+abbrev pub slots_cells : List Slot → List Cell
+slots_cells [] = []
+slots_cells (p ∷ ps) = slots_cells ps ++ (cell (slot_node p) 0 ∷ slot_cells p)
+
+-- their open heads, from the innermost to the outermost
+abbrev pub slots_opens : List Slot → List Open
+slots_opens [] = []
+slots_opens (p ∷ ps) = opened (length (slots_cells ps)) (slot_last (length (slots_cells ps) + 1) p) (slot_wait p) ∷ slots_opens ps
+
+-- the tape of a partial tree
+abbrev pub cells : Partial → List Cell
+cells (partial.due ps) = slots_cells ps
+cells (partial.between c ps) = slots_cells ps ++ (cell (compound_node c) 0 ∷ compound_cells c)
+cells (partial.done t) = flat t
+
+-- its open heads, from the innermost to the outermost
+abbrev pub opens : Partial → List Open
+opens (partial.due ps) = slots_opens ps
+opens (partial.between c ps) = opened (length (slots_cells ps)) (compound_last (length (slots_cells ps) + 1) c) (compound_wait c) ∷ slots_opens ps
+opens (partial.done t) = []
+
+-- the cells, with this size at an index
+abbrev pub with_size : List Cell → ℕ → ℕ → List Cell
+with_size [] i n = []
+with_size (cell node m ∷ cs) zero n = cell node n ∷ cs
+with_size (c ∷ cs) (suc i) n = c ∷ with_size cs i n
+
+-- the tape and its open heads stand for slots that wait, with a finished tree behind them
+abbrev pub Waiting : List Cell → List Open → List Slot → Tree → Type 0
+Waiting cs os ps t = (cs ≡ slots_cells ps ++ flat t) × (os ≡ slots_opens ps)
+
+-- the tape and its open heads stand for the partial tree
+abbrev pub Stood : List Cell → List Open → Partial → Type 0
+Stood cs os s = (cs ≡ cells s) × (os ≡ opens s)

@@ -1,0 +1,84 @@
+-- The cells and open heads that a tape in memory stands for.
+use Rattle.std.specs.Prelude.{ℕ, List, map, reverse, string_bytes}
+use Rattle.content_tree.specs.Values.Text.{owned_text, static_name}
+use Rattle.content_tree.specs.declared.number.Number.TheVariants as num
+use Rattle.content_ser.specs.Grammar.Token.{element, tuple_field}
+use Rattle.content_build.specs.Inner.Cells as cells
+use Rattle.content_build.specs.Inner.Cells.{Cell, cell, Open, opened, Wait}
+use Rattle.content_build.specs.declared.node.Leaf.{Leaf}
+use Rattle.content_build.specs.declared.node.Leaf.TheVariants as leaf
+use Rattle.content_build.specs.declared.node.Shape.{Shape}
+use Rattle.content_build.specs.declared.node.Shape.TheVariants as shape
+use Rattle.content_build.specs.declared.node.Node.{Node}
+use Rattle.content_build.specs.declared.node.Node.TheVariants as node
+use Rattle.content_build.specs.declared.node.Entry.{Entry}
+use Rattle.content_build.specs.declared.node.Waits.{Waits}
+use Rattle.content_build.specs.declared.node.Waits.TheVariants as waits
+use Rattle.content_build.specs.declared.node.OpenHead.{OpenHead}
+
+-- a leaf
+abbrev pub leaf_view : Leaf → cells.Leaf
+leaf_view leaf.Unit = cells.unit
+leaf_view leaf.Absent = cells.absent
+leaf_view (leaf.Bool b) = cells.boolean b
+leaf_view (leaf.Char c) = cells.character c
+leaf_view (leaf.I8 v) = cells.number (num.I8 v)
+leaf_view (leaf.U8 v) = cells.number (num.U8 v)
+leaf_view (leaf.I16 v) = cells.number (num.I16 v)
+leaf_view (leaf.U16 v) = cells.number (num.U16 v)
+leaf_view (leaf.I32 v) = cells.number (num.I32 v)
+leaf_view (leaf.U32 v) = cells.number (num.U32 v)
+leaf_view (leaf.I64 v) = cells.number (num.I64 v)
+leaf_view (leaf.U64 v) = cells.number (num.U64 v)
+leaf_view (leaf.Wide v) = cells.number v.value
+leaf_view (leaf.Text t) = cells.text (owned_text (string_bytes t))
+leaf_view (leaf.Bytes t) = cells.octets (owned_text t.items)
+
+-- what a struct or a variant holds
+abbrev pub shape_view : Shape → cells.Shape
+shape_view shape.Nothing = cells.nothing
+shape_view shape.One = cells.one
+shape_view shape.Many = cells.many
+shape_view shape.Fields = cells.fields
+
+-- a node, or a key
+abbrev pub node_view : Node → cells.Node
+node_view (node.Leaf l) = cells.leaf (leaf_view l)
+node_view node.Present = cells.present
+node_view node.Seq = cells.seq
+node_view node.Tuple = cells.tuple
+node_view node.Map = cells.map
+node_view (node.Struct s n) = cells.headed (shape_view s) (cells.of_struct (static_name n.now))
+node_view (node.Variant s i n v) = cells.headed (shape_view s) (cells.of_variant (static_name n.now) i (static_name v.now))
+node_view (node.Key k) = cells.key (static_name k.now)
+
+-- an entry
+abbrev pub entry_view : Entry → Cell
+entry_view e = cell (node_view e.node) e.size
+
+-- what an open head waits for
+abbrev pub wait_view : Waits → Wait
+wait_view waits.Child = cells.child
+wait_view waits.Element = cells.item element
+wait_view waits.TupleField = cells.item tuple_field
+wait_view waits.Key = cells.a_key
+wait_view waits.Value = cells.a_value
+wait_view waits.EntryKey = cells.entry_key
+wait_view waits.EntryValue = cells.entry_value
+wait_view waits.Field = cells.field
+wait_view waits.InElements = cells.in_row element
+wait_view waits.InTupleFields = cells.in_row tuple_field
+wait_view waits.InMap = cells.in_map
+wait_view waits.InRecord = cells.in_record
+
+-- an open head
+abbrev pub open_view : OpenHead → Open
+open_view h = opened h.at h.last (wait_view h.waits)
+
+-- the cells of entries
+abbrev pub row : List Entry → List Cell
+row es = map entry_view es
+
+-- open heads, from the innermost to the outermost: the last first
+abbrev pub opens_view : List OpenHead → List Open
+opens_view hs = map open_view (reverse hs)

@@ -1,0 +1,78 @@
+-- What a tape in memory stands for, and when it does.
+use Rattle.std.specs.Prelude.{◌≡◌, ℕ, List, ◌∷◌, Bool, true, false, Option, Some, None}
+use Rattle.std.specs.Coded.{Coded-set, code_by, coded_bool, ×_prop, Unit-prop}
+use Rattle.std.proofs.Math.Nat.{ℕ_set}
+use Rattle.std.proofs.Math.Bool.{Bool-set}
+use Rattle.std.proofs.Common.{ap, refl}
+use mathlib.Core.List.{is_set}
+use Rattle.content_tree.specs.Values.Text.{Text}
+use Rattle.content_tree.specs.Values.Tree.{Tree}
+use Rattle.content_tree.specs.contracts.number.Number as number_row
+use Rattle.content_ser.specs.Grammar.Token.{ItemCall, element, tuple_field}
+use Rattle.content_build.specs.Partial.{Partial, Slot}
+use Rattle.content_build.specs.Inner.Cells as cells
+use Rattle.content_build.specs.Inner.Cells.{Cell, Open, Stood, Waiting}
+use Rattle.content_build.specs.Inner.Decoding.{decode}
+use Rattle.content_build.specs.Inner.Entries.{row, opens_view}
+use Rattle.content_build.specs.declared.node.Entry.{Entry}
+use Rattle.content_build.specs.declared.node.OpenHead.{OpenHead}
+
+-- the partial tree as which they are read
+abbrev pub meaning : List Entry → List OpenHead → Partial
+meaning es hs = decode (row es) (opens_view hs)
+
+-- they stand for the partial tree
+abbrev pub Stands : List Entry → List OpenHead → Partial → Type 0
+Stands es hs s = Stood (row es) (opens_view hs) s
+
+-- they stand for slots that wait, with a finished tree behind them
+abbrev pub IsWaiting : List Entry → List OpenHead → List Slot → Tree → Type 0
+IsWaiting es hs ps t = Waiting (row es) (opens_view hs) ps t
+
+-- they stand for what they are read as
+abbrev pub IsSound : List Entry → List OpenHead → Type 0
+IsSound es hs = Stands es hs (meaning es hs)
+
+-- a call was refused, or they stand for what they are read as
+abbrev pub IsKept : Bool → List Entry → List OpenHead → Type 0
+IsKept true es hs = Unit {0}
+IsKept false es hs = IsSound es hs
+
+-- the partial tree, or nothing after a refusal
+abbrev pub viewed : Bool → List Entry → List OpenHead → Option Partial
+viewed true es hs = None
+viewed false es hs = Some (meaning es hs)
+
+pub Text-set : IsSet Text
+Text-set a b p q = λ i j. record {
+  content = is_set ℕ_set a.content b.content (ap (λ (v : Text). v.content) p) (ap (λ (v : Text). v.content) q) i j;
+  borrowed = Bool-set a.borrowed b.borrowed (ap (λ (v : Text). v.borrowed) p) (ap (λ (v : Text). v.borrowed) q) i j;
+}
+
+pub cells_set : IsSet (List Cell)
+cells_set = is_set (cells.Cell-set (cells.Node-set (cells.Leaf-set Bool-set (Coded-set number_row.the_row.coded) ℕ_set Text-set) cells.Shape-set (cells.Names-set Text-set ℕ_set) Text-set) ℕ_set)
+
+-- whether it is the call of elements
+abbrev is_element : ItemCall → Bool
+is_element element = true
+is_element tuple_field = false
+
+-- the call of which that is so
+abbrev item_of : Bool → ItemCall
+item_of true = element
+item_of false = tuple_field
+
+item_of-is_element : (m : ItemCall) → item_of (is_element m) ≡ m
+item_of-is_element element = refl
+item_of-is_element tuple_field = refl
+
+pub ItemCall-set : IsSet ItemCall
+ItemCall-set = Coded-set (code_by Bool coded_bool is_element item_of item_of-is_element)
+
+pub opens_set : IsSet (List Open)
+opens_set = is_set (cells.Open-set ℕ_set (cells.Wait-set ItemCall-set))
+
+-- the fact has one proof at most
+pub IsKept-prop : (failed : Bool) (es : List Entry) (hs : List OpenHead) → IsProp (IsKept failed es hs)
+IsKept-prop true es hs = Unit-prop
+IsKept-prop false es hs = ×_prop (cells_set _ _) (opens_set _ _)

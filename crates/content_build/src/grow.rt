@@ -1,0 +1,299 @@
+//! From the tape to the value.
+#![tactic(auto, using(crate::proofs::Pushes::pushes))]
+
+ghost use Rattle.std.specs.Prelude.{◌≡◌, ◌-◌, ◌∷◌, [], IfOk, MatchOption};
+ghost use Rattle.content_tree.specs.Values.Text.{static_name};
+ghost use Rattle.content_tree.specs.Values.Tree.{Tree};
+ghost use Rattle.content_tree.specs.Values.Value.{tree_of, tree_data_of, trees_view, pairs_view};
+ghost use Rattle.content_tree.specs.Values.Value.{fields_view};
+ghost use Rattle.content_ser.specs.Calls.Head.{head_of};
+ghost use Rattle.content_build.specs.Inner.Cells as cells;
+ghost use Rattle.content_build.specs.Inner.Cells.{cell, flat, names_of};
+ghost use Rattle.content_build.specs.Inner.Entries.{row, entry_view, shape_view};
+ghost use Rattle.content_build.specs.Inner.Forest as forest;
+ghost use Rattle.content_build.specs.Inner.Forest.{data_near, fields_near, no_key, pairs_near, past};
+ghost use Rattle.content_build.specs.Inner.Forest.{past_data, past_fields, plant, plant_key, trees_near};
+ghost use Rattle.content_build.specs.Inner.Values.{grown_trees};
+
+use crate::node::{Entry, Node, Shape, leaf_value};
+use crate::parts::under;
+use content_ser::Head;
+use content_tree::{CowStr, Data, NamedData, NamedValue, Value};
+use std::alloc::{AllocError, Global};
+
+/// A value with its key, which is empty where it is no field, and the number of its entries.
+#[derive(Drop)]
+pub(crate) struct Grown<'v> {
+    value: Value<'v>,
+    key: &'static str,
+    size: usize,
+}
+
+/// How many of the last values have this many entries together, each with this many for its key.
+#[inline(always)]
+fn count<'v>(grown: &Vec<Grown<'v>>, size: usize, keys: usize) -> usize {
+    let mut left = size;
+    let mut at = grown.len();
+    while left > 0 && at > 0 {
+        at -= 1;
+        left = left.saturating_sub(grown[at].size).saturating_sub(keys);
+    }
+    grown.len() - at
+}
+
+/// The last values, the last first, that have this many entries.
+fn take_items<'v>(
+    alloc: Global,
+    grown: &mut Vec<Grown<'v>>,
+    size: usize,
+) -> Result<Vec<Value<'v>>, AllocError>
+    ensures { IfOk result (λ items.
+        (trees_view items.items ≡ trees_near size (grown_trees grown.old.items))
+        × (grown_trees grown.new.items ≡ past size (grown_trees grown.old.items))) }
+{
+    let mut left = size;
+    let mut items = Vec::with_capacity(alloc, count(grown, size, 0))?;
+    while left > 0 {
+        match grown.pop() {
+            None => return Ok(items),
+            Some(Grown { value, size, .. }) => {
+                left = left.saturating_sub(size);
+                items.push(value)?;
+            }
+        }
+    }
+    Ok(items)
+}
+
+/// The last values, the last first, that have this many entries with their keys.
+fn take_fields<'v>(
+    alloc: Global,
+    grown: &mut Vec<Grown<'v>>,
+    size: usize,
+) -> Result<Vec<(CowStr<'static>, Value<'v>)>, AllocError>
+    ensures { IfOk result (λ fields.
+        (fields_view fields.items ≡ fields_near size (grown_trees grown.old.items))
+        × (grown_trees grown.new.items ≡ past_fields size (grown_trees grown.old.items))) }
+{
+    let mut left = size;
+    let mut fields = Vec::with_capacity(alloc, count(grown, size, 1))?;
+    while left > 0 {
+        match grown.pop() {
+            None => return Ok(fields),
+            Some(Grown { value, key, size }) => {
+                left = left.saturating_sub(size).saturating_sub(1);
+                fields.push((CowStr::Borrowed(key), value))?;
+            }
+        }
+    }
+    Ok(fields)
+}
+
+/// The last values, the last first, in pairs that have this many entries.
+fn take_pairs<'v>(
+    alloc: Global,
+    grown: &mut Vec<Grown<'v>>,
+    size: usize,
+) -> Result<Vec<(Value<'v>, Value<'v>)>, AllocError>
+    ensures { IfOk result (λ pairs.
+        (pairs_view pairs.items ≡ pairs_near size (grown_trees grown.old.items))
+        × (grown_trees grown.new.items ≡ past size (grown_trees grown.old.items))) }
+{
+    let mut left = size;
+    let mut pairs = Vec::with_capacity(alloc, count(grown, size, 0) / 2)?;
+    while left > 0 {
+        match grown.pop() {
+            None => return Ok(pairs),
+            Some(
+                Grown {
+                    value: key,
+                    size,
+                    ..
+                },
+            ) => {
+                left = left.saturating_sub(size);
+                if left == 0 {
+                    return Ok(pairs);
+                }
+                match grown.pop() {
+                    None => return Ok(pairs),
+                    Some(Grown { value, size, .. }) => {
+                        left = left.saturating_sub(size);
+                        pairs.push((key, value))?;
+                    }
+                }
+            }
+        }
+    }
+    Ok(pairs)
+}
+
+/// One value more, with no key.
+#[inline(always)]
+fn add<'v>(grown: &mut Vec<Grown<'v>>, value: Value<'v>, size: usize) -> Result<(), AllocError>
+    ensures { IfOk result (λ _. grown_trees grown.new.items
+        ≡ forest.grown no_key (tree_of value.entry) size ∷ grown_trees grown.old.items) }
+{
+    grown.push(Grown {
+        value,
+        key: "",
+        size,
+    })?;
+    Ok(())
+}
+
+/// What a struct or a variant of this shape holds, in this many entries.
+#[inline(always)]
+fn held<'v>(
+    alloc: Global,
+    grown: &mut Vec<Grown<'v>>,
+    shape: Shape,
+    size: usize,
+) -> Result<Data<'v>, AllocError>
+    ensures { IfOk result (λ held.
+        (tree_data_of held ≡ data_near (shape_view shape) size (grown_trees grown.old.items))
+        × (grown_trees grown.new.items
+        ≡ past_data (shape_view shape) size (grown_trees grown.old.items))) }
+{
+    match shape {
+        Shape::Nothing => Ok(NamedData::Unit),
+        Shape::One => match grown.pop() {
+            None => Ok(NamedData::Unit),
+            Some(Grown { value, .. }) => Ok(NamedData::NewType { value }),
+        },
+        Shape::Many => {
+            let values = take_items(alloc, grown, size)?;
+            Ok(NamedData::Tuple { values })
+        }
+        Shape::Fields => {
+            let fields = take_fields(alloc, grown, size)?;
+            Ok(NamedData::Struct { fields })
+        }
+    }
+}
+
+/// The last value becomes present.
+#[inline(never)]
+fn grow_present<'v>(
+    alloc: Global,
+    grown: &mut Vec<Grown<'v>>,
+    size: usize,
+) -> Result<(), AllocError>
+    ensures { IfOk result (λ _. grown_trees grown.new.items
+        ≡ plant (cell cells.present size) (grown_trees grown.old.items)) }
+{
+    match grown.pop() {
+        None => Ok(()),
+        Some(Grown { value, .. }) => {
+            let child = Box::new(alloc, value)?;
+            add(grown, NamedValue::Option(Some(child)), size)
+        }
+    }
+}
+
+/// A sequence of the last values.
+#[inline(never)]
+fn grow_seq<'v>(alloc: Global, grown: &mut Vec<Grown<'v>>, size: usize) -> Result<(), AllocError>
+    ensures { IfOk result (λ _. grown_trees grown.new.items
+        ≡ plant (cell cells.seq size) (grown_trees grown.old.items)) }
+{
+    let items = take_items(alloc, grown, size.saturating_sub(1))?;
+    add(grown, NamedValue::Seq(items), size)
+}
+
+/// A tuple of the last values.
+#[inline(never)]
+fn grow_tuple<'v>(alloc: Global, grown: &mut Vec<Grown<'v>>, size: usize) -> Result<(), AllocError>
+    ensures { IfOk result (λ _. grown_trees grown.new.items
+        ≡ plant (cell cells.tuple size) (grown_trees grown.old.items)) }
+{
+    let items = take_items(alloc, grown, size.saturating_sub(1))?;
+    add(grown, NamedValue::Tuple(items), size)
+}
+
+/// A map of the last values.
+#[inline(never)]
+fn grow_map<'v>(alloc: Global, grown: &mut Vec<Grown<'v>>, size: usize) -> Result<(), AllocError>
+    ensures { IfOk result (λ _. grown_trees grown.new.items
+        ≡ plant (cell cells.map size) (grown_trees grown.old.items)) }
+{
+    let pairs = take_pairs(alloc, grown, size.saturating_sub(1))?;
+    add(grown, NamedValue::Map(pairs), size)
+}
+
+/// A struct or a variant that holds the last values.
+#[inline(never)]
+fn grow_headed<'v>(
+    alloc: Global,
+    grown: &mut Vec<Grown<'v>>,
+    shape: Shape,
+    head: Head,
+    size: usize,
+) -> Result<(), AllocError>
+    ensures { IfOk result (λ _. grown_trees grown.new.items
+        ≡ plant (cell (cells.headed (shape_view shape) (names_of (head_of head))) size)
+        (grown_trees grown.old.items)) }
+{
+    let data = held(alloc, grown, shape, size.saturating_sub(1))?;
+    let value = under(alloc, head, data)?;
+    add(grown, value, size)
+}
+
+/// The last value gets this key.
+#[inline(always)]
+fn give_key<'v>(grown: &mut Vec<Grown<'v>>, key: &'static str)
+    ensures { grown_trees grown.new.items
+        ≡ plant_key (static_name key.now) (grown_trees grown.old.items) }
+{
+    let count = grown.len();
+    if count > 0 {
+        let last = &mut grown[count - 1];
+        last.key = key;
+    }
+}
+
+/// One entry more, whose children are the last values.
+#[inline(always)]
+fn grow_one<'v>(alloc: Global, grown: &mut Vec<Grown<'v>>, next: Entry) -> Result<(), AllocError>
+    ensures { IfOk result (λ _. grown_trees grown.new.items
+        ≡ plant (entry_view next) (grown_trees grown.old.items)) }
+{
+    let Entry { node, size } = next;
+    match node {
+        Node::Leaf(leaf) => add(grown, leaf_value(leaf), size),
+        Node::Present => grow_present(alloc, grown, size),
+        Node::Seq => grow_seq(alloc, grown, size),
+        Node::Tuple => grow_tuple(alloc, grown, size),
+        Node::Map => grow_map(alloc, grown, size),
+        Node::Struct(shape, name) => { grow_headed(alloc, grown, shape, Head::Struct(name), size) }
+        Node::Variant(shape, index, name, variant) => {
+            grow_headed(
+                alloc,
+                grown,
+                shape,
+                Head::Variant(name, index, variant),
+                size,
+            )
+        }
+        Node::Key(key) => {
+            give_key(grown, key);
+            Ok(())
+        }
+    }
+}
+
+/// The value of a whole tape.
+pub(crate) fn grow<'v>(alloc: Global, entries: Vec<Entry>) -> Result<Option<Value<'v>>, AllocError>
+    ensures { (t : Tree) → row entries.items ≡ flat t
+        → IfOk result (λ value. MatchOption value ⊥ (λ v. tree_of v ≡ t)) }
+{
+    let mut entries = entries;
+    let mut grown = Vec::new(alloc);
+    while let Some(next) = entries.pop() {
+        grow_one(alloc, &mut grown, next)?;
+    }
+    match grown.pop() {
+        None => Ok(None),
+        Some(Grown { value, .. }) => Ok(Some(value)),
+    }
+}
