@@ -1,5 +1,5 @@
 -- What a finished tree at the end of the tape does to it.
-use Rattle.std.proofs.Common.{◌≡◌, ◌≢◌, ℕ, zero, suc, ◌+◌, ◌-◌, ◌<◌, ◌≤◌, List, [], ◌∷◌, ◌++◌}
+use Rattle.std.proofs.Common.{◌≡◌, ℕ, suc, ◌+◌, ◌-◌, ◌<◌, ◌≤◌, List, [], ◌∷◌, ◌++◌}
 use Rattle.std.proofs.Common.{length, take, drop, get_or, refl, sym, ap, subst, ◌∙◌, arith}
 use Rattle.std.proofs.Common.{append_assoc, append-nil, length-append}
 use Rattle.std.proofs.Math.Seq.{take-append_seam, take-append-add, drop-append_seam}
@@ -16,13 +16,14 @@ use Rattle.content_ser.specs.Grammar.Token.{item_call}
 use Rattle.content_build.specs.Partial as partial
 use Rattle.content_build.specs.Partial.{Partial, Slot, Compound, fill, push_tree, push_pair}
 use Rattle.content_build.specs.Partial.{push_field, set_last, closed}
-use Rattle.content_build.specs.Inner.Cells.{Node, leaf, unit, map, key, Cell, cell, cell_size, under}
+use Rattle.content_build.specs.Inner.Cells.{Node, leaf, unit, map, key, Cell, cell, cell_size}
+use Rattle.content_build.specs.Inner.Cells.{under}
 use Rattle.content_build.specs.Inner.Cells.{flat, flat_trees, flat_pairs, flat_fields, Wait, child}
 use Rattle.content_build.specs.Inner.Cells.{item, a_key, a_value, entry_key, entry_value, field}
 use Rattle.content_build.specs.Inner.Cells.{in_row, in_map, in_record, Open, opened, wrap_node}
 use Rattle.content_build.specs.Inner.Cells.{row_node, record_node, compound_node, compound_cells}
-use Rattle.content_build.specs.Inner.Cells.{compound_wait, slot_node, slot_cells, slot_wait}
-use Rattle.content_build.specs.Inner.Cells.{last_value, slots_cells, slots_opens, cells, opens}
+use Rattle.content_build.specs.Inner.Cells.{slot_node, slot_cells, slot_wait}
+use Rattle.content_build.specs.Inner.Cells.{last_value, slots_cells}
 use Rattle.content_build.specs.Inner.Cells.{with_size, Waiting, Stood}
 use Rattle.content_build.specs.Inner.Steps.{IsIdle}
 use Rattle.content_build.proofs.Forward.{set_last-push}

@@ -1,12 +1,12 @@
 -- What each call does to a tape.
-use Rattle.std.proofs.Common.{◌≡◌, ℕ, zero, suc, ◌+◌, List, [], ◌∷◌, ◌++◌, Option, Some, None, Ok, Err}
+use Rattle.std.proofs.Common.{◌≡◌, ℕ, suc, List, [], ◌∷◌, ◌++◌, Option, Some, None, Ok}
 use Rattle.std.proofs.Common.{length, take, refl, sym, ap, subst, ◌∙◌, arith, get_or, append_assoc}
 use Rattle.std.proofs.Common.{Bool, true, false, IfSome}
 use Rattle.std.proofs.Math.ListN.{set}
 use Rattle.std.proofs.lemmas.List.{length-map, length-reverse}
 use Rattle.content_tree.specs.Values.Text.{static_name}
-use Rattle.content_tree.specs.Values.Tree as tree
-use Rattle.content_tree.specs.Values.Tree.{Tree, Trees, no_trees, Pairs, no_pairs, Fields, no_fields}
+use Rattle.content_tree.specs.Values.Tree.{Tree, Trees, no_trees, Pairs, no_pairs, Fields}
+use Rattle.content_tree.specs.Values.Tree.{no_fields}
 use Rattle.content_ser.specs.Calls.Head.{Head}
 use Rattle.content_ser.specs.Grammar.Token as token
 use Rattle.content_ser.specs.Grammar.Token.{Token, Wrap, Row, ItemCall, item_call}
@@ -18,14 +18,14 @@ use Rattle.content_build.specs.Inner.Cells.{Node, Cell, cell, Wait, Open, opened
 use Rattle.content_build.specs.Inner.Cells.{flat_pairs, flat_fields, slots_cells, slots_opens}
 use Rattle.content_build.specs.Inner.Cells.{slot_wait, wrap_node, row_node, record_node, Stood}
 use Rattle.content_build.specs.Inner.Cells.{last_value}
-use Rattle.content_build.specs.Inner.Entries.{entry_view, node_view, wait_view, open_view, row}
+use Rattle.content_build.specs.Inner.Entries.{entry_view, node_view, wait_view, row}
 use Rattle.content_build.specs.Inner.Entries.{opens_view}
 use Rattle.content_build.specs.Inner.Sound.{meaning, IsSound, Stands, IsWaiting, IsKept, viewed}
 use Rattle.content_build.specs.Inner.Taken.{TakenTo, AnswersStep, AnswersToken}
 use Rattle.content_build.specs.Inner.Steps.{IsDue, IsIdle, Opens}
 use Rattle.content_build.specs.declared.node.Entry.{Entry}
 use Rattle.content_build.specs.declared.node.OpenHead.{OpenHead}
-use Rattle.content_build.proofs.Algebra.{arm-close, slot_waits}
+use Rattle.content_build.proofs.Algebra.{slot_waits}
 use Rattle.content_build.proofs.Decoded.{decoded-from}
 use Rattle.content_build.proofs.Memory.{row-push, opens-push, opens-set, opens-last, length-row}
 

@@ -1,6 +1,6 @@
 -- The tape of a partial tree is read as it.
-use Rattle.std.proofs.Common.{◌≡◌, ℕ, zero, suc, ◌+◌, List, [], ◌∷◌, ◌++◌, take, drop, get_or, length}
-use Rattle.std.proofs.Common.{refl, sym, ap, subst, ◌∙◌, arith, append_assoc, append-nil}
+use Rattle.std.proofs.Common.{◌≡◌, ℕ, ◌+◌, List, [], ◌∷◌, ◌++◌, take, drop, get_or, length}
+use Rattle.std.proofs.Common.{refl, sym, ap, ◌∙◌, append-nil}
 use Rattle.std.proofs.Math.Seq.{take-append_seam, drop-append-add, get_or-append_seam}
 use Rattle.content_tree.specs.Values.Text.{Text, static_name}
 use Rattle.content_tree.specs.Values.Tree.{Tree, Trees, no_trees, tree_then, Pairs, no_pairs}
@@ -11,17 +11,18 @@ use Rattle.content_ser.specs.Grammar.Token as token
 use Rattle.content_ser.specs.Grammar.Token.{Wrap, Row}
 use Rattle.content_build.specs.Partial as partial
 use Rattle.content_build.specs.Partial.{Partial, Slot, Compound}
-use Rattle.content_build.specs.Inner.Cells.{Node, key, Cell, cell, Wait, Open, opened, flat, flat_trees}
+use Rattle.content_build.specs.Inner.Cells.{key, Cell, cell, Wait, Open, opened, flat, flat_trees}
 use Rattle.content_build.specs.Inner.Cells.{flat_pairs, flat_fields, names_of, wrap_node, row_node}
-use Rattle.content_build.specs.Inner.Cells.{record_node, slot_node, slot_cells, slot_wait, slot_last}
-use Rattle.content_build.specs.Inner.Cells.{compound_node, compound_cells, compound_wait, compound_last}
+use Rattle.content_build.specs.Inner.Cells.{slot_node, slot_cells, slot_wait, slot_last}
+use Rattle.content_build.specs.Inner.Cells.{compound_node, compound_cells, compound_wait}
+use Rattle.content_build.specs.Inner.Cells.{compound_last}
 use Rattle.content_build.specs.Inner.Cells.{slots_cells, slots_opens, cells, opens, Stood}
 use Rattle.content_build.specs.Inner.Forest.{Grown, grown, no_key, read}
 use Rattle.content_build.specs.Inner.Decoding.{all_trees, all_fields, all_pairs, odd_one, last_key}
-use Rattle.content_build.specs.Inner.Decoding.{head_from, head_at, wrap_at, row_at, slot_of, nowhere}
+use Rattle.content_build.specs.Inner.Decoding.{head_from, wrap_at, row_at, slot_of, nowhere}
 use Rattle.content_build.specs.Inner.Decoding.{slots_of, standing, outermost, decode}
 use Rattle.content_build.proofs.Reading.{of_trees, of_pairs, of_fields, read-trees, read-pairs}
-use Rattle.content_build.proofs.Reading.{read-fields, read-flat, read-whole}
+use Rattle.content_build.proofs.Reading.{read-fields, read-whole}
 
 all_of_trees : (ts : Trees) → all_trees (of_trees ts []) ≡ ts
 all_of_trees no_trees = refl

@@ -1,23 +1,23 @@
 -- One tree more from the values grown.
-use Rattle.std.proofs.Common.{◌≡◌, ℕ, zero, suc, ◌-◌, ◌<◌, nat_eq, List, [], ◌∷◌, ◌++◌, refl, sym, ap, ◌∙◌, subst}
-use Rattle.std.proofs.Common.{map, if◌then◌else◌, take, get_or, length, vec_len, arith}
+use Rattle.std.proofs.Common.{◌≡◌, ℕ, suc, ◌-◌, ◌<◌, nat_eq, List, [], ◌∷◌, ◌++◌, refl, sym, ap}
+use Rattle.std.proofs.Common.{◌∙◌, subst}
+use Rattle.std.proofs.Common.{map, if◌then◌else◌, take, get_or, length}
 use Rattle.std.proofs.Math.ListN.{set}
 use Rattle.std.proofs.lemmas.List.{reverse-append}
 use Rattle.content_tree.specs.Values.Text.{Text, static_name, text_of}
-use Rattle.content_tree.specs.Values.Tree as tree
-use Rattle.content_tree.specs.Values.Tree.{Tree, Trees, no_trees, tree_then, Pairs, no_pairs}
-use Rattle.content_tree.specs.Values.Tree.{pair_then, Fields, no_fields, field_then}
+use Rattle.content_tree.specs.Values.Tree.{Tree, no_trees, tree_then, Pairs, no_pairs}
+use Rattle.content_tree.specs.Values.Tree.{pair_then, no_fields, field_then}
 use Rattle.content_tree.specs.Values.Value.{tree_of, trees_view, pairs_view, fields_view}
 use Rattle.content_tree.specs.declared.cow.CowStr.{CowStr}
 use Rattle.content_tree.specs.declared.value.NamedValue.{NamedValue}
-use Rattle.content_build.specs.Inner.Cells.{Cell, cell}
+use Rattle.content_build.specs.Inner.Cells.{Cell}
 use Rattle.content_build.specs.Inner.Forest as forest
 use Rattle.content_build.specs.Inner.Forest.{trees_near, fields_near, pairs_near, past, past_fields}
 use Rattle.content_build.specs.Inner.Forest.{plant, plant_key, read}
 use Rattle.content_build.specs.Inner.Values.{grown_view, grown_trees}
 use Rattle.content_build.specs.declared.grow.Grown.{Grown}
-use Rattle.content_build.proofs.Forward.{append_trees, append_trees-nil, append_trees-push, append_fields}
-use Rattle.content_build.proofs.Forward.{append_fields-nil, append_fields-push, append_pairs}
+use Rattle.content_build.proofs.Forward.{append_trees, append_trees-push, append_fields}
+use Rattle.content_build.proofs.Forward.{append_fields-push, append_pairs}
 use Rattle.content_build.proofs.Forward.{append_pairs-push}
 use Rattle.content_build.proofs.Memory.{by_last, set_at_last, nothing}
 use Rattle.content_build.proofs.Pushes.{trees_view-push, pairs_view-push, fields_view-push}

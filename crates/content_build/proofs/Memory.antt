@@ -1,18 +1,17 @@
 -- From the vectors in memory to the tape.
-use Rattle.std.proofs.Common.{◌≡◌, ℕ, zero, suc, ◌+◌, ◌-◌, ◌<◌, ◌≤◌, List, [], ◌∷◌, ◌++◌, length}
-use Rattle.std.proofs.Common.{take, drop, get_or, map, reverse, refl, sym, ap, subst, ◌∙◌, arith}
+use Rattle.std.proofs.Common.{◌≡◌, ℕ, zero, suc, ◌+◌, ◌<◌, ◌≤◌, List, [], ◌∷◌, ◌++◌, length}
+use Rattle.std.proofs.Common.{take, drop, get_or, map, refl, sym, ap, subst, ◌∙◌, arith}
 use Rattle.std.proofs.Math.ListN.{set}
 use Rattle.std.proofs.lemmas.List.{reverse-append}
 use Rattle.content_tree.specs.Values.Tree.{Tree}
 use Rattle.content_build.specs.Partial.{Partial, Slot, fill}
-use Rattle.content_build.specs.Inner.Cells.{Cell, cell, Wait, Open, opened, with_size, Waiting, Stood}
+use Rattle.content_build.specs.Inner.Cells.{cell, Wait, Open, opened, with_size, Waiting, Stood}
 use Rattle.content_build.specs.Inner.Cells.{cell_size, a_value, in_map}
 use Rattle.content_build.specs.Inner.Entries.{entry_view, wait_view, open_view, row, opens_view}
 use Rattle.content_build.specs.Inner.Entries.{node_view}
 use Rattle.content_build.specs.Inner.Sound.{Stands, IsWaiting}
 use Rattle.content_build.specs.declared.node.Entry.{Entry}
 use Rattle.content_build.specs.declared.node.OpenHead.{OpenHead}
-use Rattle.content_build.specs.declared.node.Waits.{Waits}
 use Rattle.content_build.proofs.Algebra.{arm-value_some, arm-value_none, arm-done, Replaced}
 
 pub length-row : (es : List Entry) → length (row es) ≡ length es

@@ -1,19 +1,20 @@
 -- The tape of a tree is read as that tree.
-use Rattle.std.proofs.Common.{◌≡◌, ◌≢◌, ℕ, zero, suc, ◌+◌, ◌-◌, ◌<◌, ◌≤◌, nat_eq, Bool, true, false}
-use Rattle.std.proofs.Common.{List, [], ◌∷◌, ◌++◌, length, refl, sym, ap, subst, ◌∙◌, arith}
+use Rattle.std.proofs.Common.{◌≡◌, ◌≢◌, ℕ, suc, ◌+◌, ◌-◌, ◌<◌, nat_eq, true, false}
+use Rattle.std.proofs.Common.{List, [], ◌∷◌, ◌++◌, length, refl, sym, ap, ◌∙◌, arith}
 use Rattle.std.proofs.Common.{append_assoc, append-nil, length-append, ⊎_elim, if◌then◌else◌}
 use Rattle.std.proofs.lemmas.Bool.Decides.{eqb_tells}
-use Rattle.content_tree.specs.Values.Text.{Text}
 use Rattle.content_tree.specs.Values.Tree as tree
 use Rattle.content_tree.specs.Values.Tree.{Tree, TreeData, Trees, no_trees, tree_then, Pairs}
 use Rattle.content_tree.specs.Values.Tree.{no_pairs, pair_then, Fields, no_fields, field_then}
 use Rattle.content_build.specs.Inner.Cells as cells
-use Rattle.content_build.specs.Inner.Cells.{Names, of_struct, of_variant, Node, key, Cell, cell, under}
+use Rattle.content_build.specs.Inner.Cells.{Names, of_struct, of_variant, Node, key, Cell, cell}
+use Rattle.content_build.specs.Inner.Cells.{under}
 use Rattle.content_build.specs.Inner.Cells.{flat, flat_data, flat_trees, flat_pairs, flat_fields}
 use Rattle.content_build.specs.Inner.Cells.{headed, shape_of}
-use Rattle.content_build.specs.Inner.Forest.{Grown, grown, no_key, named_tree, trees_near, fields_near}
+use Rattle.content_build.specs.Inner.Forest.{Grown, grown, no_key, named_tree, trees_near}
+use Rattle.content_build.specs.Inner.Forest.{fields_near}
 use Rattle.content_build.specs.Inner.Forest.{pairs_near, past, past_fields, data_near, past_data}
-use Rattle.content_build.specs.Inner.Forest.{plant_present, plant_key, plant, read}
+use Rattle.content_build.specs.Inner.Forest.{plant_present, plant_key, read}
 use Rattle.content_build.proofs.Algebra.{flat-size}
 
 abbrev pub of_trees : Trees → List Grown → List Grown

@@ -11,8 +11,10 @@ ghost use Rattle.content_build.specs.Inner.Cells as cells;
 ghost use Rattle.content_build.specs.Inner.Cells.{cell, flat, names_of};
 ghost use Rattle.content_build.specs.Inner.Entries.{row, entry_view, shape_view};
 ghost use Rattle.content_build.specs.Inner.Forest as forest;
-ghost use Rattle.content_build.specs.Inner.Forest.{data_near, fields_near, no_key, pairs_near, past};
-ghost use Rattle.content_build.specs.Inner.Forest.{past_data, past_fields, plant, plant_key, trees_near};
+ghost use Rattle.content_build.specs.Inner.Forest.{data_near, fields_near, no_key, pairs_near};
+ghost use Rattle.content_build.specs.Inner.Forest.{past};
+ghost use Rattle.content_build.specs.Inner.Forest.{past_data, past_fields, plant, plant_key};
+ghost use Rattle.content_build.specs.Inner.Forest.{trees_near};
 ghost use Rattle.content_build.specs.Inner.Values.{grown_trees};
 
 use crate::node::{Entry, Node, Shape, leaf_value};

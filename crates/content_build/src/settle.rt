@@ -1,6 +1,7 @@
 //! What a finished tree does at the end of the tape.
 
-ghost use Rattle.std.specs.Prelude.{◌≡◌, ◌<◌, ◌≤◌, ◌-◌, ◌++◌, ◌∷◌, List, length, take, drop, vec_len, Some};
+ghost use Rattle.std.specs.Prelude.{◌≡◌, ◌<◌, ◌≤◌, ◌-◌, ◌++◌, ◌∷◌, List, length, take, drop};
+ghost use Rattle.std.specs.Prelude.{vec_len, Some};
 ghost use Rattle.content_tree.specs.Values.Tree.{Tree};
 ghost use Rattle.content_build.specs.Partial.{Slot, fill};
 ghost use Rattle.content_build.specs.Inner.Cells as cells;

@@ -10,8 +10,8 @@ use Rattle.content_ser.specs.Grammar.Token as token
 use Rattle.content_ser.specs.Grammar.Token.{Wrap, Row}
 use Rattle.content_build.specs.Partial as partial
 use Rattle.content_build.specs.Partial.{Partial, Slot}
-use Rattle.content_build.specs.Inner.Cells.{Names, of_struct, of_variant, Cell, cell, Node, leaf}
-use Rattle.content_build.specs.Inner.Cells.{present, seq, tuple, headed, key, unit, Wait, child, item}
+use Rattle.content_build.specs.Inner.Cells.{Names, of_struct, of_variant, Cell, cell, leaf}
+use Rattle.content_build.specs.Inner.Cells.{tuple, headed, key, unit, Wait, child, item}
 use Rattle.content_build.specs.Inner.Cells.{a_key, a_value, entry_key, entry_value, field, in_row}
 use Rattle.content_build.specs.Inner.Cells.{in_map, in_record, Open, opened}
 use Rattle.content_build.specs.Inner.Forest.{Grown, grown, read}

@@ -1,5 +1,5 @@
 -- The cells and open heads that a tape in memory stands for.
-use Rattle.std.specs.Prelude.{ℕ, List, map, reverse, string_bytes}
+use Rattle.std.specs.Prelude.{List, map, reverse, string_bytes}
 use Rattle.content_tree.specs.Values.Text.{owned_text, static_name}
 use Rattle.content_tree.specs.declared.number.Number.TheVariants as num
 use Rattle.content_ser.specs.Grammar.Token.{element, tuple_field}

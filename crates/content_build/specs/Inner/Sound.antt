@@ -1,5 +1,5 @@
 -- What a tape in memory stands for, and when it does.
-use Rattle.std.specs.Prelude.{◌≡◌, ℕ, List, ◌∷◌, Bool, true, false, Option, Some, None}
+use Rattle.std.specs.Prelude.{◌≡◌, List, Bool, true, false, Option, Some, None}
 use Rattle.std.specs.Coded.{Coded-set, code_by, coded_bool, ×_prop, Unit-prop}
 use Rattle.std.proofs.Math.Nat.{ℕ_set}
 use Rattle.std.proofs.Math.Bool.{Bool-set}

@@ -2,7 +2,7 @@
 use Rattle.std.specs.Prelude.{◌≡◌, ◌++◌, ◌∷◌, [], List, length, Option}
 use Rattle.content_ser.specs.Grammar.Token.{Token}
 use Rattle.content_build.specs.Partial.{Partial, Slot, due, between, done, begin}
-use Rattle.content_build.specs.Inner.Cells.{Node, Cell, cell, Wait, Open, opened, Stood, slots_cells}
+use Rattle.content_build.specs.Inner.Cells.{Node, cell, Wait, opened, Stood, slots_cells}
 use Rattle.content_build.specs.Inner.Cells.{slots_opens, in_row, in_map, in_record}
 
 -- a tree is due

@@ -1,8 +1,8 @@
-use Rattle.std.proofs.Common.{◌≡◌, ◌-◌, ap, sym, ◌∙◌, arith, refl, [], ◌∷◌}
+use Rattle.std.proofs.Common.{◌≡◌, ◌-◌, ap, sym, ◌∙◌, arith, refl}
 use Rattle.content_tree.specs.Values.Text.{static_name}
 use Rattle.content_tree.specs.Values.Value.{tree_of, fields_view}
 use Rattle.content_build.specs.Inner.Forest.{fields_near, past_fields}
-use Rattle.content_build.specs.Inner.Values.{grown_trees, grown_view}
+use Rattle.content_build.specs.Inner.Values.{grown_trees}
 use Rattle.content_build.proofs.Forward.{append_fields, append_fields-nil}
 use Rattle.content_build.proofs.Memory.{nothing}
 use Rattle.content_build.proofs.Growing.{grown-pop, fields-zero, past_fields-zero, past_fields-step}

@@ -1,8 +1,8 @@
-use Rattle.std.proofs.Common.{◌≡◌, ◌-◌, ap, sym, ◌∙◌, arith, refl, [], ◌∷◌}
+use Rattle.std.proofs.Common.{◌≡◌, ap, sym, ◌∙◌, arith}
 use Rattle.content_tree.specs.Values.Text.{static_name}
 use Rattle.content_tree.specs.Values.Value.{tree_of, trees_view}
 use Rattle.content_build.specs.Inner.Forest.{trees_near, past}
-use Rattle.content_build.specs.Inner.Values.{grown_trees, grown_view}
+use Rattle.content_build.specs.Inner.Values.{grown_trees}
 use Rattle.content_build.proofs.Forward.{append_trees, append_trees-nil}
 use Rattle.content_build.proofs.Memory.{nothing}
 use Rattle.content_build.proofs.Growing.{grown-pop, near-zero, past-zero, past-step, items-step}

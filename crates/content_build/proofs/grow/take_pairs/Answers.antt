@@ -1,11 +1,12 @@
-use Rattle.std.proofs.Common.{◌≡◌, ◌-◌, ◌<◌, ap, sym, ◌∙◌, arith, refl, [], ◌∷◌}
+use Rattle.std.proofs.Common.{◌≡◌, ◌-◌, ◌<◌, ap, sym, ◌∙◌, arith, [], ◌∷◌}
 use Rattle.content_build.proofs.Forward.{append_pairs}
 use Rattle.content_tree.specs.Values.Text.{static_name}
 use Rattle.content_tree.specs.Values.Value.{tree_of, pairs_view}
 use Rattle.content_build.specs.Inner.Forest.{pairs_near, past}
 use Rattle.content_build.specs.Inner.Values.{grown_trees, grown_view}
 use Rattle.content_build.proofs.Memory.{nothing}
-use Rattle.content_build.proofs.Growing.{grown-pop, pairs-zero, past-zero, past-step, pairs-step, pairs-odd, append_pairs-nil}
+use Rattle.content_build.proofs.Growing.{grown-pop, pairs-zero, past-zero, past-step, pairs-step}
+use Rattle.content_build.proofs.Growing.{pairs-odd, append_pairs-nil}
 use Rattle.content_build.proofs.grow.take_pairs.Goals as goal
 
 pub returns-in-None : goal.returns-in-None

@@ -1,4 +1,4 @@
-use Rattle.std.proofs.Common.{ap, sym, ◌∙◌, ◌-◌, length, arith}
+use Rattle.std.proofs.Common.{ap, sym, ◌∙◌, ◌-◌, arith}
 use Rattle.content_build.specs.Inner.Cells.{with_size}
 use Rattle.content_build.specs.Inner.Entries.{row}
 use Rattle.content_build.proofs.Memory.{row-set, length-row}

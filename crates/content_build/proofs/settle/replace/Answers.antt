@@ -1,4 +1,4 @@
-use Rattle.std.proofs.Common.{◌≡◌, ◌<◌, ap, sym, ◌∙◌, ◌-◌, length, arith, rules}
+use Rattle.std.proofs.Common.{arith}
 use Rattle.content_build.proofs.Memory.{replace_some, replace_none, length-row}
 use Rattle.content_build.proofs.Algebra.{at-below}
 use Rattle.content_build.specs.Inner.Entries.{row}

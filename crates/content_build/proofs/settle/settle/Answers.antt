@@ -1,12 +1,12 @@
-use Rattle.std.proofs.Common.{◌≡◌, ◌-◌, suc, ap, sym, ◌∙◌, refl, subst, arith, List, [], ◌∷◌, length, take}
-use Rattle.content_tree.specs.Values.Tree.{Tree}
+use Rattle.std.proofs.Common.{◌≡◌, ◌-◌, suc, ap, sym, ◌∙◌, subst, arith, ◌∷◌, length, take}
 use Rattle.content_ser.specs.Grammar.Token.{element, tuple_field}
-use Rattle.content_build.specs.Partial.{Slot, fill}
+use Rattle.content_build.specs.Partial.{fill}
 use Rattle.content_build.specs.Inner.Cells as cells
 use Rattle.content_build.specs.Inner.Entries.{row, wait_view, opens_view}
 use Rattle.content_build.proofs.Algebra.{arm-item, arm-field, arm-child, arm-key, arm-entry_key}
 use Rattle.content_build.proofs.Algebra.{arm-entry_value, arm-none, at-below}
-use Rattle.content_build.proofs.Memory.{at_wait, settled, length-row, row-push, at_end, nothing, take_set}
+use Rattle.content_build.proofs.Memory.{at_wait, settled, length-row, row-push, at_end, nothing}
+use Rattle.content_build.proofs.Memory.{take_set}
 use Rattle.content_build.proofs.settle.settle.Goals as goal
 
 pub returns-in-Element : goal.returns-in-Element

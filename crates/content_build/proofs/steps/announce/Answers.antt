@@ -1,8 +1,9 @@
-use Rattle.std.proofs.Common.{◌≡◌, ◌-◌, suc, ap, sym, ◌∙◌, refl, subst, arith, length, take, Some}
+use Rattle.std.proofs.Common.{◌≡◌, ◌-◌, suc, ap, refl, arith, length}
 use Rattle.content_ser.specs.Grammar.Token as token
 use Rattle.content_build.specs.Inner.Entries.{wait_view}
 use Rattle.content_build.specs.Inner.Sound.{meaning}
-use Rattle.content_build.proofs.Calling.{took, turn_item, turn_key, turn_value, turn_entry, turn_field}
+use Rattle.content_build.proofs.Calling.{took, turn_item, turn_key, turn_value, turn_entry}
+use Rattle.content_build.proofs.Calling.{turn_field}
 use Rattle.content_build.proofs.steps.announce.Goals as goal
 
 pub returns-in-InElements : goal.returns-in-InElements

@@ -1,4 +1,4 @@
-use Rattle.std.proofs.Common.{◌≡◌, ◌-◌, suc, ap, sym, ◌∙◌, refl, subst, arith, length, take, Some}
+use Rattle.std.proofs.Common.{sym, refl, subst}
 use Rattle.content_ser.specs.Grammar.Token as token
 use Rattle.content_build.specs.Partial.{step_token}
 use Rattle.content_build.specs.Inner.Sound.{meaning, Stands}
