@@ -77,11 +77,11 @@ fn clone_found(alloc: Global, found: &Found) -> Answer<Found, AllocError>
 
 // The image of a struct of this name.
 #[inline(never)]
-fn name_struct(alloc: Global, name: &str, data: Box<FoundData>) -> Answer<Found, AllocError>
-    ensures { IfOk result (λ f. image_view f ≡ structure name.now (image_data_view data.value)) }
+fn name_struct(alloc: Global, name: &str, held: Box<FoundData>) -> Answer<Found, AllocError>
+    ensures { IfOk result (λ f. image_view f ≡ structure name.now (image_data_view held.value)) }
 {
     let name = String::from_str(alloc, name)?;
-    Ok(Found::Struct { name, data })
+    Ok(Found::Struct { name, data: held })
 }
 
 // The image of a variant of these names.
@@ -90,17 +90,17 @@ fn name_enum(
     alloc: Global,
     name: &str,
     variant: &str,
-    data: Box<FoundData>,
+    held: Box<FoundData>,
 ) -> Answer<Found, AllocError>
     ensures { IfOk result (λ f. image_view f ≡ enumeration name.now variant.now
-        (image_data_view data.value)) }
+        (image_data_view held.value)) }
 {
     let name = String::from_str(alloc, name)?;
     let variant = String::from_str(alloc, variant)?;
     Ok(Found::Enum {
         name,
         variant,
-        data,
+        data: held,
     })
 }
 
@@ -156,7 +156,10 @@ fn clone_items(alloc: Global, items: &Vec<Found>) -> Answer<Vec<Found>, AllocErr
 
 #[cycle(copy_found)]
 #[inline(never)]
-fn clone_pairs(alloc: Global, pairs: &Vec<(Found, Found)>) -> Answer<Vec<(Found, Found)>, AllocError>
+fn clone_pairs(
+    alloc: Global,
+    pairs: &Vec<(Found, Found)>,
+) -> Answer<Vec<(Found, Found)>, AllocError>
     ensures value { IfOk result (λ copies. image_pairs_view copies.items ≡ image_pairs_view
         pairs.now.items) }
 {
@@ -171,7 +174,10 @@ fn clone_pairs(alloc: Global, pairs: &Vec<(Found, Found)>) -> Answer<Vec<(Found,
 
 #[cycle(copy_found)]
 #[inline(never)]
-fn clone_fields(alloc: Global, fields: &Vec<(String, Found)>) -> Answer<Vec<(String, Found)>, AllocError>
+fn clone_fields(
+    alloc: Global,
+    fields: &Vec<(String, Found)>,
+) -> Answer<Vec<(String, Found)>, AllocError>
     ensures value { IfOk result (λ copies. image_fields_view copies.items ≡ image_fields_view
         fields.now.items) }
 {

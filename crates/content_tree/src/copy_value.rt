@@ -146,7 +146,13 @@ fn clone_boxed_enum<'a, 'n>(
     ensures value { IfOk result (λ copy. enum_tree copy.value ≡ enum_tree inner.now) }
 {
     let data = clone_data(alloc, &inner.data)?;
-    box_enum(alloc, &inner.name, inner.variant_index, &inner.variant, data)
+    box_enum(
+        alloc,
+        &inner.name,
+        inner.variant_index,
+        &inner.variant,
+        data,
+    )
 }
 
 // A box of a variant with copies of these names.

@@ -6,7 +6,9 @@ ghost use Rattle.std.specs.Prelude.{◌≡◌, None, Ok, IsOk, IfOk, IfErr, IfSo
 ghost use Rattle.content_tree.specs.Values.Value.{tree_of, tree_data_of, struct_tree, enum_tree};
 ghost use Rattle.content_tree.specs.Values.Value.{held_view, trees_view, pairs_view, fields_view};
 ghost use Rattle.content_tree.specs.Images.Image.{image, image_data, image_each, image_pairs};
-ghost use Rattle.content_tree.specs.Images.Image.{image_fields};
+ghost use Rattle.content_tree.specs.Images.Image.{image_fields, structure, enumeration};
+ghost use Rattle.content_tree.specs.Images.Image.{one, many, named};
+ghost use Rattle.content_tree.specs.Values.Text.{text_of};
 ghost use Rattle.content_tree.specs.Images.Found.{image_view, image_data_view, images_view};
 ghost use Rattle.content_tree.specs.Images.Found.{image_pairs_view, image_fields_view, held_image};
 ghost use Rattle.content_tree.specs.Errors.Kind.{IsOutOfMemory};
@@ -77,9 +79,8 @@ pub(crate) fn found_struct<'a, 'n>(
     ensures { IfOk result (λ f. image_view f ≡ image (struct_tree inner.entry.value)) }
 {
     let NamedStruct { name, data } = Box::into_inner(inner);
-    let name = name.own(alloc)?;
-    let data = Box::new(alloc, found_data(alloc, data)?)?;
-    Ok(Found::Struct { name, data })
+    let data = found_data(alloc, data)?;
+    name_struct(alloc, name, data)
 }
 
 /// The image of a variant.
@@ -97,29 +98,86 @@ pub(crate) fn found_enum<'a, 'n>(
         variant,
         data,
     } = Box::into_inner(inner);
+    let data = found_data(alloc, data)?;
+    name_enum(alloc, name, variant, data)
+}
+
+// The image of a struct of this name.
+#[inline(never)]
+fn name_struct<'n>(
+    alloc: Global,
+    name: CowStr<'n>,
+    held: Box<FoundData>,
+) -> Answer<Found, AllocError>
+    ensures { IfOk result (λ f. image_view f ≡ structure (text_of name.entry).content
+        (image_data_view held.value)) }
+{
+    let name = name.own(alloc)?;
+    Ok(Found::Struct { name, data: held })
+}
+
+// The image of a variant of these names.
+#[inline(never)]
+fn name_enum<'n>(
+    alloc: Global,
+    name: CowStr<'n>,
+    variant: CowStr<'n>,
+    held: Box<FoundData>,
+) -> Answer<Found, AllocError>
+    ensures { IfOk result (λ f. image_view f ≡ enumeration (text_of name.entry).content
+        (text_of variant.entry).content (image_data_view held.value)) }
+{
     let name = name.own(alloc)?;
     let variant = variant.own(alloc)?;
-    let data = Box::new(alloc, found_data(alloc, data)?)?;
     Ok(Found::Enum {
         name,
         variant,
-        data,
+        data: held,
     })
+}
+
+// What holds images by place, in a box.
+#[inline(never)]
+fn box_items(alloc: Global, items: Vec<Found>) -> Answer<Box<FoundData>, AllocError>
+    ensures { IfOk result (λ held. image_data_view held.value ≡ many (images_view items.items)) }
+{
+    Ok(Box::new(alloc, FoundData::Tuple(items))?)
+}
+
+// What holds images by key, in a box.
+#[inline(never)]
+fn box_fields(alloc: Global, fields: Vec<(String, Found)>) -> Answer<Box<FoundData>, AllocError>
+    ensures { IfOk result (λ held. image_data_view held.value ≡ named
+        (image_fields_view fields.items)) }
+{
+    Ok(Box::new(alloc, FoundData::Struct(fields))?)
+}
+
+// What holds one image, in a box.
+#[cycle(image)]
+#[inline(never)]
+fn found_newtype<'a, 'n>(
+    alloc: Global,
+    value: NamedValue<'a, 'n>,
+) -> Answer<Box<FoundData>, AllocError>
+    ensures { IfOk result (λ held. image_data_view held.value ≡ one
+        (image (tree_of value.entry))) }
+{
+    let value = found_value(alloc, value)?;
+    Ok(Box::new(alloc, FoundData::NewType(value))?)
 }
 
 #[cycle(image)]
 #[inline(always)]
-fn found_data<'a, 'n>(
-    alloc: Global,
-    inner: NamedData<'a, 'n>,
-) -> Answer<FoundData, AllocError>
-    ensures { IfOk result (λ f. image_data_view f ≡ image_data (tree_data_of inner.entry)) }
+fn found_data<'a, 'n>(alloc: Global, inner: NamedData<'a, 'n>) -> Answer<Box<FoundData>, AllocError>
+    ensures { IfOk result (λ held. image_data_view held.value ≡ image_data
+        (tree_data_of inner.entry)) }
 {
     match inner {
-        NamedData::Unit => Ok(FoundData::Unit),
-        NamedData::NewType { value } => Ok(FoundData::NewType(found_value(alloc, value)?)),
-        NamedData::Tuple { values } => Ok(FoundData::Tuple(found_items(alloc, values)?)),
-        NamedData::Struct { fields } => Ok(FoundData::Struct(found_fields(alloc, fields)?)),
+        NamedData::Unit => Ok(Box::new(alloc, FoundData::Unit)?),
+        NamedData::NewType { value } => found_newtype(alloc, value),
+        NamedData::Tuple { values } => box_items(alloc, found_items(alloc, values)?),
+        NamedData::Struct { fields } => Ok(box_fields(alloc, found_fields(alloc, fields)?)?),
     }
 }
 

@@ -1,11 +1,10 @@
 use Rattle.std.proofs.Common.{◌≡◌, sym, ap, ◌∙◌, arith, rules}
-use Rattle.content_tree.proofs.Views.{tree_data_of-Struct}
-use Rattle.content_tree.proofs.FoundViews.{image_data_view-Struct}
 use Rattle.content_tree.specs.Values.Value.{trees_view, pairs_view, fields_view}
 use Rattle.content_tree.specs.Images.Image.{image_each, image_pairs, image_fields}
 use Rattle.content_tree.specs.Images.Found.{images_of, image_pairs_of, image_fields_of}
 use Rattle.content_tree.proofs.Images.{items_found, pairs_found, fields_found}
 use Rattle.content_tree.proofs.Owning.{nothing_left}
+use Rattle.content_tree.proofs.Views.{tree_data_of-Struct}
 use Rattle.content_tree.proofs.image.+image.Goals as goal
 
 pub found_items-returns : goal.found_items-returns
@@ -23,6 +22,5 @@ found_fields-returns t c =
     let all : c.args.fields.items ≡ c.loop-key.yielded = nothing_left _ _ _ c.loop-key.invariant.2 (omega (arith, c.in-None.ensures.steps.0)) in
     ap image_fields_of c.loop-key.invariant.5 ∙ fields_found c.loop-key.yielded ∙ ap (λ fs. image_fields (fields_view fs)) (sym all)
 
-pub found_data-returns-in_ok-found_fields-in-Struct :
-    goal.found_data-returns-in_ok-found_fields-in-Struct
-found_data-returns-in_ok-found_fields-in-Struct t c = grind (rules, tree_data_of-Struct, image_data_view-Struct)
+pub found_data-returns-in_ok-box_fields-in-Struct : goal.found_data-returns-in_ok-box_fields-in-Struct
+found_data-returns-in_ok-box_fields-in-Struct t c = grind (rules, tree_data_of-Struct)
