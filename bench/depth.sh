@@ -19,7 +19,7 @@ find "$deep" -name '*.in' | while read -r file; do mv "$file" "${file%.in}"; don
 rm -rf "$room/ours/bench"
 echo 'content_deep: content_build content_ser content_tree' >> "$room/ours/crates.txt"
 [ -d "$room/ours/.git" ] || git -C "$room/ours" init -q
-(cd "$deep" && rt run -- drop some 1) > "$room/ours.log" 2>&1 \
+(cd "$deep" && rt run --jobs 1 -- drop some 1) > "$room/ours.log" 2>&1 \
     || { tail -n 5 "$room/ours.log"; exit 1; }
 echo ours
 python3 "$here/depth/bisect.py" "$deep/out/content_deep"
