@@ -1,7 +1,7 @@
 //! The two flags of a deserializer.
 
-use content_de::Deserializer;
 use row_text::stop::{Result, Stop};
+use serde_content::Deserializer;
 use std::alloc::Global;
 
 /// The two flags of a deserializer.

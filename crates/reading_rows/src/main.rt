@@ -5,9 +5,9 @@
 mod flags;
 mod operations;
 mod request;
+mod samples;
 mod show;
 mod source;
-mod types;
 
 use operations::ReadingRows;
 use row_text::run::run;

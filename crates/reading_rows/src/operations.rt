@@ -4,6 +4,7 @@ mod asking;
 mod comparing;
 mod converting;
 mod reading;
+mod returning;
 mod stepping;
 
 use row_text::row::Operations;
@@ -22,6 +23,7 @@ impl Operations for ReadingRows {
             "plain" => reading::plain_form(alloc, arguments),
             "access" => stepping::access(alloc, arguments),
             "order" => comparing::order_of_sources(alloc, arguments),
+            "round_trip" => returning::come_back(alloc, arguments),
             "into" => converting::into(alloc, arguments),
             _ => Err(Stop::NoRow),
         }

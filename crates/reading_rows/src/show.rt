@@ -2,10 +2,10 @@
 
 use crate::flags::{Flags, flags_of, flags_word};
 use crate::source::{Sought, Source, find_tree, is_name, write_found, write_source};
-use content_de::{Deserializer, EnumAccess, Map, Node, Seq, VariantAccess};
-use content_tree::{CowStr, Error, ErrorKind, Expected, Found};
 use row_text::show::{write_comma, write_text};
 use row_text::stop::{Result, Stop};
+use serde_content::de::{EnumAccess, Map, Node, Seq, VariantAccess};
+use serde_content::{CowStr, Deserializer, Error, ErrorKind, Expected, Found};
 use std::alloc::Global;
 
 /// Adds flags, a colon and what is read.

@@ -1,14 +1,13 @@
 //! What a row reads from, and how what the library hands out of it is told.
 
 use crate::flags::{Flags, read_flags, with_flags};
-use content_de::Deserializer;
-use content_tree::{CowStr, Data, Enum, ErrorKind, Found, Value};
 use row_text::cursor::Cursor;
 use row_text::number::parse;
 use row_text::show::{write_text, write_tree};
 use row_text::stop::{Result, Stop};
 use row_text::tokens::{Token, Tokens, take_mark, take_name, take_word};
 use row_text::tree::read_tree;
+use serde_content::{CowStr, Data, Deserializer, Enum, ErrorKind, Found, Value};
 use std::alloc::Global;
 
 /// What a row reads from: a tree or a name, by tokens, under flags.

@@ -3,17 +3,17 @@
 use crate::request::{Request, next_field, read_request};
 use crate::show::{write_enum, write_handed, write_map, write_seq};
 use crate::source::{Source, read_source, source_of};
-use content_de::{Deserializer, Node};
-use content_tree::Value;
 use row_text::names::static_name;
 use row_text::show::write_tree;
 use row_text::stop::{Result, Stop};
 use row_text::tokens::read_tokens;
+use serde_content::de::Node;
+use serde_content::{Deserializer, Value};
 use std::alloc::Global;
 use std::fmt::Debug;
 
 /// Adds a datum as it prints.
-fn write_datum<T: Debug + Drop>(out: &mut String, datum: content_tree::Result<T>) -> Result<()> {
+fn write_datum<T: Debug + Drop>(out: &mut String, datum: serde_content::Result<T>) -> Result<()> {
     let datum = datum?;
     write!(out, "{datum:?}")?;
     Ok(())

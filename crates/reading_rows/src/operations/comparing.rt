@@ -2,11 +2,11 @@
 
 use crate::request::next_field;
 use crate::source::{read_source, source_of};
-use content_de::Deserializer;
-use content_de::laws::{compare_deserializers, equal_deserializers};
 use row_text::order::{if_lawful, order, told};
 use row_text::stop::Result;
 use row_text::tokens::{Token, read_tokens};
+use serde_content::Deserializer;
+use serde_content::laws::{compare_deserializers, equal_deserializers};
 use std::alloc::Global;
 use std::cmp::Ordering;
 

@@ -3,12 +3,12 @@
 use crate::request::next_field;
 use crate::show::write_handed;
 use crate::source::{Source, read_source, source_of};
-use content_de::{Deserializer, IntoDeserializer};
-use content_tree::Value;
 use row_text::cursor::Cursor;
 use row_text::stop::{Result, Stop};
 use row_text::tokens::{Token, Tokens, read_tokens};
 use row_text::tree::read_tree;
+use serde_content::de::IntoDeserializer;
+use serde_content::{Deserializer, Value};
 use std::alloc::Global;
 
 /// The deserializer that a tree, a number, an enum or a deserializer with these flags becomes.

@@ -1,14 +1,14 @@
 //! Values of a type.
 
 use crate::request::next_field;
+use crate::samples::{point_text, shape_text};
 use crate::source::{read_source, source_of};
-use crate::types::{read_point, read_shape};
-use content_de::{Deserialize, Deserializer, ValueVisitor};
-use content_tree::{CowStr, Number, Value};
 use row_text::plain::plain;
 use row_text::show::write_tree;
 use row_text::stop::{Result, Stop};
 use row_text::tokens::read_tokens;
+use serde_content::de::Deserialize;
+use serde_content::{CowStr, Deserializer, Number, Value, ValueVisitor};
 use std::alloc::Global;
 use std::collections::BTreeMap;
 use std::fmt::{Debug, Display};
@@ -43,8 +43,8 @@ pub fn read(alloc: Global, arguments: &str) -> Result<String> {
         "Number" => shown(alloc, Value::Number(from.deserialize::<Number>(alloc)?)),
         "Value" => shown(alloc, from.deserialize::<Value<'static>>(alloc)?),
         "ValueVisitor" => shown(alloc, ValueVisitor.read(alloc, from)?),
-        "Point" => printed(alloc, &read_point(alloc, from)?),
-        "Shape" => printed(alloc, &read_shape(alloc, from)?),
+        "Point" => printed(alloc, &point_text(alloc, &from.deserialize(alloc)?)?),
+        "Shape" => printed(alloc, &shape_text(alloc, &from.deserialize(alloc)?)?),
         _ => read_holder(alloc, typ, from),
     }
 }
@@ -119,17 +119,22 @@ fn shown_held(alloc: Global, held: Option<Value<'_>>) -> Result<String> {
     }
 }
 
-/// `ok` and a map's keys in order, each with its value.
+/// `ok` and a map.
 fn read_map<'de, 'n: 'de, K: Deserialize<'de> + Debug + Ord, V: Deserialize<'de> + Debug>(
     alloc: Global,
     from: Deserializer<'de, 'n>,
 ) -> Result<String> {
     let map = from.deserialize::<BTreeMap<K, V>>(alloc)?;
+    printed(alloc, &map_text(alloc, &map)?)
+}
+
+/// A map's keys in order, each with its value.
+pub fn map_text<K: Debug + Ord, V: Debug>(alloc: Global, map: &BTreeMap<K, V>) -> Result<String> {
     let mut out = String::new(alloc);
-    for (key, value) in &map {
-        out.push_str(if out.is_empty() { "" } else { ", " })?;
+    for (key, value) in map {
+        out.push_str(if out.is_empty() { "{" } else { ", " })?;
         write!(out, "{key:?} => {value:?}")?;
     }
-    let text = plain(alloc, &out)?;
-    Ok(format!(in alloc; "ok {{{text}}}")?)
+    out.push_str(if out.is_empty() { "{}" } else { "}" })?;
+    Ok(out)
 }

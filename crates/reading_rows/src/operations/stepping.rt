@@ -3,10 +3,10 @@
 use crate::request::{next_field, read_request};
 use crate::show::write_handed;
 use crate::source::{Source, read_source, source_of};
-use content_de::{Deserialize, Map, Seq};
 use row_text::plain::write_listed;
 use row_text::stop::{Result, Stop};
 use row_text::tokens::read_tokens;
+use serde_content::de::{Deserialize, Map, Seq};
 use std::alloc::Global;
 use std::fmt::Debug;
 
@@ -51,7 +51,7 @@ fn write_step(alloc: Global, out: &mut String, answer: Result<String>) -> Result
 }
 
 /// A datum as it prints.
-fn told<T: Debug + Drop>(alloc: Global, datum: content_tree::Result<T>) -> Result<String> {
+fn told<T: Debug + Drop>(alloc: Global, datum: serde_content::Result<T>) -> Result<String> {
     let datum = datum?;
     Ok(format!(in alloc; "{datum:?}")?)
 }
