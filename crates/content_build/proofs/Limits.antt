@@ -1,23 +1,23 @@
 -- The machine and the grammar agree under any limit.
-use Rattle.std.proofs.Common.{◌≡◌, ℕ, suc, ◌+◌, ◌≤◌, nat_lt, Bool, true, false, cond, List, [], ◌∷◌, ◌++◌}
+use Rattle.std.proofs.Common.{◌≡◌, ℕ, ◌+◌, nat_lt, Bool, true, false, cond, List, [], ◌∷◌, ◌++◌}
 use Rattle.std.proofs.Common.{length, Option, Some, None, IfSome, IsSome, option_map, refl, sym, ap}
-use Rattle.std.proofs.Common.{subst, ◌∙◌, option_and_then, add-one}
-use Rattle.std.proofs.lemmas.Bool.{lt-ltb, cond-true}
+use Rattle.std.proofs.Common.{◌∙◌, option_and_then, add-one}
+use Rattle.std.proofs.lemmas.Bool.{lt-ltb}
 use Rattle.content_tree.specs.Values.Tree as tree
 use Rattle.content_tree.specs.Values.Tree.{Tree}
 use Rattle.content_ser.specs.Calls.Event.{Event}
-use Rattle.content_ser.specs.Grammar.Depth.{IsLimit, SpellsUnder, IsWholeUnder, IsViableUnder}
-use Rattle.content_ser.specs.Grammar.Spells.{SpellsWhole, IsWhole, IsViable}
+use Rattle.content_ser.specs.Grammar.Depth.{IsLimit, SpellsUnder, IsViableUnder}
+use Rattle.content_ser.specs.Grammar.Spells.{SpellsWhole}
 use Rattle.content_ser.specs.Grammar.Token as token
 use Rattle.content_ser.specs.Grammar.Token.{Token, leaf, wrap, open_row, open_map, open_record}
 use Rattle.content_ser.specs.Grammar.Token.{finish, wrapped, tokens, item_call, ItemCall}
-use Rattle.content_ser.specs.Serializers.Step as serializer
-use Rattle.content_ser.specs.Serializers.Step.{Step}
 use Rattle.content_build.specs.Limit.{Limited, fits, step_under, step, fresh_under, run}
 use Rattle.content_build.specs.Partial as partial
-use Rattle.content_build.specs.Partial.{Partial, Slot, due, between, done, in_row, in_map, in_record}
+use Rattle.content_build.specs.Partial.{Partial, Slot, due, between, done, in_row, in_map}
+use Rattle.content_build.specs.Partial.{in_record}
 use Rattle.content_build.specs.Partial.{child, element, key, value, entry_key, entry_value}
-use Rattle.content_build.specs.Partial.{field_value, fill, closed, next_item, step_token, open_count}
+use Rattle.content_build.specs.Partial.{field_value, fill, closed, next_item, step_token}
+use Rattle.content_build.specs.Partial.{open_count}
 use Rattle.content_build.proofs.Forward.{run_tokens, run-spells}
 use Rattle.content_build.proofs.Backward.{run-of_kinds, whole_from_run as spelled_from_run}
 use Rattle.content_build.proofs.Agreement.{closing, closing_places, one_tree as one_whole_tree}

@@ -1,14 +1,16 @@
 -- From the answer of a call in a partial tree to what the trait says of it, and from that to which calls are viable.
-use Rattle.std.proofs.Common.{◌≡◌, ℕ, Bool, [], ◌∷◌, ◌++◌, Option, Some, None, Ok, Err, refl, sym, ap}
+use Rattle.std.proofs.Common.{◌≡◌, ℕ, Bool, [], ◌∷◌, ◌++◌, Option, Some, None, Ok, Err, refl, sym}
+use Rattle.std.proofs.Common.{ap}
 use Rattle.std.proofs.Common.{subst, ◌∙◌, IsSome, option_and_then, option_map, inl, inr, ⊎_elim}
 use Rattle.content_ser.specs.Calls.Event.{Event}
 use Rattle.content_ser.specs.Grammar.Token.{token_of}
-use Rattle.content_ser.specs.Serializers.Step.{Seen, Answer, Takes}
+use Rattle.content_ser.specs.Serializers.Step.{Answer, Takes}
 use Rattle.content_build.specs.Builder.{seen_at, refuses, IsCause, StepsAreExact}
 use Rattle.content_build.specs.Inner.Taken.{AnswersStep}
 use Rattle.content_build.specs.Limit.{fresh_under, step_under, step}
 use Rattle.content_build.specs.Partial.{Partial}
-use Rattle.content_build.proofs.Limits.{under, one_more, never_viable, still_viable, viable_from_run}
+use Rattle.content_build.proofs.Limits.{under, one_more, never_viable, still_viable}
+use Rattle.content_build.proofs.Limits.{viable_from_run}
 
 takes_call : (limit : Option ℕ) (old : Option Partial) (h : Bool) (c : Event) (r : Answer) (new : Option Partial) → (o : Option Partial) → option_and_then (λ s. step_under limit s (token_of c)) old ≡ o
     → AnswersStep old o r new → Takes step refuses (seen_at limit old h) c r (seen_at limit new h)

@@ -1,20 +1,24 @@
 -- The machine under a limit takes what keeps the limit. Here the limit is looked at after each step: Limits.antt says that this is the same.
-use Rattle.std.proofs.Common.{◌≡◌, ℕ, suc, ◌≤◌, ◌<◌, nat_lt, Bool, true, cond, List, ◌∷◌, [], length, Option}
-use Rattle.std.proofs.Common.{Some, None, refl, sym, ap, subst, ◌∙◌, option_and_then, arith}
+use Rattle.std.proofs.Common.{◌≡◌, ℕ, suc, ◌≤◌, ◌<◌, nat_lt, Bool, true, cond, List, ◌∷◌, []}
+use Rattle.std.proofs.Common.{length, Option}
+use Rattle.std.proofs.Common.{Some, None, refl, sym, ap, ◌∙◌, option_and_then, arith}
 use Rattle.std.proofs.lemmas.Bool.{lt-ltb, ltb-true}
 use Rattle.content_tree.specs.Values.Text.{static_name}
 use Rattle.content_tree.specs.Values.Tree as tree
-use Rattle.content_tree.specs.Values.Tree.{Tree, Trees, no_trees, Pairs, no_pairs, Fields, no_fields}
+use Rattle.content_tree.specs.Values.Tree.{Tree, Trees, no_trees, Pairs, no_pairs, Fields}
+use Rattle.content_tree.specs.Values.Tree.{no_fields}
 use Rattle.content_ser.specs.Calls.Head.{Head}
 use Rattle.content_ser.specs.Grammar.Depth.{Keeps, ElementsKeep, MapItemsKeep, FieldsKeep}
 use Rattle.content_ser.specs.Grammar.Spells.{Spells, SpellsElements, SpellsMapItems, SpellsFields}
-use Rattle.content_ser.specs.Grammar.Spells.{MapItem, spells_leaf, spells_wrap, spells_row, spells_map}
+use Rattle.content_ser.specs.Grammar.Spells.{MapItem, spells_leaf, spells_wrap, spells_row}
+use Rattle.content_ser.specs.Grammar.Spells.{spells_map}
 use Rattle.content_ser.specs.Grammar.Spells.{spells_record, elements_end, elements_more, items_end}
 use Rattle.content_ser.specs.Grammar.Spells.{items_key, items_value, items_entry, fields_end}
 use Rattle.content_ser.specs.Grammar.Spells.{fields_more}
 use Rattle.content_ser.specs.Grammar.Token.{Token, Row, ItemCall, item_call, wrapped, row_tree}
 use Rattle.content_ser.specs.Grammar.Token.{record_tree}
-use Rattle.content_build.specs.Partial.{Partial, Slot, due, between, done, in_row, in_map, in_record}
+use Rattle.content_build.specs.Partial.{Partial, Slot, due, between, done, in_row, in_map}
+use Rattle.content_build.specs.Partial.{in_record}
 use Rattle.content_build.specs.Partial.{child, element, entry_key, entry_value, field_value, fill}
 use Rattle.content_build.specs.Partial.{next_item, step_token, push_tree, push_pair, push_field}
 use Rattle.content_build.specs.Partial.{set_last}

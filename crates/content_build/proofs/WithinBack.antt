@@ -1,5 +1,6 @@
 -- What the machine under a limit takes up to a tree keeps the limit.
-use Rattle.std.proofs.Common.{◌≡◌, ℕ, suc, ◌≤◌, Bool, true, false, List, [], ◌∷◌, length, Option, Some}
+use Rattle.std.proofs.Common.{◌≡◌, ℕ, suc, ◌≤◌, Bool, true, false, List, [], ◌∷◌, length, Option}
+use Rattle.std.proofs.Common.{Some}
 use Rattle.std.proofs.Common.{None, refl, sym, ap, subst, ◌∙◌, option_and_then}
 use Rattle.std.proofs.lemmas.Bool.{lt-ltb, ltb-true}
 use Rattle.content_tree.specs.Values.Text.{static_name}
@@ -9,7 +10,8 @@ use Rattle.content_tree.specs.Values.Tree.{field_then}
 use Rattle.content_ser.specs.Grammar.Depth.{Keeps, ElementsKeep, MapItemsKeep, FieldsKeep}
 use Rattle.content_ser.specs.Grammar.Spells as spells
 use Rattle.content_ser.specs.Grammar.Spells.{Spells, SpellsElements, SpellsMapItems, SpellsFields}
-use Rattle.content_ser.specs.Grammar.Spells.{MapItem, spells_leaf, spells_wrap, spells_row, spells_map}
+use Rattle.content_ser.specs.Grammar.Spells.{MapItem, spells_leaf, spells_wrap, spells_row}
+use Rattle.content_ser.specs.Grammar.Spells.{spells_map}
 use Rattle.content_ser.specs.Grammar.Spells.{spells_record, elements_end, elements_more, items_end}
 use Rattle.content_ser.specs.Grammar.Spells.{items_key, items_value, items_entry, fields_end}
 use Rattle.content_ser.specs.Grammar.Spells.{fields_more}

@@ -1,5 +1,6 @@
 -- A partial tree under a limit on how deep trees nest, and the step that each call takes in it.
-use Rattle.std.specs.Prelude.{ℕ, suc, nat_lt, Bool, true, cond, List, Option, Some, None, option_map}
+use Rattle.std.specs.Prelude.{ℕ, suc, nat_lt, Bool, true, cond, List, Option, Some, None}
+use Rattle.std.specs.Prelude.{option_map}
 use Rattle.content_ser.specs.Calls.Event.{Event}
 use Rattle.content_ser.specs.Grammar.Token as token
 use Rattle.content_ser.specs.Grammar.Token.{Token}

@@ -1,5 +1,5 @@
 -- What a `Serializer` makes of a script.
-use Rattle.std.specs.Prelude.{◌≡◌, ◌⊎◌, ℕ, Bool, true, nat_lt, List, Option, None, Some}
+use Rattle.std.specs.Prelude.{◌≡◌, ◌⊎◌, ℕ, Bool, List, Option, None, Some}
 use Rattle.std.specs.Prelude.{Result, Ok, Err}
 use Rattle.content_tree.specs.Errors.Kind.{kind_of, IsOutOfMemory}
 use Rattle.content_tree.specs.Values.Value.{tree_of}

@@ -72,11 +72,13 @@ impl Serializer {
     /// The tree that the value's calls spell, with every text and byte value owned.
     ///
     /// Where the value's script stops, the error is of kind `Custom` with the stop's text. It is of
-    /// kind `OutOfMemory` where an allocation failed, and of kind `Misplaced` exactly where there is
-    /// a limit that the calls don't keep. No other error comes.
+    /// kind `OutOfMemory` where an allocation failed, and of kind `Misplaced` exactly where there
+    /// is a limit that the calls don't keep. No other error comes.
     pub fn serialize<T: Serialize>(self, alloc: Global, value: &T) -> Result<Value<'static>>
+        // without a limit: the tree, the stop's error, or out of memory
         ensures unlimited { limit_of self ≡ None
             → Serialized (T.script value.now (is_readable self)) result }
+        // with one the same where the calls keep it, and where they don't a call out of place
         ensures within { (limit : ℕ) → limit_of self ≡ Some limit → 1 ≤ limit
             → SerializedWithin limit (T.script value.now (is_readable self)) result }
     {

@@ -97,7 +97,8 @@ fn is_bad_line(line: &[u8]) -> bool
     !line.is_empty() && read_line(line).is_none()
 }
 
-/// Where the first bad line of calls stands, counted from 0 with the empty lines. It takes no memory.
+/// Where the first bad line of these lines of calls stands, counted from 0 with the empty lines. It
+/// takes no memory.
 pub fn first_bad_line(input: &[u8]) -> Option<usize>
     ensures { result ≡ first_bad input.now }
 {

@@ -1,5 +1,5 @@
 use Rattle.std.proofs.Common.{sym, ap, ◌∙◌, take, drop}
-use Rattle.content_cli.proofs.Limiting.{feed_at, no_feed}
+use Rattle.content_cli.proofs.Limiting.{feed_at}
 use Rattle.content_cli.proofs.limit.split_first_line.Goals as goal
 
 pub returns-in-Some-clause-line : goal.returns-in-Some-clause-line
