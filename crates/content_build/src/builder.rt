@@ -89,8 +89,11 @@ impl<'v> Builder<'v> {
     /// ```
     pub fn with_limit(alloc: Global, human_readable: bool, limit: usize) -> Builder<'v>
         requires { 1 ≤ limit }
-        ensures { seen_of result
-            ≡ record { state = fresh_under (Some limit); failed = false; readable = human_readable } }
+        ensures { seen_of result ≡ record {
+          state = fresh_under (Some limit);
+          failed = false;
+          readable = human_readable;
+        } }
     {
         Builder::under(alloc, human_readable, Some(limit))
     }
@@ -150,7 +153,8 @@ impl<'v> Serializer for Builder<'v> {
         ensures taken { Takes step refuses (seen_of self.old)
             (event_of call.entry) result (seen_of self.new) }
         // it is taken, or refused for memory, only where some list that is whole within the limit
-        // begins with the calls so far and this one, and refused as out of place only where none does
+        // begins with the calls so far and this one, and refused as out of place only where none
+        // does
         ensures exact { AnswersExactly (seen_of self.old) (event_of call.entry) result }
     {
         take(&mut self.tape, self.limit, Token::of(&call))
