@@ -14,8 +14,8 @@ use crate::serializer::Serializer;
 use std::cmp::Ordering;
 
 /// Whatever call is made on a [`Builder`](crate::Builder) that has not failed: it is taken, or
-/// refused for memory, only where some whole list begins with the calls so far and this one, and
-/// refused as out of place only where none does.
+/// refused for memory, only where some list that is whole, within the limit where there is one,
+/// begins with the calls so far and this one, and refused as out of place only where none does.
 pub fn steps_are_exact()
     ensures { StepsAreExact }
 {}
