@@ -124,8 +124,8 @@ impl<'v> Builder<'v> {
     /// The tree that the calls spell. Its texts and bytes are owned and its names static.
     ///
     /// It answers `Failed` where the builder has failed, and `Unfinished` where the calls spell no
-    /// tree yet. Memory is taken for the vectors, each of its items' number, and for the boxes of
-    /// the tree; where that fails: `OutOfMemory`.
+    /// tree yet. Memory is taken for the tree's vectors, each for the number of its items, and for
+    /// its boxes; where an allocation failed: `OutOfMemory`. No depth of the tree takes stack.
     #[tactic(auto, unfolding(crate::specs::Builder::seen_of))]
     pub fn finish(self) -> Result<Value<'v>>
         ensures value { Finishes (seen_of self.entry).failed
@@ -146,7 +146,7 @@ impl<'v> Serializer for Builder<'v> {
 
     /// Errors: `Misplaced` where no whole list, within the limit, begins with the calls so far and
     /// this one, `OutOfMemory` where an allocation failed, `Failed` after either. Memory is taken
-    /// for texts, bytes and entries.
+    /// for the tape, for texts and bytes, and for a number of 128 bits. No depth takes stack.
     #[inline(always)]
     fn call(&mut self, call: Call<'_>) -> Result<()>
         // one step of the partial tree, under its limit
