@@ -10,7 +10,7 @@ use Rattle.content_build.specs.Inner.Cells as cells
 use Rattle.content_build.specs.Inner.Cells.{Names, of_struct, of_variant, Node, key, Cell, cell}
 use Rattle.content_build.specs.Inner.Cells.{under}
 use Rattle.content_build.specs.Inner.Cells.{flat, flat_data, flat_trees, flat_pairs, flat_fields}
-use Rattle.content_build.specs.Inner.Cells.{headed, shape_of}
+use Rattle.content_build.specs.Inner.Cells.{headed, sort_of}
 use Rattle.content_build.specs.Inner.Forest.{Grown, grown, no_key, named_tree, trees_near}
 use Rattle.content_build.specs.Inner.Forest.{fields_near}
 use Rattle.content_build.specs.Inner.Forest.{pairs_near, past, past_fields, data_near, past_data}
@@ -143,7 +143,7 @@ module _ (f : List Grown) where
 -- what stands inside a head is read as what it holds
 abbrev pub ReadsData : Names → TreeData → List Cell → List Grown → Type 0
 ReadsData names d cs f =
-    read (under (headed (shape_of d) names) (flat_data d) ++ cs) f ≡ grown no_key (named_tree names d) (suc (length (flat_data d))) ∷ read cs f
+    read (under (headed (sort_of d) names) (flat_data d) ++ cs) f ≡ grown no_key (named_tree names d) (suc (length (flat_data d))) ∷ read cs f
 
 mutual
   pub read-flat : (t : Tree) (cs : List Cell) (f : List Grown) → read (flat t ++ cs) f ≡ grown no_key t (length (flat t)) ∷ read cs f

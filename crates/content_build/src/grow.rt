@@ -9,7 +9,7 @@ ghost use Rattle.content_tree.specs.Values.Value.{fields_view};
 ghost use Rattle.content_ser.specs.Calls.Head.{head_of};
 ghost use Rattle.content_build.specs.Inner.Cells as cells;
 ghost use Rattle.content_build.specs.Inner.Cells.{cell, flat, names_of};
-ghost use Rattle.content_build.specs.Inner.Entries.{row, entry_view, shape_view};
+ghost use Rattle.content_build.specs.Inner.Entries.{row, entry_view, sort_view};
 ghost use Rattle.content_build.specs.Inner.Forest as forest;
 ghost use Rattle.content_build.specs.Inner.Forest.{data_near, fields_near, no_key, pairs_near};
 ghost use Rattle.content_build.specs.Inner.Forest.{past};
@@ -17,7 +17,7 @@ ghost use Rattle.content_build.specs.Inner.Forest.{past_data, past_fields, plant
 ghost use Rattle.content_build.specs.Inner.Forest.{trees_near};
 ghost use Rattle.content_build.specs.Inner.Values.{grown_trees};
 
-use crate::node::{Entry, Node, Shape, leaf_value};
+use crate::node::{Entry, Node, Sort, leaf_value};
 use crate::parts::under;
 use content_ser::Head;
 use content_tree::{CowStr, Data, NamedData, NamedValue, Value};
@@ -144,30 +144,30 @@ fn add<'v>(grown: &mut Vec<Grown<'v>>, value: Value<'v>, size: usize) -> Result<
     Ok(())
 }
 
-/// What a struct or a variant of this shape holds, in this many entries.
+/// What a struct or a variant of this sort holds, in this many entries.
 #[inline(always)]
 fn held<'v>(
     alloc: Global,
     grown: &mut Vec<Grown<'v>>,
-    shape: Shape,
+    sort: Sort,
     size: usize,
 ) -> Result<Data<'v>, AllocError>
     ensures { IfOk result (λ held.
-        (tree_data_of held ≡ data_near (shape_view shape) size (grown_trees grown.old.items))
+        (tree_data_of held ≡ data_near (sort_view sort) size (grown_trees grown.old.items))
         × (grown_trees grown.new.items
-        ≡ past_data (shape_view shape) size (grown_trees grown.old.items))) }
+        ≡ past_data (sort_view sort) size (grown_trees grown.old.items))) }
 {
-    match shape {
-        Shape::Nothing => Ok(NamedData::Unit),
-        Shape::One => match grown.pop() {
+    match sort {
+        Sort::Nothing => Ok(NamedData::Unit),
+        Sort::One => match grown.pop() {
             None => Ok(NamedData::Unit),
             Some(Grown { value, .. }) => Ok(NamedData::NewType { value }),
         },
-        Shape::Many => {
+        Sort::Many => {
             let values = take_items(alloc, grown, size)?;
             Ok(NamedData::Tuple { values })
         }
-        Shape::Fields => {
+        Sort::Fields => {
             let fields = take_fields(alloc, grown, size)?;
             Ok(NamedData::Struct { fields })
         }
@@ -228,15 +228,15 @@ fn grow_map<'v>(alloc: Global, grown: &mut Vec<Grown<'v>>, size: usize) -> Resul
 fn grow_headed<'v>(
     alloc: Global,
     grown: &mut Vec<Grown<'v>>,
-    shape: Shape,
+    sort: Sort,
     head: Head,
     size: usize,
 ) -> Result<(), AllocError>
     ensures { IfOk result (λ _. grown_trees grown.new.items
-        ≡ plant (cell (cells.headed (shape_view shape) (names_of (head_of head))) size)
+        ≡ plant (cell (cells.headed (sort_view sort) (names_of (head_of head))) size)
         (grown_trees grown.old.items)) }
 {
-    let data = held(alloc, grown, shape, size.saturating_sub(1))?;
+    let data = held(alloc, grown, sort, size.saturating_sub(1))?;
     let value = under(alloc, head, data)?;
     add(grown, value, size)
 }
@@ -267,12 +267,12 @@ fn grow_one<'v>(alloc: Global, grown: &mut Vec<Grown<'v>>, next: Entry) -> Resul
         Node::Seq => grow_seq(alloc, grown, size),
         Node::Tuple => grow_tuple(alloc, grown, size),
         Node::Map => grow_map(alloc, grown, size),
-        Node::Struct(shape, name) => { grow_headed(alloc, grown, shape, Head::Struct(name), size) }
-        Node::Variant(shape, index, name, variant) => {
+        Node::Struct(sort, name) => { grow_headed(alloc, grown, sort, Head::Struct(name), size) }
+        Node::Variant(sort, index, name, variant) => {
             grow_headed(
                 alloc,
                 grown,
-                shape,
+                sort,
                 Head::Variant(name, index, variant),
                 size,
             )

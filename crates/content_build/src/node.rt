@@ -5,7 +5,7 @@ ghost use Rattle.content_tree.specs.Values.Value.{tree_of};
 ghost use Rattle.content_ser.specs.Calls.Head.{head_of};
 ghost use Rattle.content_build.specs.Inner.Cells as cells;
 ghost use Rattle.content_build.specs.Inner.Cells.{names_of};
-ghost use Rattle.content_build.specs.Inner.Entries.{leaf_view, node_view, shape_view};
+ghost use Rattle.content_build.specs.Inner.Entries.{leaf_view, node_view, sort_view};
 ghost use Rattle.content_build.specs.Inner.Forest.{leaf_tree};
 
 use content_ser::Head;
@@ -35,7 +35,7 @@ pub(crate) enum Leaf {
 
 /// What a struct or a variant holds.
 #[derive(Clone, Copy)]
-pub(crate) enum Shape {
+pub(crate) enum Sort {
     Nothing,
     One,
     Many,
@@ -50,8 +50,8 @@ pub(crate) enum Node {
     Seq,
     Tuple,
     Map,
-    Struct(Shape, &'static str),
-    Variant(Shape, u32, &'static str, &'static str),
+    Struct(Sort, &'static str),
+    Variant(Sort, u32, &'static str, &'static str),
     Key(&'static str),
 }
 
@@ -90,12 +90,12 @@ pub(crate) struct OpenHead {
 
 /// The node of a head that holds this.
 #[inline(always)]
-pub(crate) fn headed(shape: Shape, head: Head) -> Node
-    ensures { node_view result ≡ cells.headed (shape_view shape) (names_of (head_of head)) }
+pub(crate) fn headed(sort: Sort, head: Head) -> Node
+    ensures { node_view result ≡ cells.headed (sort_view sort) (names_of (head_of head)) }
 {
     match head {
-        Head::Struct(name) => Node::Struct(shape, name),
-        Head::Variant(name, index, variant) => Node::Variant(shape, index, name, variant),
+        Head::Struct(name) => Node::Struct(sort, name),
+        Head::Variant(name, index, variant) => Node::Variant(sort, index, name, variant),
     }
 }
 

@@ -11,7 +11,7 @@ ghost use Rattle.content_build.specs.Inner.Steps.{IsDue, IsIdle, Opens};
 ghost use Rattle.content_build.specs.Inner.Taken.{TakenTo};
 ghost use Rattle.content_build.specs.Inner.Tokens.{announcement_view, leaf_tree, token_view};
 
-use crate::node::{Entry, Leaf, Node, OpenHead, Shape, Waits, headed, number_leaf};
+use crate::node::{Entry, Leaf, Node, OpenHead, Sort, Waits, headed, number_leaf};
 use crate::parts::{Row, Wrap};
 use crate::refusal::{Refusal, Taken};
 use crate::settle::{close, settle};
@@ -57,7 +57,7 @@ fn whole_node(alloc: Global, whole: Whole<'_>) -> Result<Node, AllocError>
         Whole::Text(text) => Ok(Node::Leaf(Leaf::Text(String::from_str(alloc, text)?))),
         Whole::Bytes(bytes) => Ok(Node::Leaf(Leaf::Bytes(bytes.to_vec(alloc)?))),
         Whole::Absent => Ok(Node::Leaf(Leaf::Absent)),
-        Whole::Head(head) => Ok(headed(Shape::Nothing, head)),
+        Whole::Head(head) => Ok(headed(Sort::Nothing, head)),
     }
 }
 
@@ -220,7 +220,7 @@ pub(crate) fn step(
         Token::Leaf(whole) => put(alloc, entries, heads, whole),
         Token::Wrap(wrap) => match wrap {
             Wrap::Present => open(entries, heads, Node::Present, Waits::Child),
-            Wrap::Head(head) => open(entries, heads, headed(Shape::One, head), Waits::Child),
+            Wrap::Head(head) => open(entries, heads, headed(Sort::One, head), Waits::Child),
         },
         Token::Row(row) => match row {
             Row::Seq => open(entries, heads, Node::Seq, Waits::InElements),
@@ -229,15 +229,13 @@ pub(crate) fn step(
                 open(
                     entries,
                     heads,
-                    headed(Shape::Many, head),
+                    headed(Sort::Many, head),
                     Waits::InTupleFields,
                 )
             }
         },
         Token::Map => open(entries, heads, Node::Map, Waits::InMap),
-        Token::Record(head) => {
-            open(entries, heads, headed(Shape::Fields, head), Waits::InRecord)
-        }
+        Token::Record(head) => { open(entries, heads, headed(Sort::Fields, head), Waits::InRecord) }
         Token::Item(item) => announce(entries, heads, item),
         Token::End => end(entries, heads),
     }

@@ -19,12 +19,12 @@ pub data Names : Type 0 where
   deriving IsSet as Names-set
 
 -- what a struct or a variant holds
-pub data Shape : Type 0 where
-  nothing : Shape
-  one : Shape
-  many : Shape
-  fields : Shape
-  deriving IsSet as Shape-set
+pub data Sort : Type 0 where
+  nothing : Sort
+  one : Sort
+  many : Sort
+  fields : Sort
+  deriving IsSet as Sort-set
 
 -- a node that has no children and no names
 pub data Leaf : Type 0 where
@@ -44,7 +44,7 @@ pub data Node : Type 0 where
   seq : Node
   tuple : Node
   map : Node
-  headed : Shape → Names → Node
+  headed : Sort → Names → Node
   key : Text → Node
   deriving IsSet as Node-set
 
@@ -62,11 +62,11 @@ abbrev pub under : Node → List Cell → List Cell
 under node inside = cell node (suc (length inside)) ∷ inside
 
 -- what a struct or a variant holds
-abbrev pub shape_of : TreeData → Shape
-shape_of tree.no_data = nothing
-shape_of (tree.one t) = one
-shape_of (tree.many ts) = many
-shape_of (tree.named fs) = fields
+abbrev pub sort_of : TreeData → Sort
+sort_of tree.no_data = nothing
+sort_of (tree.one t) = one
+sort_of (tree.many ts) = many
+sort_of (tree.named fs) = fields
 
 -- the tape of a tree
 abbrev mutual
@@ -81,8 +81,8 @@ abbrev mutual
   flat (tree.map ps) = under map (flat_pairs ps)
   flat tree.absent = cell (leaf absent) 1 ∷ []
   flat (tree.present t) = under present (flat t)
-  flat (tree.structure name d) = under (headed (shape_of d) (of_struct name)) (flat_data d)
-  flat (tree.enumeration name i variant d) = under (headed (shape_of d) (of_variant name i variant)) (flat_data d)
+  flat (tree.structure name d) = under (headed (sort_of d) (of_struct name)) (flat_data d)
+  flat (tree.enumeration name i variant d) = under (headed (sort_of d) (of_variant name i variant)) (flat_data d)
   flat (tree.tuple ts) = under tuple (flat_trees ts)
 
   -- of what a struct or a variant holds

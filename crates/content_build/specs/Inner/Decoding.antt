@@ -52,17 +52,17 @@ head_from (of_variant n i v) = calls.of_variant n.content i v.content
 
 -- the head of a node
 abbrev pub head_at : Cell → Head
-head_at (cell (headed shape names) n) = head_from names
+head_at (cell (headed sort names) n) = head_from names
 head_at c = calls.of_struct []
 
 -- what stands around one child
 abbrev pub wrap_at : Cell → Wrap
-wrap_at (cell (headed shape names) n) = token.in_head (head_from names)
+wrap_at (cell (headed sort names) n) = token.in_head (head_from names)
 wrap_at c = token.in_some
 
 -- what holds items by place
 abbrev pub row_at : Cell → Row
-row_at (cell (headed shape names) n) = token.row_head (head_from names)
+row_at (cell (headed sort names) n) = token.row_head (head_from names)
 row_at (cell tuple n) = token.row_tuple
 row_at c = token.row_seq
 

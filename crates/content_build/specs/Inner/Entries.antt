@@ -7,8 +7,8 @@ use Rattle.content_build.specs.Inner.Cells as cells
 use Rattle.content_build.specs.Inner.Cells.{Cell, cell, Open, opened, Wait}
 use Rattle.content_build.specs.declared.node.Leaf.{Leaf}
 use Rattle.content_build.specs.declared.node.Leaf.TheVariants as leaf
-use Rattle.content_build.specs.declared.node.Shape.{Shape}
-use Rattle.content_build.specs.declared.node.Shape.TheVariants as shape
+use Rattle.content_build.specs.declared.node.Sort.{Sort}
+use Rattle.content_build.specs.declared.node.Sort.TheVariants as sort
 use Rattle.content_build.specs.declared.node.Node.{Node}
 use Rattle.content_build.specs.declared.node.Node.TheVariants as node
 use Rattle.content_build.specs.declared.node.Entry.{Entry}
@@ -35,11 +35,11 @@ leaf_view (leaf.Text t) = cells.text (owned_text (string_bytes t))
 leaf_view (leaf.Bytes t) = cells.octets (owned_text t.items)
 
 -- what a struct or a variant holds
-abbrev pub shape_view : Shape → cells.Shape
-shape_view shape.Nothing = cells.nothing
-shape_view shape.One = cells.one
-shape_view shape.Many = cells.many
-shape_view shape.Fields = cells.fields
+abbrev pub sort_view : Sort → cells.Sort
+sort_view sort.Nothing = cells.nothing
+sort_view sort.One = cells.one
+sort_view sort.Many = cells.many
+sort_view sort.Fields = cells.fields
 
 -- a node, or a key
 abbrev pub node_view : Node → cells.Node
@@ -48,8 +48,8 @@ node_view node.Present = cells.present
 node_view node.Seq = cells.seq
 node_view node.Tuple = cells.tuple
 node_view node.Map = cells.map
-node_view (node.Struct s n) = cells.headed (shape_view s) (cells.of_struct (static_name n.now))
-node_view (node.Variant s i n v) = cells.headed (shape_view s) (cells.of_variant (static_name n.now) i (static_name v.now))
+node_view (node.Struct s n) = cells.headed (sort_view s) (cells.of_struct (static_name n.now))
+node_view (node.Variant s i n v) = cells.headed (sort_view s) (cells.of_variant (static_name n.now) i (static_name v.now))
 node_view (node.Key k) = cells.key (static_name k.now)
 
 -- an entry

@@ -5,7 +5,7 @@ use Rattle.content_tree.specs.Values.Tree as tree
 use Rattle.content_tree.specs.Values.Tree.{Tree, TreeData, Trees, no_trees, tree_then, Pairs}
 use Rattle.content_tree.specs.Values.Tree.{no_pairs, pair_then, Fields, no_fields, field_then}
 use Rattle.content_build.specs.Inner.Cells as cells
-use Rattle.content_build.specs.Inner.Cells.{Names, of_struct, of_variant, Shape, Leaf, Cell, cell}
+use Rattle.content_build.specs.Inner.Cells.{Names, of_struct, of_variant, Sort, Leaf, Cell, cell}
 
 -- a tree with its key, which is empty where it is no field, and the number of its cells
 pub data Grown : Type 0 where
@@ -58,7 +58,7 @@ past_fields m [] = []
 past_fields m (grown k t n ∷ f) = if nat_eq m 0 then grown k t n ∷ f else past_fields ((m - n) - 1) f
 
 -- what a struct or a variant holds
-abbrev pub data_near : Shape → ℕ → List Grown → TreeData
+abbrev pub data_near : Sort → ℕ → List Grown → TreeData
 data_near cells.nothing m f = tree.no_data
 data_near cells.one m [] = tree.no_data
 data_near cells.one m (grown k t n ∷ f) = tree.one t
@@ -66,7 +66,7 @@ data_near cells.many m f = tree.many (trees_near m f)
 data_near cells.fields m f = tree.named (fields_near m f)
 
 -- the trees after it
-abbrev pub past_data : Shape → ℕ → List Grown → List Grown
+abbrev pub past_data : Sort → ℕ → List Grown → List Grown
 past_data cells.nothing m f = f
 past_data cells.one m [] = []
 past_data cells.one m (g ∷ f) = f

@@ -50,7 +50,7 @@ Text-set a b p q = λ i j. record {
 }
 
 pub cells_set : IsSet (List Cell)
-cells_set = is_set (cells.Cell-set (cells.Node-set (cells.Leaf-set Bool-set (Coded-set number_row.the_row.coded) ℕ_set Text-set) cells.Shape-set (cells.Names-set Text-set ℕ_set) Text-set) ℕ_set)
+cells_set = is_set (cells.Cell-set (cells.Node-set (cells.Leaf-set Bool-set (Coded-set number_row.the_row.coded) ℕ_set Text-set) cells.Sort-set (cells.Names-set Text-set ℕ_set) Text-set) ℕ_set)
 
 -- whether it is the call of elements
 abbrev is_element : ItemCall → Bool
