@@ -125,7 +125,7 @@ impl<'v> Builder<'v> {
     ///
     /// It answers `Failed` where the builder has failed, and `Unfinished` where the calls spell no
     /// tree yet. Memory is taken for the tree's vectors, each for the number of its items, and for
-    /// its boxes; where an allocation failed: `OutOfMemory`. No depth of the tree takes stack.
+    /// its boxes; where an allocation failed: `OutOfMemory`. It doesn't call itself.
     #[tactic(auto, unfolding(crate::specs::Builder::seen_of))]
     pub fn finish(self) -> Result<Value<'v>>
         ensures value { Finishes (seen_of self.entry).failed
