@@ -6,13 +6,12 @@ use Rattle.std.proofs.Math.Seq.{take-append_seam, take-append-add, drop-append_s
 use Rattle.std.proofs.Math.Seq.{drop-append-add, get_or-append_seam}
 use Rattle.content_tree.specs.Values.Text.{Text, static_name}
 use Rattle.content_tree.specs.Values.Tree as tree
-use Rattle.content_tree.specs.Values.Tree.{Tree, TreeData, Trees, no_trees, tree_then, Pairs}
+use Rattle.content_tree.specs.Values.Tree.{Tree, Trees, no_trees, tree_then, Pairs}
 use Rattle.content_tree.specs.Values.Tree.{no_pairs, pair_then, Fields, no_fields, field_then}
 use Rattle.content_ser.specs.Calls.Head as calls
-use Rattle.content_ser.specs.Calls.Head.{Head, headed as headed_tree}
+use Rattle.content_ser.specs.Calls.Head.{Head}
 use Rattle.content_ser.specs.Grammar.Token as token
 use Rattle.content_ser.specs.Grammar.Token.{Wrap, wrapped, Row, row_tree, record_tree, ItemCall}
-use Rattle.content_ser.specs.Grammar.Token.{item_call}
 use Rattle.content_build.specs.Partial as partial
 use Rattle.content_build.specs.Partial.{Partial, Slot, Compound, fill, push_tree, push_pair}
 use Rattle.content_build.specs.Partial.{push_field, set_last, closed}

@@ -14,10 +14,9 @@ use Rattle.content_build.specs.Partial as partial
 use Rattle.content_build.specs.Partial.{Partial, Slot, Compound, due, between, done, fill, begin}
 use Rattle.content_build.specs.Partial.{step_token, closed, next_item, open_count}
 use Rattle.content_build.specs.Inner.Cells as cells
-use Rattle.content_build.specs.Inner.Cells.{Node, Cell, cell, Wait, Open, opened, flat, flat_trees}
-use Rattle.content_build.specs.Inner.Cells.{flat_pairs, flat_fields, slots_cells, slots_opens}
+use Rattle.content_build.specs.Inner.Cells.{Node, Cell, cell, Wait, Open, opened, flat}
+use Rattle.content_build.specs.Inner.Cells.{flat_fields, slots_cells, slots_opens}
 use Rattle.content_build.specs.Inner.Cells.{slot_wait, wrap_node, row_node, record_node, Stood}
-use Rattle.content_build.specs.Inner.Cells.{last_value}
 use Rattle.content_build.specs.Inner.Entries.{entry_view, node_view, wait_view, row}
 use Rattle.content_build.specs.Inner.Entries.{opens_view}
 use Rattle.content_build.specs.Inner.Sound.{meaning, IsSound, Stands, IsWaiting, IsKept, viewed}

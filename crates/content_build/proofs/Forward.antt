@@ -5,8 +5,8 @@ use Rattle.content_tree.specs.Values.Tree.{Tree, Trees, no_trees, tree_then, Pai
 use Rattle.content_tree.specs.Values.Tree.{pair_then, Fields, no_fields, field_then}
 use Rattle.content_tree.specs.Values.Text.{Text, static_name}
 use Rattle.content_ser.specs.Grammar.Token as token
-use Rattle.content_ser.specs.Grammar.Token.{Token, tokens, leaf, wrap, open_row, open_map}
-use Rattle.content_ser.specs.Grammar.Token.{open_record, finish, Wrap, wrapped, Row, item_call}
+use Rattle.content_ser.specs.Grammar.Token.{Token}
+use Rattle.content_ser.specs.Grammar.Token.{Row, item_call}
 use Rattle.content_ser.specs.Grammar.Token.{row_tree, record_tree, ItemCall}
 use Rattle.content_ser.specs.Calls.Head.{Head}
 use Rattle.content_ser.specs.Grammar.Spells as spells

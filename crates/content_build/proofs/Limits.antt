@@ -16,7 +16,7 @@ use Rattle.content_build.specs.Partial as partial
 use Rattle.content_build.specs.Partial.{Partial, Slot, due, between, done, in_row, in_map}
 use Rattle.content_build.specs.Partial.{in_record}
 use Rattle.content_build.specs.Partial.{child, element, key, value, entry_key, entry_value}
-use Rattle.content_build.specs.Partial.{field_value, fill, closed, next_item, step_token}
+use Rattle.content_build.specs.Partial.{field_value, fill, next_item, step_token}
 use Rattle.content_build.specs.Partial.{open_count}
 use Rattle.content_build.proofs.Forward.{run_tokens, run-spells}
 use Rattle.content_build.proofs.Backward.{run-of_kinds, whole_from_run as spelled_from_run}

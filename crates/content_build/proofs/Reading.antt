@@ -7,7 +7,7 @@ use Rattle.content_tree.specs.Values.Tree as tree
 use Rattle.content_tree.specs.Values.Tree.{Tree, TreeData, Trees, no_trees, tree_then, Pairs}
 use Rattle.content_tree.specs.Values.Tree.{no_pairs, pair_then, Fields, no_fields, field_then}
 use Rattle.content_build.specs.Inner.Cells as cells
-use Rattle.content_build.specs.Inner.Cells.{Names, of_struct, of_variant, Node, key, Cell, cell}
+use Rattle.content_build.specs.Inner.Cells.{Names, of_struct, of_variant, Cell}
 use Rattle.content_build.specs.Inner.Cells.{under}
 use Rattle.content_build.specs.Inner.Cells.{flat, flat_data, flat_trees, flat_pairs, flat_fields}
 use Rattle.content_build.specs.Inner.Cells.{headed, sort_of}

@@ -1,6 +1,6 @@
 -- What contracts see of a `Builder`.
 use Rattle.std.specs.Prelude.{◌≡◌, Bool, true, false, List, [], ◌∷◌, ◌++◌, Option, Some, None}
-use Rattle.std.specs.Prelude.{ℕ, Result, Ok, Err, IsErrAnd, option_and_then}
+use Rattle.std.specs.Prelude.{ℕ, Result, Ok, Err, IsErrAnd}
 use Rattle.content_tree.specs.Errors.Kind.{kind_of, IsOutOfMemory}
 use Rattle.content_tree.specs.Values.Value.{tree_of}
 use Rattle.content_tree.specs.declared.error.Error.{Error}

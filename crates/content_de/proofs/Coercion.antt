@@ -98,7 +98,7 @@ coercion_kept = (
     struct = λ name. kept _ _ _ (λ s. mapped_twice _ coerced_map (struct_from name s.origin));
     enumeration = λ name. kept _ _ _ (λ s. enum_moved name s.flags s.origin);
     ignored = λ s a e. e;
-  any = kept _ _ _ (λ s. ap taken (shape_moved s.flags s.origin));
+    any = kept _ _ _ (λ s. ap taken (shape_moved s.flags s.origin));
   },
   record {
     unit = λ v a e. e;

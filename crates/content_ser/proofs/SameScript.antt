@@ -1,6 +1,5 @@
 -- A tree of static names is its own loose form; which trees are sent by the same calls.
-use Rattle.std.proofs.Common.{◌≡◌, ℕ, Bool, true, ◌&&◌, List, refl, sym, ap, subst, ◌∙◌, cond}
-use Rattle.std.specs.Prelude.{◌↔◌}
+use Rattle.std.proofs.Common.{◌≡◌, ℕ, true, ◌&&◌, refl, sym, ap, subst, ◌∙◌, cond}
 use Rattle.content_tree.specs.Values.Text.{Text, to_owned}
 use Rattle.content_tree.specs.Values.Tree as tree
 use Rattle.content_tree.specs.Values.Tree.{Tree, TreeData, Trees, Pairs, Fields, owned, owned_data}
@@ -9,16 +8,15 @@ use Rattle.content_tree.specs.Values.Tree.{at_texts_fields, at_texts_data}
 use Rattle.content_ser.specs.Calls.Event as event
 use Rattle.content_ser.specs.Calls.Event.{Event}
 use Rattle.content_ser.specs.Calls.Head.{Head, of_struct, of_variant}
-use Rattle.content_ser.specs.Scripts.Script.{Script, call_then, done, and_then}
 use Rattle.content_ser.specs.Sending.Canonical.{as_built, to_static, IsCanonical, CanonicalOnce}
 use Rattle.content_ser.specs.Sending.Canonical.{StaticIsCanonical}
-use Rattle.content_ser.specs.Sending.Loose.{loose, loose_struct, loose_variant, loose_data}
+use Rattle.content_ser.specs.Sending.Loose.{loose, loose_variant, loose_data}
 use Rattle.content_ser.specs.Sending.Loose.{loose_each, loose_pairs, loose_fields}
 use Rattle.content_ser.specs.Sending.StaticNames.{IsStatic, IsAny, EachDataName, EachItemName}
 use Rattle.content_ser.specs.Sending.StaticNames.{EachPairName, EachFieldName, HasStaticNames}
 use Rattle.content_ser.specs.Sending.StaticNames.{HasStaticKeys}
 use Rattle.content_ser.specs.Sending.TreeScript.{script_of, script_of_data, script_of_each}
-use Rattle.content_ser.specs.Sending.TreeScript.{script_of_pairs, script_of_fields, key_script}
+use Rattle.content_ser.specs.Sending.TreeScript.{script_of_pairs, script_of_fields}
 use Rattle.content_ser.specs.Sending.TreeScript.{count, count_pairs, count_fields}
 use Rattle.content_ser.proofs.Naming.{loose_names, built_owned}
 use Rattle.content_ser.proofs.Twice.{twice}

@@ -1,8 +1,7 @@
 //! What the script of a value says of it.
 
-ghost use Rattle.content_ser.specs.Sending.Canonical.{
-    LooseOnce, ScriptSpells, CanonicalOnce, StaticIsCanonical,
-};
+ghost use Rattle.content_ser.specs.Sending.Canonical.{LooseOnce, ScriptSpells, CanonicalOnce};
+ghost use Rattle.content_ser.specs.Sending.Canonical.{StaticIsCanonical};
 
 /// Where the script of a tree has no stop, its calls spell the tree, its texts owned and its names
 /// static.

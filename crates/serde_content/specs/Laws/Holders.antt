@@ -7,7 +7,6 @@ use Rattle.content_tree.specs.Values.Tree as tree
 use Rattle.content_tree.specs.Values.Tree.{Tree, Trees}
 use Rattle.content_tree.specs.Errors.Cause.{Cause}
 use Rattle.content_ser.specs.Grammar.Token as token
-use Rattle.content_ser.specs.Grammar.Token.{ItemCall}
 use Rattle.content_ser.specs.Grammar.Spells.{spells_row}
 use Rattle.content_ser.specs.Scripts.Standard.{ScriptOf, option_script, items_script, seq_script}
 use Rattle.content_de.specs.Sources.Origin.{Origin, of_tree, of_identifier, Flags, tree_under}

@@ -13,14 +13,12 @@ use Rattle.content_tree.specs.Values.Ranges as kind
 use Rattle.content_tree.specs.Values.Ranges.{NumberKind, in_range, is_of_kind, number_value}
 use Rattle.content_tree.specs.Values.Text.{owned_text}
 use Rattle.content_tree.specs.Values.Tree as tree
-use Rattle.content_tree.specs.Values.Tree.{Tree}
 use Rattle.content_tree.specs.Errors.Cause.{Cause}
 use Rattle.content_tree.specs.declared.number.Number.{Number}
 use Rattle.content_tree.specs.declared.number.Number.TheVariants as num
 use Rattle.content_tree.specs.contracts.number.NumberPartialEq.TheImpl as number_eq
 use Rattle.content_tree.proofs.DerivedTies.{equal_numbers}
 use Rattle.content_ser.specs.Calls.Event as event
-use Rattle.content_ser.specs.Calls.Event.{Event}
 use Rattle.content_ser.specs.Scripts.Standard.{only}
 use Rattle.content_de.specs.Sources.Origin.{Origin, of_tree, Flags, tree_under}
 use Rattle.content_de.specs.Outcomes.{Outcome, taken, refused, misfit, IsRefused, IsTaken, refusal_of}

@@ -8,7 +8,7 @@ use Rattle.std.specs.List.Sorted.{IsStrictlySortedBy}
 use Rattle.std.specs.Map.{keys_of}
 use Rattle.std.specs.Ordering.{is_eq, ordering_reverse}
 use Rattle.std.specs.declared.cmp.Ordering.{Ordering}
-use Rattle.std.specs.declared.cmp.Ordering.TheVariants.{Less, Equal, Greater}
+use Rattle.std.specs.declared.cmp.Ordering.TheVariants.{Less, Equal}
 use Rattle.std.proofs.Common.{ap, subst, sym, ◌∙◌}
 use Rattle.std.proofs.lemmas.Cmp.{alike_right}
 use Rattle.std.proofs.lemmas.List.{append_assoc, append-nil}
@@ -17,7 +17,7 @@ use Rattle.content_tree.specs.Values.Tree.{Tree, Pairs}
 use Rattle.content_ser.specs.Calls.Event as event
 use Rattle.content_ser.specs.Grammar.Token as token
 use Rattle.content_ser.specs.Grammar.Token.{Token}
-use Rattle.content_ser.specs.Grammar.Spells.{MapItem, entry, value_among, pairs, Spells, SpellsMapItems}
+use Rattle.content_ser.specs.Grammar.Spells.{MapItem, entry, value_among, pairs, SpellsMapItems}
 use Rattle.content_ser.specs.Grammar.Spells.{spells_map, items_end, items_entry}
 use Rattle.content_ser.specs.Scripts.Script.{Script, done, call_then, and_then}
 use Rattle.content_ser.specs.Scripts.Standard.{ScriptOf, entries_script, map_script}

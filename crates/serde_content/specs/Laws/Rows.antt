@@ -1,7 +1,7 @@
 -- Values by place come back where each part does.
 use Rattle.std.specs.Prelude.{◌≡◌, ℕ, Bool, true, false, ◌&&◌, List, Option, refl, ⊤}
 use Rattle.content_tree.specs.Values.Tree as tree
-use Rattle.content_tree.specs.Values.Tree.{Tree, Trees}
+use Rattle.content_tree.specs.Values.Tree.{Trees}
 use Rattle.content_tree.specs.Errors.Cause.{Cause}
 use Rattle.content_ser.specs.Calls.Event as event
 use Rattle.content_ser.specs.Calls.Event.{Event}

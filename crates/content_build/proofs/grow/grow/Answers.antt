@@ -3,7 +3,7 @@ use Rattle.content_tree.specs.Values.Tree.{Tree}
 use Rattle.content_build.specs.Inner.Cells.{flat}
 use Rattle.content_build.specs.Inner.Entries.{row, entry_view}
 use Rattle.content_build.specs.Inner.Forest as forest
-use Rattle.content_build.specs.Inner.Forest.{read, plant, no_key}
+use Rattle.content_build.specs.Inner.Forest.{read, no_key}
 use Rattle.content_build.specs.Inner.Values.{grown_trees}
 use Rattle.content_build.specs.declared.node.Entry.{Entry}
 use Rattle.content_build.specs.declared.grow.Grown.{Grown}
