@@ -3,7 +3,7 @@ use Rattle.std.proofs.Common.{◌≡◌, ℕ, true, ◌&&◌, refl, sym, ap, sub
 use Rattle.content_tree.specs.Values.Text.{Text, to_owned}
 use Rattle.content_tree.specs.Values.Tree as tree
 use Rattle.content_tree.specs.Values.Tree.{Tree, TreeData, Trees, Pairs, Fields, owned, owned_data}
-use Rattle.content_tree.specs.Values.Tree.{unmarked, unmarked_data, at_texts_each, at_texts_pairs}
+use Rattle.content_tree.specs.Values.Tree.{unmarked, at_texts, at_texts_each, at_texts_pairs}
 use Rattle.content_tree.specs.Values.Tree.{at_texts_fields, at_texts_data}
 use Rattle.content_ser.specs.Calls.Event as event
 use Rattle.content_ser.specs.Calls.Event.{Event}
@@ -121,74 +121,47 @@ mutual
   owned_fields (tree.field_then k t fs) = rw (owned_script t, owned_fields fs)
 
 mutual
-  -- what calls build of a tree rests on no mark in it
-  pub built_unmarked : (t : Tree) → as_built (unmarked t) ≡ as_built t
-  built_unmarked tree.unit = refl
-  built_unmarked (tree.boolean b) = refl
-  built_unmarked (tree.number n) = refl
-  built_unmarked (tree.character c) = refl
-  built_unmarked (tree.text t) = refl
-  built_unmarked (tree.octets t) = refl
-  built_unmarked (tree.seq ts) = ap tree.seq (built_items ts)
-  built_unmarked (tree.map ps) = ap tree.map (built_pairs ps)
-  built_unmarked tree.absent = refl
-  built_unmarked (tree.present t) = ap tree.present (built_unmarked t)
-  built_unmarked (tree.structure n p) = ap (tree.structure (to_static n)) (built_payload p)
-  built_unmarked (tree.enumeration n i v p) = ap (tree.enumeration (to_static n) i (to_static v)) (built_payload p)
-  built_unmarked (tree.tuple ts) = ap tree.tuple (built_items ts)
+  -- two passes over texts and names are one
+  pub fused : (f g h k : Text → Text) (t : Tree) → at_texts f g (at_texts h k t) ≡ at_texts (λ x. f (h x)) (λ x. g (k x)) t
+  fused f g h k tree.unit = refl
+  fused f g h k (tree.boolean b) = refl
+  fused f g h k (tree.number n) = refl
+  fused f g h k (tree.character c) = refl
+  fused f g h k (tree.text t) = refl
+  fused f g h k (tree.octets t) = refl
+  fused f g h k (tree.seq ts) = ap tree.seq (fused_each f g h k ts)
+  fused f g h k (tree.map ps) = ap tree.map (fused_pairs f g h k ps)
+  fused f g h k tree.absent = refl
+  fused f g h k (tree.present t) = ap tree.present (fused f g h k t)
+  fused f g h k (tree.structure n p) = ap (tree.structure (g (k n))) (fused_data f g h k p)
+  fused f g h k (tree.enumeration n i v p) = ap (tree.enumeration (g (k n)) i (g (k v))) (fused_data f g h k p)
+  fused f g h k (tree.tuple ts) = ap tree.tuple (fused_each f g h k ts)
 
-  built_payload : (p : TreeData) → at_texts_data to_owned to_static (unmarked_data p) ≡ at_texts_data to_owned to_static p
-  built_payload tree.no_data = refl
-  built_payload (tree.one t) = ap tree.one (built_unmarked t)
-  built_payload (tree.many ts) = ap tree.many (built_items ts)
-  built_payload (tree.named fs) = ap tree.named (built_fields fs)
+  fused_data : (f g h k : Text → Text) (p : TreeData) → at_texts_data f g (at_texts_data h k p) ≡ at_texts_data (λ x. f (h x)) (λ x. g (k x)) p
+  fused_data f g h k tree.no_data = refl
+  fused_data f g h k (tree.one t) = ap tree.one (fused f g h k t)
+  fused_data f g h k (tree.many ts) = ap tree.many (fused_each f g h k ts)
+  fused_data f g h k (tree.named fs) = ap tree.named (fused_fields f g h k fs)
 
-  built_items : (ts : Trees) → at_texts_each to_owned to_static (at_texts_each to_owned to_owned ts) ≡ at_texts_each to_owned to_static ts
-  built_items tree.no_trees = refl
-  built_items (tree.tree_then t ts) = rw (built_unmarked t, built_items ts)
+  fused_each : (f g h k : Text → Text) (ts : Trees) → at_texts_each f g (at_texts_each h k ts) ≡ at_texts_each (λ x. f (h x)) (λ x. g (k x)) ts
+  fused_each f g h k tree.no_trees = refl
+  fused_each f g h k (tree.tree_then t ts) = rw (fused f g h k t, fused_each f g h k ts)
 
-  built_pairs : (ps : Pairs) → at_texts_pairs to_owned to_static (at_texts_pairs to_owned to_owned ps) ≡ at_texts_pairs to_owned to_static ps
-  built_pairs tree.no_pairs = refl
-  built_pairs (tree.pair_then k t ps) = rw (built_unmarked k, built_unmarked t, built_pairs ps)
+  fused_pairs : (f g h k : Text → Text) (ps : Pairs) → at_texts_pairs f g (at_texts_pairs h k ps) ≡ at_texts_pairs (λ x. f (h x)) (λ x. g (k x)) ps
+  fused_pairs f g h k tree.no_pairs = refl
+  fused_pairs f g h k (tree.pair_then l t ps) = rw (fused f g h k l, fused f g h k t, fused_pairs f g h k ps)
 
-  built_fields : (fs : Fields) → at_texts_fields to_owned to_static (at_texts_fields to_owned to_owned fs) ≡ at_texts_fields to_owned to_static fs
-  built_fields tree.no_fields = refl
-  built_fields (tree.field_then k t fs) = rw (built_unmarked t, built_fields fs)
+  fused_fields : (f g h k : Text → Text) (fs : Fields) → at_texts_fields f g (at_texts_fields h k fs) ≡ at_texts_fields (λ x. f (h x)) (λ x. g (k x)) fs
+  fused_fields f g h k tree.no_fields = refl
+  fused_fields f g h k (tree.field_then l t fs) = rw (fused f g h k t, fused_fields f g h k fs)
 
-mutual
-  -- nor does it matter for marks taken off whether texts were made owned before
-  pub unmarked_owned : (t : Tree) → unmarked (owned t) ≡ unmarked t
-  unmarked_owned tree.unit = refl
-  unmarked_owned (tree.boolean b) = refl
-  unmarked_owned (tree.number n) = refl
-  unmarked_owned (tree.character c) = refl
-  unmarked_owned (tree.text t) = refl
-  unmarked_owned (tree.octets t) = refl
-  unmarked_owned (tree.seq ts) = ap tree.seq (unmarked_items ts)
-  unmarked_owned (tree.map ps) = ap tree.map (unmarked_pairs ps)
-  unmarked_owned tree.absent = refl
-  unmarked_owned (tree.present t) = ap tree.present (unmarked_owned t)
-  unmarked_owned (tree.structure n p) = ap (tree.structure (to_owned n)) (unmarked_payload p)
-  unmarked_owned (tree.enumeration n i v p) = ap (tree.enumeration (to_owned n) i (to_owned v)) (unmarked_payload p)
-  unmarked_owned (tree.tuple ts) = ap tree.tuple (unmarked_items ts)
+-- what calls build of a tree rests on no mark in it
+pub built_unmarked : (t : Tree) → as_built (unmarked t) ≡ as_built t
+built_unmarked = fused to_owned to_static to_owned to_owned
 
-  unmarked_payload : (p : TreeData) → unmarked_data (owned_data p) ≡ unmarked_data p
-  unmarked_payload tree.no_data = refl
-  unmarked_payload (tree.one t) = ap tree.one (unmarked_owned t)
-  unmarked_payload (tree.many ts) = ap tree.many (unmarked_items ts)
-  unmarked_payload (tree.named fs) = ap tree.named (unmarked_fields fs)
-
-  unmarked_items : (ts : Trees) → at_texts_each to_owned to_owned (at_texts_each to_owned (λ n. n) ts) ≡ at_texts_each to_owned to_owned ts
-  unmarked_items tree.no_trees = refl
-  unmarked_items (tree.tree_then t ts) = rw (unmarked_owned t, unmarked_items ts)
-
-  unmarked_pairs : (ps : Pairs) → at_texts_pairs to_owned to_owned (at_texts_pairs to_owned (λ n. n) ps) ≡ at_texts_pairs to_owned to_owned ps
-  unmarked_pairs tree.no_pairs = refl
-  unmarked_pairs (tree.pair_then k t ps) = rw (unmarked_owned k, unmarked_owned t, unmarked_pairs ps)
-
-  unmarked_fields : (fs : Fields) → at_texts_fields to_owned to_owned (at_texts_fields to_owned (λ n. n) fs) ≡ at_texts_fields to_owned to_owned fs
-  unmarked_fields tree.no_fields = refl
-  unmarked_fields (tree.field_then k t fs) = rw (unmarked_owned t, unmarked_fields fs)
+-- nor does it matter for marks taken off whether texts were made owned before
+pub unmarked_owned : (t : Tree) → unmarked (owned t) ≡ unmarked t
+unmarked_owned = fused to_owned to_owned to_owned (λ n. n)
 
 -- canonical forms that are equal but for marks are sent by the same calls
 pub same_script : (t u c d : Tree) → IsCanonical t c → IsCanonical u d → unmarked c ≡ unmarked d
