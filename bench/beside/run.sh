@@ -13,32 +13,18 @@ mkdir -p "$2"
 room=$(cd "$2" && pwd)
 kit=$(dirname "$(rt doc)")
 
-# Ours: a copy of the repository with one crate more, a static library with a mark between phases.
-rsync -a --delete --exclude out --exclude .git --exclude /crates/content_port "$top/" "$room/ours/"
+# shellcheck source=bench/common.sh
+. "$top/bench/common.sh"
+
+# Ours: a static library with a mark between phases.
+place_ours content_port "$here/content_port" \
+    'content_port staticlib: content_build content_de content_ser content_tree'
 port=$room/ours/crates/content_port
-rsync -a --delete --exclude out "$here/content_port/" "$port/"
-find "$port" -name '*.in' | while read -r file; do mv "$file" "${file%.in}"; done
-rm -rf "$room/ours/bench"
-echo 'content_port staticlib: content_build content_de content_ser content_tree' \
-    >> "$room/ours/crates.txt"
-[ -d "$room/ours/.git" ] || git -C "$room/ours" init -q
 (cd "$port" && RT_ALLOW_C=content_port rt lib) > "$room/ours.log" 2>&1 \
     || { tail -n 5 "$room/ours.log"; exit 1; }
 
 # The crate, and a program that runs both.
-rsync -a "$crate/" "$room/serde-content/"
-cp "$here/serde-content.toml" "$room/serde-content/Cargo.toml"
-rsync -a --exclude target "$here/driver/" "$room/driver/"
-registry=$(dpkg -L librust-serde-dev | grep -m1 '/cargo/registry$')
-mkdir -p "$room/driver/.cargo"
-cat > "$room/driver/.cargo/config.toml" <<CONFIG
-[source.crates-io]
-replace-with = "debian"
-[source.debian]
-directory = "$registry"
-[net]
-offline = true
-CONFIG
+place_original "$crate" "$here/driver"
 cd "$room/driver"
 touch build.rs
 # Rattle's code is for x86-64-v2.

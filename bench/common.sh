@@ -1,0 +1,35 @@
+# shellcheck shell=bash
+# What the measurements do alike; they source it. Both work in the folder $room, from the top of the
+# repository in $top.
+
+# place_ours CRATE SOURCE LINE: a copy of the repository with one crate more, from the folder SOURCE,
+# whose line of crates.txt is LINE. Files there end in .in, since the gate stops at a .rt file that
+# no check reads.
+place_ours() {
+    local crate=$room/ours/crates/$1
+    rsync -a --delete --exclude out --exclude .git --exclude "/crates/$1" "$top/" "$room/ours/"
+    rsync -a --delete --exclude out "$2/" "$crate/"
+    find "$crate" -name '*.in' | while read -r file; do mv "$file" "${file%.in}"; done
+    rm -rf "$room/ours/bench"
+    echo "$3" >> "$room/ours/crates.txt"
+    [ -d "$room/ours/.git" ] || git -C "$room/ours" init -q
+}
+
+# place_original CRATE DRIVER: the Rust crate, and a program over it that finds Serde where Debian's
+# packages put it.
+place_original() {
+    local registry
+    rsync -a "$1/" "$room/serde-content/"
+    cp "$top/bench/beside/serde-content.toml" "$room/serde-content/Cargo.toml"
+    rsync -a --exclude target "$2/" "$room/driver/"
+    registry=$(dpkg -L librust-serde-dev | grep -m1 '/cargo/registry$')
+    mkdir -p "$room/driver/.cargo"
+    cat > "$room/driver/.cargo/config.toml" <<CONFIG
+[source.crates-io]
+replace-with = "debian"
+[source.debian]
+directory = "$registry"
+[net]
+offline = true
+CONFIG
+}
