@@ -80,6 +80,7 @@ fn read_holder<'de, 'n: 'de>(
         "(bool, (), u8)" => read_as::<(bool, (), u8)>(alloc, from),
         "(u8, u8, u8, u8)" => read_as::<(u8, u8, u8, u8)>(alloc, from),
         "BTreeMap<String, u8>" => read_map::<String, u8>(alloc, from),
+        "BTreeMap<String, Vec<u8>>" => read_map::<String, Vec<u8>>(alloc, from),
         "BTreeMap<u8, bool>" => read_map::<u8, bool>(alloc, from),
         "BTreeMap<i8, i8>" => read_map::<i8, i8>(alloc, from),
         _ => Err(Stop::NoRow),
