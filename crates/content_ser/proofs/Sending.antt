@@ -1,6 +1,6 @@
 -- Scripts sent piece by piece.
 use Rattle.std.proofs.Common.{◌≡◌, inl, inr, ℕ, Bool, true, List, [], ◌∷◌, ◌++◌, Option, Some, None}
-use Rattle.std.proofs.Common.{Ok, Err, IsErrAnd, refl, sym, ap, subst, ◌∙◌, append_assoc}
+use Rattle.std.proofs.Common.{Result, Ok, Err, IsErrAnd, refl, sym, ap, subst, ◌∙◌, append_assoc}
 use Rattle.std.proofs.Common.{option_and_then}
 use Rattle.std.proofs.lemmas.Result.{err_from_is_err_and}
 use Rattle.content_tree.specs.declared.error.Error.{Error}
@@ -11,6 +11,7 @@ use Rattle.content_ser.specs.Serializers.Step.{AnswersCall, Takes}
 use Rattle.content_ser.specs.Scripts.Script.{Script, done, stop_with, call_then, calls_of, stop_of}
 use Rattle.content_ser.specs.Scripts.Script.{and_then}
 use Rattle.content_ser.specs.Scripts.Sends.{AnswersScript, AnswersInVain, Sends}
+use Rattle.content_ser.specs.Sending.Aside.{answer_of}
 use Rattle.content_ser.specs.Laws.ScriptsInARow.{calls_of_both, stop_of_both, stopped_both}
 
 run_append_at : {S : Type 0} (step : Step S) (xs ys : List Event) (o : Option S)
@@ -167,6 +168,13 @@ pub at_exit : {S : Type 0} {step : Step S} {refuses : RefusalRule S} {old new : 
 at_exit {step} {refuses} {old} {new} {sc} r x is s =
     let p = err_from_is_err_and r is in
     rw (p.1, p.2) s
+
+-- the exit of a `?` whose error stands aside
+pub at_exit_aside : {S : Type 0} {X : Type 0} {step : Step S} {refuses : RefusalRule S} {old new : Seen S} {sc : Bool → Script} {error : Error} (r : Result (Unit {0}) X) (x : X)
+    → IsErrAnd r (λ y. y ≡ x) → Sends step refuses old sc (Err error) new → Sends step refuses old sc (answer_of r error) new
+at_exit_aside {S} {X} {step} {refuses} {old} {new} {sc} {error} r x is s =
+    let p = err_from_is_err_and r is in
+    rw p.1 s
 
 -- a call that tells a number
 

@@ -2,5 +2,6 @@
 pub mod Loose
 pub mod TreeScript
 pub mod Places
+pub mod Aside
 pub mod Canonical
 pub mod StaticNames

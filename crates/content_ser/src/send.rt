@@ -1,5 +1,7 @@
 //! Values, structs and variants, sent.
 
+mod aside;
+mod calls;
 mod head;
 mod key;
 mod places;
@@ -10,6 +12,7 @@ ghost use Rattle.content_ser.specs.Laws.TreeScripts.{tree_lawful};
 ghost use Rattle.content_ser.specs.Sending.TreeScript.{loose_script};
 ghost use Rattle.content_ser.specs.Sending.Loose.{loose};
 
+use crate::send::aside::{answer, no_error};
 use crate::serialize::Serialize;
 use crate::serializer::Serializer;
 use content_tree::{Enum, Result, Struct, Value};
@@ -24,7 +27,9 @@ impl<'a> Serialize for Value<'a> {
     ghost lawful = { λ v readable. tree_lawful (loose (tree_of v)) };
 
     fn serialize<S: Serializer>(&self, alloc: Global, serializer: &mut S) -> Result<()> {
-        walk::send(self, alloc, serializer)
+        let mut error = no_error();
+        let sent = walk::send(self, alloc, serializer, &mut error);
+        answer(sent, error)
     }
 }
 
@@ -36,7 +41,9 @@ impl<'a> Serialize for Struct<'a> {
     ghost lawful = { λ v readable. tree_lawful (loose (struct_tree v)) };
 
     fn serialize<S: Serializer>(&self, alloc: Global, serializer: &mut S) -> Result<()> {
-        walk::send_struct(self, alloc, serializer)
+        let mut error = no_error();
+        let sent = walk::send_struct(self, alloc, serializer, &mut error);
+        answer(sent, error)
     }
 }
 
@@ -49,6 +56,8 @@ impl<'a> Serialize for Enum<'a> {
     ghost lawful = { λ v readable. tree_lawful (loose (enum_tree v)) };
 
     fn serialize<S: Serializer>(&self, alloc: Global, serializer: &mut S) -> Result<()> {
-        walk::send_enum(self, alloc, serializer)
+        let mut error = no_error();
+        let sent = walk::send_enum(self, alloc, serializer, &mut error);
+        answer(sent, error)
     }
 }

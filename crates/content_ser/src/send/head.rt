@@ -1,63 +1,91 @@
-//! The calls of a head.
+//! The calls of a head, with their errors put aside.
 #![tactic(auto)]
 
 ghost use Rattle.content_ser.specs.Calls.Head.{head_of};
 ghost use Rattle.content_ser.specs.Serializers.Step.{Takes};
+ghost use Rattle.content_ser.specs.Sending.Aside.{answer_of};
 ghost use Rattle.content_ser.specs.Sending.TreeScript.{newtype_call, struct_call, tuple_call};
 ghost use Rattle.content_ser.specs.Sending.TreeScript.{unit_call};
 
 use crate::head::Head;
+use crate::send::aside::{Sent, put_aside};
 use crate::serializer::Serializer;
-use content_tree::Result;
+use content_tree::Error;
 
 /// The call of a head that holds nothing.
-pub fn call_unit<S: Serializer>(head: Head, serializer: &mut S) -> Result<()>
-    ensures { Takes S.step S.refuses (S.seen serializer.old) (unit_call (head_of head))
-        result (S.seen serializer.new) }
+#[inline(never)]
+pub fn call_unit<S: Serializer>(head: &Head, serializer: &mut S, error: &mut Error) -> Sent
+    ensures { Takes S.step S.refuses (S.seen serializer.old) (unit_call (head_of head.now))
+        (answer_of result error.new) (S.seen serializer.new) }
 {
     match head {
-        Head::Struct(name) => serializer.serialize_unit_struct(name),
+        Head::Struct(name) => put_aside(serializer.serialize_unit_struct(name), error),
         Head::Variant(name, index, variant) => {
-            serializer.serialize_unit_variant(name, index, variant)
+            put_aside(
+                serializer.serialize_unit_variant(name, *index, variant),
+                error,
+            )
         }
     }
 }
 
 /// The call of a head that holds one value.
-pub fn call_newtype<S: Serializer>(head: Head, serializer: &mut S) -> Result<()>
-    ensures { Takes S.step S.refuses (S.seen serializer.old) (newtype_call (head_of head))
-        result (S.seen serializer.new) }
+#[inline(never)]
+pub fn call_newtype<S: Serializer>(head: &Head, serializer: &mut S, error: &mut Error) -> Sent
+    ensures { Takes S.step S.refuses (S.seen serializer.old) (newtype_call (head_of head.now))
+        (answer_of result error.new) (S.seen serializer.new) }
 {
     match head {
-        Head::Struct(name) => serializer.serialize_newtype_struct(name),
+        Head::Struct(name) => put_aside(serializer.serialize_newtype_struct(name), error),
         Head::Variant(name, index, variant) => {
-            serializer.serialize_newtype_variant(name, index, variant)
+            put_aside(
+                serializer.serialize_newtype_variant(name, *index, variant),
+                error,
+            )
         }
     }
 }
 
 /// The call of a head that holds values by place.
-pub fn call_tuple<S: Serializer>(head: Head, len: usize, serializer: &mut S) -> Result<()>
-    ensures { Takes S.step S.refuses (S.seen serializer.old) (tuple_call (head_of head) len)
-        result (S.seen serializer.new) }
+#[inline(never)]
+pub fn call_tuple<S: Serializer>(
+    head: &Head,
+    len: usize,
+    serializer: &mut S,
+    error: &mut Error,
+) -> Sent
+    ensures { Takes S.step S.refuses (S.seen serializer.old) (tuple_call (head_of head.now) len)
+        (answer_of result error.new) (S.seen serializer.new) }
 {
     match head {
-        Head::Struct(name) => serializer.serialize_tuple_struct(name, len),
+        Head::Struct(name) => put_aside(serializer.serialize_tuple_struct(name, len), error),
         Head::Variant(name, index, variant) => {
-            serializer.serialize_tuple_variant(name, index, variant, len)
+            put_aside(
+                serializer.serialize_tuple_variant(name, *index, variant, len),
+                error,
+            )
         }
     }
 }
 
 /// The call of a head that holds values by key.
-pub fn call_struct<S: Serializer>(head: Head, len: usize, serializer: &mut S) -> Result<()>
-    ensures { Takes S.step S.refuses (S.seen serializer.old) (struct_call (head_of head) len)
-        result (S.seen serializer.new) }
+#[inline(never)]
+pub fn call_struct<S: Serializer>(
+    head: &Head,
+    len: usize,
+    serializer: &mut S,
+    error: &mut Error,
+) -> Sent
+    ensures { Takes S.step S.refuses (S.seen serializer.old) (struct_call (head_of head.now) len)
+        (answer_of result error.new) (S.seen serializer.new) }
 {
     match head {
-        Head::Struct(name) => serializer.serialize_struct(name, len),
+        Head::Struct(name) => put_aside(serializer.serialize_struct(name, len), error),
         Head::Variant(name, index, variant) => {
-            serializer.serialize_struct_variant(name, index, variant, len)
+            put_aside(
+                serializer.serialize_struct_variant(name, *index, variant, len),
+                error,
+            )
         }
     }
 }

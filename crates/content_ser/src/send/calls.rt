@@ -1,0 +1,203 @@
+//! The calls of the walk, with their errors put aside.
+//!
+//! Each is a function of its own that isn't inlined: what a call of a serialiser answers is large,
+//! and so it takes stack while the call runs, and none at the levels of the walk above it.
+#![tactic(auto, using(crate::proofs::Sending::sending))]
+
+ghost use Rattle.std.specs.Prelude.{map as each, IfErr, IfOk, Some};
+ghost use Rattle.content_tree.specs.Errors.Kind.{IsOutOfMemory};
+ghost use Rattle.content_tree.specs.Values.Text.{text_of};
+ghost use Rattle.content_ser.specs.Calls.Event.{boolean, character, text, octets, unit, none};
+ghost use Rattle.content_ser.specs.Calls.Event.{some, seq, map, tuple, element, entry};
+ghost use Rattle.content_ser.specs.Calls.Event.{tuple_field, number, end as end_};
+ghost use Rattle.content_ser.specs.Scripts.Sends.{Sends};
+ghost use Rattle.content_ser.specs.Scripts.Standard.{only};
+ghost use Rattle.content_ser.specs.Sending.Aside.{answer_of};
+ghost use Rattle.content_ser.specs.Sending.Loose.{sorted};
+ghost use Rattle.content_ser.specs.Sending.Places.{keyed_tree_of, StandsFor};
+ghost use Rattle.content_ser.specs.Sending.TreeScript.{key_script};
+ghost use Rattle.content_ser.specs.Serializers.Step.{Takes};
+
+use crate::send::aside::{Aside, Sent, put_aside};
+use crate::send::{key, places};
+use crate::serialize::Serialize;
+use crate::serializer::Serializer;
+use content_tree::{CowStr, Error, Number, Value};
+use std::alloc::Global;
+use std::collections::BTreeMap;
+
+/// The unit.
+#[inline(never)]
+pub fn serialize_unit<S: Serializer>(serializer: &mut S, error: &mut Error) -> Sent
+    ensures { Takes S.step S.refuses (S.seen serializer.old) unit
+        (answer_of result error.new) (S.seen serializer.new) }
+{
+    put_aside(serializer.serialize_unit(), error)
+}
+
+/// A boolean.
+#[inline(never)]
+pub fn serialize_bool<S: Serializer>(v: bool, serializer: &mut S, error: &mut Error) -> Sent
+    ensures { Takes S.step S.refuses (S.seen serializer.old) (boolean v)
+        (answer_of result error.new) (S.seen serializer.new) }
+{
+    put_aside(serializer.serialize_bool(v), error)
+}
+
+/// A character.
+#[inline(never)]
+pub fn serialize_char<S: Serializer>(v: char, serializer: &mut S, error: &mut Error) -> Sent
+    ensures { Takes S.step S.refuses (S.seen serializer.old) (character v)
+        (answer_of result error.new) (S.seen serializer.new) }
+{
+    put_aside(serializer.serialize_char(v), error)
+}
+
+/// A text.
+#[inline(never)]
+pub fn serialize_str<S: Serializer>(v: &str, serializer: &mut S, error: &mut Error) -> Sent
+    ensures { Takes S.step S.refuses (S.seen serializer.old) (text v.now)
+        (answer_of result error.new) (S.seen serializer.new) }
+{
+    put_aside(serializer.serialize_str(v), error)
+}
+
+/// An array of bytes.
+#[inline(never)]
+pub fn serialize_bytes<S: Serializer>(v: &[u8], serializer: &mut S, error: &mut Error) -> Sent
+    ensures { Takes S.step S.refuses (S.seen serializer.old) (octets v.now)
+        (answer_of result error.new) (S.seen serializer.new) }
+{
+    put_aside(serializer.serialize_bytes(v), error)
+}
+
+/// An absent optional value.
+#[inline(never)]
+pub fn serialize_none<S: Serializer>(serializer: &mut S, error: &mut Error) -> Sent
+    ensures { Takes S.step S.refuses (S.seen serializer.old) none
+        (answer_of result error.new) (S.seen serializer.new) }
+{
+    put_aside(serializer.serialize_none(), error)
+}
+
+/// A present optional value.
+#[inline(never)]
+pub fn serialize_some<S: Serializer>(serializer: &mut S, error: &mut Error) -> Sent
+    ensures { Takes S.step S.refuses (S.seen serializer.old) some
+        (answer_of result error.new) (S.seen serializer.new) }
+{
+    put_aside(serializer.serialize_some(), error)
+}
+
+/// Opens a sequence of known length.
+#[inline(never)]
+pub fn serialize_seq<S: Serializer>(len: usize, serializer: &mut S, error: &mut Error) -> Sent
+    ensures { Takes S.step S.refuses (S.seen serializer.old) (seq (Some len))
+        (answer_of result error.new) (S.seen serializer.new) }
+{
+    put_aside(serializer.serialize_seq(Some(len)), error)
+}
+
+/// Opens a map of known length.
+#[inline(never)]
+pub fn serialize_map<S: Serializer>(len: usize, serializer: &mut S, error: &mut Error) -> Sent
+    ensures { Takes S.step S.refuses (S.seen serializer.old) (map (Some len))
+        (answer_of result error.new) (S.seen serializer.new) }
+{
+    put_aside(serializer.serialize_map(Some(len)), error)
+}
+
+/// Opens a tuple.
+#[inline(never)]
+pub fn serialize_tuple<S: Serializer>(len: usize, serializer: &mut S, error: &mut Error) -> Sent
+    ensures { Takes S.step S.refuses (S.seen serializer.old) (tuple len)
+        (answer_of result error.new) (S.seen serializer.new) }
+{
+    put_aside(serializer.serialize_tuple(len), error)
+}
+
+/// Announces an item of a sequence or a tuple.
+#[inline(never)]
+pub fn serialize_element<S: Serializer>(serializer: &mut S, error: &mut Error) -> Sent
+    ensures { Takes S.step S.refuses (S.seen serializer.old) element
+        (answer_of result error.new) (S.seen serializer.new) }
+{
+    put_aside(serializer.serialize_element(), error)
+}
+
+/// Announces a pair of a map.
+#[inline(never)]
+pub fn serialize_entry<S: Serializer>(serializer: &mut S, error: &mut Error) -> Sent
+    ensures { Takes S.step S.refuses (S.seen serializer.old) entry
+        (answer_of result error.new) (S.seen serializer.new) }
+{
+    put_aside(serializer.serialize_entry(), error)
+}
+
+/// Announces an item of a tuple struct or a tuple variant.
+#[inline(never)]
+pub fn serialize_tuple_field<S: Serializer>(serializer: &mut S, error: &mut Error) -> Sent
+    ensures { Takes S.step S.refuses (S.seen serializer.old) tuple_field
+        (answer_of result error.new) (S.seen serializer.new) }
+{
+    put_aside(serializer.serialize_tuple_field(), error)
+}
+
+/// Closes what was opened last.
+#[inline(never)]
+pub fn end<S: Serializer>(serializer: &mut S, error: &mut Error) -> Sent
+    ensures { Takes S.step S.refuses (S.seen serializer.old) end_
+        (answer_of result error.new) (S.seen serializer.new) }
+{
+    put_aside(serializer.end(), error)
+}
+
+/// A number.
+#[inline(never)]
+pub fn serialize_number<S: Serializer>(
+    v: &Number,
+    alloc: Global,
+    serializer: &mut S,
+    error: &mut Error,
+) -> Sent
+    ensures { Sends S.step S.refuses (S.seen serializer.old) (only (number v.now))
+        (answer_of result error.new) (S.seen serializer.new) }
+{
+    put_aside(v.serialize(alloc, serializer), error)
+}
+
+/// The key of a field, where it is static; where it is owned it makes no call and says so.
+#[inline(never)]
+pub fn send_key<S: Serializer>(
+    v: &CowStr<'static>,
+    alloc: Global,
+    serializer: &mut S,
+    error: &mut Error,
+) -> Sent
+    ensures { Sends S.step S.refuses (S.seen serializer.old)
+        (λ readable. key_script (text_of v.now))
+        (answer_of result error.new) (S.seen serializer.new) }
+{
+    put_aside(key::send_key(v, alloc, serializer), error)
+}
+
+/// The place of the last field of each key, by key; its error is out of memory.
+#[inline(never)]
+pub fn last_places<'a>(
+    alloc: Global,
+    fields: &'a Vec<(CowStr<'static>, Value<'_>)>,
+    error: &mut Error,
+) -> Result<BTreeMap<&'a str, usize>, Aside>
+    ensures value { IfOk result
+        (λ places. StandsFor fields.now.items places.entries
+        (sorted (each keyed_tree_of fields.now.items))) }
+    ensures memory { IfErr result (λ _. IsOutOfMemory error.new) }
+{
+    match places::last_places(alloc, fields) {
+        Ok(places) => Ok(places),
+        Err(refused) => {
+            *error = Error::from(refused);
+            Err(Aside)
+        }
+    }
+}
