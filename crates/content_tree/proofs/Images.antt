@@ -5,7 +5,8 @@ use Rattle.content_tree.specs.Values.Value.{tree_of, trees_view, pairs_view, fie
 use Rattle.content_tree.specs.declared.cow.CowStr.{CowStr}
 use Rattle.content_tree.specs.declared.value.NamedValue.{NamedValue}
 use Rattle.content_tree.specs.Images.Image as image
-use Rattle.content_tree.specs.Images.Image.{Image, image, image_each, image_pairs, image_fields}
+use Rattle.content_tree.specs.Images.Image.{Image, Images, ImagePairs, ImageFields, image}
+use Rattle.content_tree.specs.Images.Image.{image_each, image_pairs, image_fields}
 use Rattle.content_tree.specs.Images.Found.{images_of, image_pairs_of, image_fields_of}
 
 -- the image of a value
@@ -19,6 +20,18 @@ value_pair_image p = (image (tree_of p.0), image (tree_of p.1))
 -- the key and the image of a field
 abbrev pub value_field_image : CowStr × NamedValue → List ℕ × Image
 value_field_image f = ((text_of f.0).content, image (tree_of f.1))
+
+-- the images of values
+abbrev pub items_image : List NamedValue → Images
+items_image vs = image_each (trees_view vs)
+
+-- the images of pairs of values
+abbrev pub pairs_image : List (NamedValue × NamedValue) → ImagePairs
+pairs_image ps = image_pairs (pairs_view ps)
+
+-- the keys and the images of fields of values
+abbrev pub fields_image : List (CowStr × NamedValue) → ImageFields
+fields_image fs = image_fields (fields_view fs)
 
 -- the images of values, one by one
 pub items_found : (vs : List NamedValue) → images_of (map value_image vs) ≡ image_each (trees_view vs)

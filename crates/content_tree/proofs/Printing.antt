@@ -2,7 +2,6 @@
 use Rattle.std.proofs.Common.{◌≡◌, refl, ℕ, suc, ◌+◌, ◌<◌, List, [], ◌∷◌, ◌++◌, codes, flat_map}
 use Rattle.std.proofs.Common.{length, drop, get_or, sym, ap, ◌∙◌, append-nil, append_assoc, add-one}
 use Rattle.std.proofs.Common.{drop-cons, Option, Some, None}
-use Rattle.std.specs.Prelude.{IsOk}
 use Rattle.std.specs.Fmt.{decimal, HasWrittenStyled, WritesStyledOnOk, DisplaysStyledOnOk}
 use Rattle.std.specs.Fmt.{WritesText}
 use Rattle.std.specs.declared.fmt.Error.{Error}
@@ -12,14 +11,10 @@ use Rattle.std.proofs.Output.{has_written_styled_of_eq, has_written_styled_appen
 use Rattle.std.specs.declared.fmt.InlineText.{InlineText}
 use Rattle.std.specs.Fmt.InlineText.{inline_text, IsIntact, AppendsIfIntact}
 use Rattle.std.specs.List.{concat, FoldsTo}
-use Rattle.std.specs.Prelude.{string_bytes}
-use Rattle.std.specs.declared.alloc.Global.{Global}
-use Rattle.std.specs.declared.string.String.{String}
 use Rattle.content_tree.specs.Printed.Images.{printed, printed_list, printed_pairs, printed_fields}
 use Rattle.content_tree.specs.Printed.Images.{byte_list}
-use Rattle.content_tree.specs.Images.Found.{image_view, images_view, image_pairs_view}
-use Rattle.content_tree.specs.Images.Found.{image_fields_view}
-use Rattle.content_tree.specs.declared.found.Found.{Found}
+use Rattle.content_tree.specs.Images.Image.{Image, Images, ImagePairs, ImageFields, image_then}
+use Rattle.content_tree.specs.Images.Image.{image_pair_then, image_field_then}
 
 -- one more character
 pub flat_map-last : {A B : Type 0} (f : A → List B) (xs : List A) (x : A) → flat_map f (xs ++ x ∷ []) ≡ flat_map f xs ++ f x
@@ -41,31 +36,38 @@ pub next_byte : (done lead : List ℕ) (xs : List ℕ) (i x : ℕ) (whole : List
 next_byte done lead xs i x whole here so_far =
     append_assoc done _ _ ∙ ap (λ r. done ++ r) (append_assoc lead _ _) ∙ ap (λ r. done ++ byte_list lead r) (sym here) ∙ so_far
 
--- one more item
-pub next_item : (done lead : List ℕ) (xs : List Found) (i : ℕ) (x : Found) (whole : List ℕ) → drop i xs ≡ x ∷ drop (i + 1) xs
-    → done ++ printed_list lead (images_view (drop i xs)) ≡ whole
-    → (done ++ (lead ++ printed (image_view x))) ++ printed_list (codes ", ") (images_view (drop (i + 1) xs)) ≡ whole
-next_item done lead xs i x whole here so_far =
-    append_assoc done _ _ ∙ ap (λ r. done ++ r) (append_assoc lead _ _) ∙ ap (λ r. done ++ printed_list lead (images_view r)) (sym here) ∙ so_far
+-- one more item, of whatever has images
+pub next_item : {A : Type 0} (shown : A → Image) (all : List A → Images) (step : (x : A) (xs : List A) → image_then (shown x) (all xs) ≡ all (x ∷ xs))
+    (done lead : List ℕ) (xs : List A) (i : ℕ) (x : A) (whole : List ℕ) → drop i xs ≡ x ∷ drop (i + 1) xs
+    → done ++ printed_list lead (all (drop i xs)) ≡ whole
+    → (done ++ (lead ++ printed (shown x))) ++ printed_list (codes ", ") (all (drop (i + 1) xs)) ≡ whole
+next_item shown all step done lead xs i x whole here so_far =
+    append_assoc done _ _ ∙ ap (λ r. done ++ r) (append_assoc lead (printed (shown x)) _)
+    ∙ ap (λ is. done ++ printed_list lead is) (step x (drop (i + 1) xs) ∙ ap all (sym here)) ∙ so_far
 
 -- one more pair
-pub next_pair : (done lead : List ℕ) (xs : List (Found × Found)) (i : ℕ) (x : Found × Found) (whole : List ℕ) → drop i xs ≡ x ∷ drop (i + 1) xs
-    → done ++ printed_pairs lead (image_pairs_view (drop i xs)) ≡ whole
-    → (done ++ ((lead ++ printed (image_view x.0)) ++ (codes ": " ++ printed (image_view x.1)))) ++ printed_pairs (codes ", ") (image_pairs_view (drop (i + 1) xs)) ≡ whole
-next_pair done lead xs i x whole here so_far =
-    let k = printed (image_view x.0) in
-    let v = printed (image_view x.1) in
-    let rest = printed_pairs (codes ", ") (image_pairs_view (drop (i + 1) xs)) in
+pub next_pair : {A : Type 0} (shown : A → Image) (all : List (A × A) → ImagePairs)
+    (step : (x : A × A) (xs : List (A × A)) → image_pair_then (shown x.0) (shown x.1) (all xs) ≡ all (x ∷ xs))
+    (done lead : List ℕ) (xs : List (A × A)) (i : ℕ) (x : A × A) (whole : List ℕ) → drop i xs ≡ x ∷ drop (i + 1) xs
+    → done ++ printed_pairs lead (all (drop i xs)) ≡ whole
+    → (done ++ ((lead ++ printed (shown x.0)) ++ (codes ": " ++ printed (shown x.1)))) ++ printed_pairs (codes ", ") (all (drop (i + 1) xs)) ≡ whole
+next_pair shown all step done lead xs i x whole here so_far =
+    let k = printed (shown x.0) in
+    let v = printed (shown x.1) in
+    let rest = printed_pairs (codes ", ") (all (drop (i + 1) xs)) in
     append_assoc done _ _ ∙ ap (λ r. done ++ r) (append_assoc (lead ++ k) (codes ": " ++ v) rest ∙ append_assoc lead k _ ∙ ap (λ r. lead ++ (k ++ r)) (append_assoc (codes ": ") v rest))
-    ∙ ap (λ r. done ++ printed_pairs lead (image_pairs_view r)) (sym here) ∙ so_far
+    ∙ ap (λ es. done ++ printed_pairs lead es) (step x (drop (i + 1) xs) ∙ ap all (sym here)) ∙ so_far
 
 -- one more field
-pub next_field : (done lead : List ℕ) (xs : List (String Global × Found)) (i : ℕ) (x : String Global × Found) (whole : List ℕ) → drop i xs ≡ x ∷ drop (i + 1) xs
-    → done ++ printed_fields lead (image_fields_view (drop i xs)) ≡ whole
-    → (done ++ (lead ++ (string_bytes x.0 ++ (codes ": " ++ printed (image_view x.1))))) ++ printed_fields (codes ", ") (image_fields_view (drop (i + 1) xs)) ≡ whole
-next_field done lead xs i x whole here so_far =
-    append_assoc done _ _ ∙ ap (λ r. done ++ r) (append_assoc lead _ _ ∙ ap (λ r. lead ++ r) (append_assoc (string_bytes x.0) _ _ ∙ ap (λ r. string_bytes x.0 ++ r) (append_assoc (codes ": ") (printed (image_view x.1)) (printed_fields (codes ", ") (image_fields_view (drop (i + 1) xs))))))
-    ∙ ap (λ r. done ++ printed_fields lead (image_fields_view r)) (sym here) ∙ so_far
+pub next_field : {A K : Type 0} (key : K → List ℕ) (shown : A → Image) (all : List (K × A) → ImageFields)
+    (step : (x : K × A) (xs : List (K × A)) → image_field_then (key x.0) (shown x.1) (all xs) ≡ all (x ∷ xs))
+    (done lead : List ℕ) (xs : List (K × A)) (i : ℕ) (x : K × A) (whole : List ℕ) → drop i xs ≡ x ∷ drop (i + 1) xs
+    → done ++ printed_fields lead (all (drop i xs)) ≡ whole
+    → (done ++ (lead ++ (key x.0 ++ (codes ": " ++ printed (shown x.1))))) ++ printed_fields (codes ", ") (all (drop (i + 1) xs)) ≡ whole
+next_field key shown all step done lead xs i x whole here so_far =
+    append_assoc done _ _ ∙ ap (λ r. done ++ r) (append_assoc lead _ _ ∙ ap (λ r. lead ++ r) (append_assoc (key x.0) _ _
+    ∙ ap (λ r. key x.0 ++ r) (append_assoc (codes ": ") (printed (shown x.1)) (printed_fields (codes ", ") (all (drop (i + 1) xs))))))
+    ∙ ap (λ ms. done ++ printed_fields lead ms) (step x (drop (i + 1) xs) ∙ ap all (sym here)) ∙ so_far
 
 -- two to four writes in a row, under any options
 module _ {W : Type 0} (took : W → List ℕ → W → Type 0) where

@@ -1,3 +1,4 @@
--- What images, expectations and errors print.
+-- What images, values, expectations and errors print.
 pub mod Images
+pub mod Values
 pub mod Errors

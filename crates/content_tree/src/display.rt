@@ -16,6 +16,10 @@ use crate::quote::write_quoted;
 use std::fmt;
 use std::fmt::Write;
 
+mod value;
+
+pub use value::ValueDisplay;
+
 /// The text of an image as `serde-content` prints it: `Foo::Bar(true, 'a')`, `{ "k": 1u8 }`. Names,
 /// keys and characters stand as they are, so it isn't always what a program could say.
 impl fmt::Display for Found {
@@ -238,7 +242,7 @@ fn write_fields<W: fmt::Write>(
     Ok(())
 }
 
-fn write_bytes<W: fmt::Write>(bytes: &[u8], f: &mut fmt::Formatter<W>) -> fmt::Result
+pub(crate) fn write_bytes<W: fmt::Write>(bytes: &[u8], f: &mut fmt::Formatter<W>) -> fmt::Result
     ensures { WritesStyledOnOk W.write_str_gives f.old result
         (codes "&[" ++ (byte_list [] bytes.now ++ codes "]")) f.new }
 {
@@ -258,7 +262,10 @@ fn write_byte_list<W: fmt::Write>(bytes: &[u8], f: &mut fmt::Formatter<W>) -> fm
     Ok(())
 }
 
-fn write_character<W: fmt::Write>(character: char, f: &mut fmt::Formatter<W>) -> fmt::Result
+pub(crate) fn write_character<W: fmt::Write>(
+    character: char,
+    f: &mut fmt::Formatter<W>,
+) -> fmt::Result
     ensures { WritesStyledOnOk W.write_str_gives f.old result
         (codes "'" ++ (encode_utf8 character ++ codes "'")) f.new }
 {
@@ -280,7 +287,7 @@ pub(crate) fn write_bare<W: fmt::Write, T: fmt::Display + Drop>(
 }
 
 /// Writes a number in decimal, with its kind at once.
-fn write_number<W: fmt::Write>(number: &Number, f: &mut fmt::Formatter<W>) -> fmt::Result
+pub(crate) fn write_number<W: fmt::Write>(number: &Number, f: &mut fmt::Formatter<W>) -> fmt::Result
     ensures { WritesStyledOnOk W.write_str_gives f.old result (number_text number.now) f.new }
 {
     match number {

@@ -20,6 +20,7 @@ mod unexpected;
 mod value;
 
 pub use cow::{CowBytes, CowStr};
+pub use display::ValueDisplay;
 pub use error::{Error, ErrorKind, Result};
 pub use expected::{DataType, Expected};
 pub use found::{Found, FoundData};

@@ -8,6 +8,7 @@ pub use content_de::{Deserializer, ValueVisitor};
 pub use content_tree::{
     CowBytes, CowStr, Data, DataType, Enum, Error, ErrorKind, Expected, Found, FoundData,
     NamedData, NamedEnum, NamedStruct, NamedValue, Number, Result, Struct, Unexpected, Value,
+    ValueDisplay,
 };
 pub use round::{RoundTrip, round_trip};
 

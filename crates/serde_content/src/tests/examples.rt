@@ -15,6 +15,8 @@ fn a_list_of_calls_becomes_a_tree(rt: HostRuntime) -> Result<(), Fail> {
         Call::End,
     ];
     let value = from_calls(rt.alloc(), &calls)?;
+    let text = format!(in rt.alloc(); "{}", value.display())?;
+    assert!(rt; text.as_str() == "[true, 255u8]");
     let found = value.into_found(rt.alloc())?;
     assert!(rt; format!(in rt.alloc(); "{found}")?.as_str() == "[true, 255u8]");
     Ok(())

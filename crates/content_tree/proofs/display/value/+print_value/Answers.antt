@@ -1,0 +1,71 @@
+use Rattle.std.proofs.Common.{◌++◌, codes, refl, arith, rules}
+use Rattle.std.specs.Fmt.{HasWrittenStyled}
+use Rattle.std.proofs.Output.{has_written_styled_append, has_written_styled_of_eq}
+use Rattle.content_tree.specs.Values.Text.{text_content}
+use Rattle.content_tree.specs.Values.Value.{tree_data_of, struct_tree, enum_tree}
+use Rattle.content_tree.specs.Images.Image.{image, image_data, named}
+use Rattle.content_tree.specs.Printed.Images.{printed, printed_data}
+use Rattle.content_tree.specs.declared.value.NamedStruct.{out-NamedStruct}
+use Rattle.content_tree.specs.declared.value.NamedEnum.{out-NamedEnum}
+use Rattle.content_tree.proofs.Views.{tree_data_of-Struct, struct_tree-is, enum_tree-is}
+use Rattle.content_tree.proofs.Images.{value_image, items_image, pairs_image, fields_image}
+use Rattle.content_tree.proofs.Printing.{drop_here, two_writes, four_writes}
+use Rattle.content_tree.proofs.Printing.{next_item, next_pair, next_field}
+use Rattle.content_tree.proofs.display.value.+print_value.Goals as goal
+
+pub write_fields-loop-key-preserved : goal.write_fields-loop-key-preserved
+write_fields-loop-key-preserved g t c = (
+  search rules,
+  λ plain.
+      let now = c.loop-key.invariant.1 plain in
+      let xs = c.deref-key-items.result.now in
+      let x = c.loop-key-item.result in
+      let here = drop_here xs c.loop-key.key-index x (omega (arith, c.loop-key-test.true)) c.loop-key-item.is in
+      let new = c.loop-key.lead.now ++ (text_content x.0 ++ (codes ": " ++ printed (value_image x.1))) in
+      (now.0 ++ new, has_written_styled_append _ _ now.0 _ new _ now.1 (search rules), next_field text_content value_image fields_image (λ x xs. refl) now.0 c.loop-key.lead.now xs c.loop-key.key-index x _ here now.2),
+)
+
+pub write_items-loop-item-preserved : goal.write_items-loop-item-preserved
+write_items-loop-item-preserved g t c = (
+  search rules,
+  λ plain.
+      let now = c.loop-item.invariant.1 plain in
+      let xs = c.deref-item-items.result.now in
+      let x = c.item-item.result in
+      let here = drop_here xs c.loop-item.item-index x (omega (arith, c.loop-item-test.true)) c.item-item.is in
+      let new = c.loop-item.lead.now ++ printed (value_image x) in
+      (now.0 ++ new, has_written_styled_append _ _ now.0 _ new _ now.1 (search rules), next_item value_image items_image (λ x xs. refl) now.0 c.loop-item.lead.now xs c.loop-item.item-index x _ here now.2),
+)
+
+pub write_pairs-loop-key-preserved : goal.write_pairs-loop-key-preserved
+write_pairs-loop-key-preserved g t c = (
+  search rules,
+  λ plain.
+      let now = c.loop-key.invariant.1 plain in
+      let xs = c.deref-key-items.result.now in
+      let x = c.loop-key-item.result in
+      let here = drop_here xs c.loop-key.key-index x (omega (arith, c.loop-key-test.true)) c.loop-key-item.is in
+      let key = c.loop-key.lead.now ++ printed (value_image x.0) in
+      let value = codes ": " ++ printed (value_image x.1) in
+      let first : HasWrittenStyled g.W.Write.write_str_gives c.loop-key.f key c.write_item.new.f = search rules in
+      (now.0 ++ (key ++ value), has_written_styled_append _ _ now.0 _ (key ++ value) _ now.1 (has_written_styled_append _ _ key c.write_item.new.f value _ first (search (rules, first.flush))), next_pair value_image pairs_image (λ x xs. refl) now.0 c.loop-key.lead.now xs c.loop-key.key-index x _ here now.2),
+)
+
+pub write_data-returns-in-Struct : goal.write_data-returns-in-Struct
+write_data-returns-in-Struct g t c = λ plain ok.
+    has_written_styled_of_eq _ _ (printed_data (named (fields_image c.in-Struct.fields.items))) (printed_data (image_data (tree_data_of c.args.inside.now))) _
+    (rw (c.in-Struct.is, tree_data_of-Struct c.in-Struct.fields) refl) (search rules)
+
+pub write_struct-returns : goal.write_struct-returns
+write_struct-returns g t c = λ plain ok.
+    let inner = out-NamedStruct c.args.inner.now in
+    let inside = printed_data (image_data (tree_data_of inner.«data»)) in
+    has_written_styled_of_eq _ _ (text_content inner.name ++ inside) (printed (image (struct_tree c.args.inner.now))) _
+    (rw (struct_tree-is c.args.inner.now) refl) (search (rules, two_writes))
+
+pub write_enum-returns : goal.write_enum-returns
+write_enum-returns g t c = λ plain ok.
+    let inner = out-NamedEnum c.args.inner.now in
+    let inside = printed_data (image_data (tree_data_of inner.«data»)) in
+    has_written_styled_of_eq _ _ (text_content inner.name ++ (codes "::" ++ (text_content inner.variant ++ inside))) (printed (image (enum_tree c.args.inner.now))) _
+    (rw (enum_tree-is c.args.inner.now) refl) (search (rules, four_writes))
