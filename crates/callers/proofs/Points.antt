@@ -1,5 +1,6 @@
 -- What a `Point` is sent as, and what is read of it.
-use Rattle.std.proofs.Common.{◌≡◌, ℤ, List, [], ◌∷◌, Option, Result, Ok, Err, IfOk, codes, ap, ap₂, subst, ◌∙◌}
+use Rattle.std.proofs.Common.{◌≡◌, ℤ, List, [], ◌∷◌, Option, Result, Ok, Err, IfOk, codes, ap, ap₂}
+use Rattle.std.proofs.Common.{subst, ◌∙◌}
 use Rattle.content_tree.specs.Values.Ranges.{i32}
 use Rattle.content_tree.specs.Values.Text.{static_name}
 use Rattle.content_tree.specs.Values.Tree as tree
@@ -10,7 +11,8 @@ use Rattle.content_tree.specs.Errors.Cause.{Cause}
 use Rattle.content_ser.specs.Calls.Event as event
 use Rattle.content_ser.specs.Calls.Event.{Event}
 use Rattle.content_ser.specs.Calls.Head.{of_struct}
-use Rattle.content_ser.specs.Grammar.Spells.{SpellsWhole, spells_record, spells_leaf, fields_more, fields_end}
+use Rattle.content_ser.specs.Grammar.Spells.{SpellsWhole, spells_record, spells_leaf, fields_more}
+use Rattle.content_ser.specs.Grammar.Spells.{fields_end}
 use Rattle.content_de.specs.Sources.Origin.{Subject, plain_flags, tree_under}
 use Rattle.content_de.specs.Outcomes.{taken}
 use Rattle.content_de.specs.Requests.Numbers.{number_from}

@@ -3,7 +3,8 @@ use Rattle.std.proofs.Common.{◌≡◌, List, ◌∷◌}
 use Rattle.content_tree.specs.Values.Tree.{Tree, Trees}
 use Rattle.content_ser.specs.Grammar.Token.{Token, ItemCall, Row, leaf, open_row}
 use Rattle.content_ser.specs.Grammar.Spells.{Spells, SpellsElements}
-use Rattle.content_ser.specs.Grammar.Spells.{spells_leaf, spells_wrap, spells_row, spells_map, spells_record}
+use Rattle.content_ser.specs.Grammar.Spells.{spells_leaf, spells_wrap, spells_row, spells_map}
+use Rattle.content_ser.specs.Grammar.Spells.{spells_record}
 use Rattle.content_ser.specs.Grammar.Spells.{elements_end, elements_more}
 
 -- no element, and not the end

@@ -17,9 +17,14 @@ use Rattle.content_build.specs.declared.calls_error.CallsError.{CallsError}
 
 -- the calls are refused at this place for this cause
 abbrev pub IsRefusal : List Event → ℕ → ErrorKind → Type 0
-IsRefusal calls at Misplaced = (at < length calls) × IsViable (take at calls) × ¬ IsViable (take (at + 1) calls)
+IsRefusal calls at Misplaced =
+    (at < length calls)
+    × IsViable (take at calls)
+    × ¬ IsViable (take (at + 1) calls)
 IsRefusal calls at Unfinished = (at ≡ length calls) × IsViable calls × ¬ IsWhole calls
-IsRefusal calls at OutOfMemory = ((at < length calls) × IsViable (take (at + 1) calls)) ⊎ ((at ≡ length calls) × IsWhole calls)
+IsRefusal calls at OutOfMemory =
+    ((at < length calls) × IsViable (take (at + 1) calls))
+    ⊎ ((at ≡ length calls) × IsWhole calls)
 IsRefusal calls at Failed = ⊥
 IsRefusal calls at (Unexpected found expected) = ⊥
 IsRefusal calls at (Custom message) = ⊥
@@ -31,9 +36,17 @@ IsAnswer calls (Err e) = IsRefusal calls e.at (kind_of e.error)
 
 -- the calls are refused under this limit at this place for this cause
 abbrev pub IsRefusalUnder : Option ℕ → List Event → ℕ → ErrorKind → Type 0
-IsRefusalUnder limit calls at Misplaced = (at < length calls) × IsViableUnder limit (take at calls) × ¬ IsViableUnder limit (take (at + 1) calls)
-IsRefusalUnder limit calls at Unfinished = (at ≡ length calls) × IsViableUnder limit calls × ¬ IsWholeUnder limit calls
-IsRefusalUnder limit calls at OutOfMemory = ((at < length calls) × IsViableUnder limit (take (at + 1) calls)) ⊎ ((at ≡ length calls) × IsWholeUnder limit calls)
+IsRefusalUnder limit calls at Misplaced =
+    (at < length calls)
+    × IsViableUnder limit (take at calls)
+    × ¬ IsViableUnder limit (take (at + 1) calls)
+IsRefusalUnder limit calls at Unfinished =
+    (at ≡ length calls)
+    × IsViableUnder limit calls
+    × ¬ IsWholeUnder limit calls
+IsRefusalUnder limit calls at OutOfMemory =
+    ((at < length calls) × IsViableUnder limit (take (at + 1) calls))
+    ⊎ ((at ≡ length calls) × IsWholeUnder limit calls)
 IsRefusalUnder limit calls at Failed = ⊥
 IsRefusalUnder limit calls at (Unexpected found expected) = ⊥
 IsRefusalUnder limit calls at (Custom message) = ⊥
@@ -51,7 +64,9 @@ IfTaken (Err e) t = kind_of e.error ≡ OutOfMemory
 -- refused at this place for this cause, unless memory ran out
 abbrev pub IfRefused : {A : Type 0} → Result A CallsError → ErrorKind → ℕ → Type 0
 IfRefused (Ok v) cause at = ⊥
-IfRefused (Err e) cause at = ((kind_of e.error ≡ cause) × (e.at ≡ at)) ⊎ (kind_of e.error ≡ OutOfMemory)
+IfRefused (Err e) cause at =
+    ((kind_of e.error ≡ cause) × (e.at ≡ at))
+    ⊎ (kind_of e.error ≡ OutOfMemory)
 
 -- what `==` of errors answers
 abbrev pub is_same : Error → Error → Bool

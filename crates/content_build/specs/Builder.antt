@@ -29,7 +29,8 @@ or_fresh (Some s) = s
 
 -- a serialiser at this partial tree under this limit, or failed
 abbrev pub seen_at : Option ℕ → Option Partial → Bool → Seen Limited
-seen_at limit s readable = record { state = record { limit = limit; tree = or_fresh s }; failed = has_failed s; readable = readable }
+seen_at limit s readable =
+    record { state = record { limit = limit; tree = or_fresh s }; failed = has_failed s; readable = readable }
 
 -- the builder as a serialiser
 unfoldable pub seen_of : Builder → Seen Limited
@@ -58,11 +59,15 @@ IsExact limit calls (Err e) = IsCause limit calls (kind_of e)
 -- a call on a builder that has not failed, after any calls that lead from the fresh state to its own
 abbrev pub AnswersExactly : Seen Limited → Event → Answer → Type 0
 AnswersExactly old c r = old.failed ≡ false → IsLimit old.state.limit
-    → (calls : List Event) → run (fresh_under old.state.limit) calls ≡ Some old.state → IsExact old.state.limit (calls ++ c ∷ []) r
+    → (calls : List Event)
+    → run (fresh_under old.state.limit) calls ≡ Some old.state
+    → IsExact old.state.limit (calls ++ c ∷ []) r
 
 -- what the step of the partial tree under its limit says of a call is exact
 abbrev pub StepsAreExact : Type 0
-StepsAreExact = (old new : Seen Limited) (c : Event) (r : Answer) → Takes step refuses old c r new → AnswersExactly old c r
+StepsAreExact = (old new : Seen Limited) (c : Event) (r : Answer)
+    → Takes step refuses old c r new
+    → AnswersExactly old c r
 
 -- what finishing answers where the builder has failed or not, at this state
 abbrev pub Finishes : Bool → Partial → Result NamedValue Error → Type 0

@@ -29,7 +29,9 @@ NoCut calls = (n : ℕ) → ¬ IsWhole (take n calls)
 abbrev pub IsCutRefusal : List Event → ℕ → ErrorKind → Type 0
 IsCutRefusal calls at Misplaced = NoCut calls × IsRefusal calls at Misplaced
 IsCutRefusal calls at Unfinished = NoCut calls × IsRefusal calls at Unfinished
-IsCutRefusal calls at OutOfMemory = ((at < length calls) × IsViable (take (at + 1) calls)) ⊎ ((at ≤ length calls) × IsWhole (take at calls))
+IsCutRefusal calls at OutOfMemory =
+    ((at < length calls) × IsViable (take (at + 1) calls))
+    ⊎ ((at ≤ length calls) × IsWhole (take at calls))
 IsCutRefusal calls at Failed = ⊥
 IsCutRefusal calls at (Unexpected found expected) = ⊥
 IsCutRefusal calls at (Custom message) = ⊥

@@ -30,7 +30,8 @@ step_under limit s call = cond (fits limit (open_count s) call) (step_token s ca
 
 -- a call
 abbrev pub step : Limited → Event → Option Limited
-step s call = option_map (λ next. record { limit = s.limit; tree = next }) (step_under s.limit s.tree (token.token_of call))
+step s call =
+    option_map (λ next. record { limit = s.limit; tree = next }) (step_under s.limit s.tree (token.token_of call))
 
 -- no call yet, under this limit
 abbrev pub fresh_under : Option ℕ → Limited

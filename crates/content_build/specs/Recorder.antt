@@ -28,16 +28,20 @@ cause false = OutOfMemory
 -- a call: it stands at the end of the list, or the list is kept and the recorder has failed for good
 abbrev pub Records : Seen (List Event) → Event → Answer → Seen (List Event) → Type 0
 Records old c (Ok u) new =
-    (old.failed ≡ false) × (new ≡ record { state = old.state ++ c ∷ []; failed = false; readable = old.readable })
+    (old.failed ≡ false)
+    × (new ≡ record { state = old.state ++ c ∷ []; failed = false; readable = old.readable })
 Records old c (Err e) new =
-    (kind_of e ≡ cause old.failed) × (new ≡ record { state = old.state; failed = true; readable = old.readable })
+    (kind_of e ≡ cause old.failed)
+    × (new ≡ record { state = old.state; failed = true; readable = old.readable })
 
 -- the list after these calls were sent: with all of them at its end, or with a beginning of them
 abbrev pub Lists : List Event → List Event → Answer → List Event → Type 0
 Lists old calls (Ok u) new = new ≡ old ++ calls
-Lists old calls (Err e) new = (made rest : List Event) × (made ++ rest ≡ calls) × (new ≡ old ++ made)
+Lists old calls (Err e) new = (made rest : List Event)
+    × (made ++ rest ≡ calls) × (new ≡ old ++ made)
 
 -- what is sent to a recorder is listed, whatever it is and whatever refuses it
 abbrev pub SentIsListed : Type 0
-SentIsListed = (old new : Seen (List Event)) (sc : Bool → Script) (r : Answer) → Sends recorded refuses old sc r new
+SentIsListed = (old new : Seen (List Event)) (sc : Bool → Script) (r : Answer)
+    → Sends recorded refuses old sc r new
     → Lists old.state (calls_of (sc old.readable)) r new.state

@@ -22,13 +22,16 @@ limit_of s = s.limit
 -- the tree that the calls spell, or the stop's error, or out of memory
 abbrev pub Serialized : Script → Result NamedValue Error → Type 0
 Serialized sc (Ok v) = (stop_of sc ≡ None) × SpellsWhole (calls_of sc) (tree_of v)
-Serialized sc (Err e) = IsOutOfMemory e ⊎ ((message : List ℕ) × (stop_of sc ≡ Some message) × IsCustom message e)
+Serialized sc (Err e) = IsOutOfMemory e
+    ⊎ ((message : List ℕ) × (stop_of sc ≡ Some message) × IsCustom message e)
 
 -- the tree that the calls spell within the limit; or the stop's error, where they keep it; or out of memory; or a
 -- call out of place, where they don't keep it
 abbrev pub SerializedWithin : ℕ → Script → Result NamedValue Error → Type 0
-SerializedWithin limit sc (Ok v) = (stop_of sc ≡ None) × SpellsWithin limit (calls_of sc) (tree_of v)
+SerializedWithin limit sc (Ok v) = (stop_of sc ≡ None)
+    × SpellsWithin limit (calls_of sc) (tree_of v)
 SerializedWithin limit sc (Err e) =
     IsOutOfMemory e
-    ⊎ (((message : List ℕ) × (stop_of sc ≡ Some message) × IsCustom message e × IsViableWithin limit (calls_of sc))
+    ⊎ (((message : List ℕ) × (stop_of sc ≡ Some message)
+    × IsCustom message e × IsViableWithin limit (calls_of sc))
     ⊎ ((kind_of e ≡ Misplaced) × ¬ IsViableWithin limit (calls_of sc)))

@@ -7,7 +7,8 @@ use Rattle.content_tree.proofs.SameTree.{trees_tie}
 use Rattle.content_tree.specs.Orders.Trees.{text_cmp}
 use Rattle.content_de.specs.Sources.Origin.{Origin, of_tree, of_identifier, Flags, Subject}
 use Rattle.content_de.specs.Sources.Deserializer.{origin_of, subject}
-use Rattle.content_de.specs.Sources.Order.{origin_cmp, flags_cmp, subject_cmp, unmarked_origin, SameSubject}
+use Rattle.content_de.specs.Sources.Order.{origin_cmp, flags_cmp, subject_cmp, unmarked_origin}
+use Rattle.content_de.specs.Sources.Order.{SameSubject}
 use Rattle.content_de.specs.declared.source.Source.{Source}
 use Rattle.content_de.specs.declared.source.Source.TheVariants as source
 use Rattle.content_de.specs.declared.deserializer.Deserializer.{Deserializer}

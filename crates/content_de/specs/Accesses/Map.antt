@@ -3,7 +3,8 @@ use Rattle.std.specs.Prelude.{ℕ, List, [], ◌∷◌, Bool, true, false, Optio
 use Rattle.content_tree.specs.Values.Tree.{Tree, unit}
 use Rattle.content_tree.specs.Values.Value.{pairs_view, fields_view}
 use Rattle.content_tree.specs.Errors.Cause.{custom}
-use Rattle.content_de.specs.Sources.Origin.{Origin, of_tree, Flags, Subject, tree_under, subject_under}
+use Rattle.content_de.specs.Sources.Origin.{Origin, of_tree, Flags, Subject, tree_under}
+use Rattle.content_de.specs.Sources.Origin.{subject_under}
 use Rattle.content_de.specs.Sources.Deserializer.{flags_of}
 use Rattle.content_de.specs.Outcomes.{Outcome, taken, refused, outcome_map}
 use Rattle.content_de.specs.Requests.Compounds.{entries_of_pairs, entries_of_fields}

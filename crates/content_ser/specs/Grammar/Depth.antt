@@ -19,19 +19,23 @@ abbrev mutual
   Keeps (spells_record fs) limit depth = (depth ≤ limit) × FieldsKeep fs limit (suc depth)
 
   -- the items at this depth
-  pub ElementsKeep : {m : ItemCall} {calls rest : List Token} {ts : Trees} → SpellsElements m calls ts rest → ℕ → ℕ → Type 0
+  pub ElementsKeep : {m : ItemCall} {calls rest : List Token} {ts : Trees}
+      → SpellsElements m calls ts rest → ℕ → ℕ → Type 0
   ElementsKeep elements_end limit depth = Unit {0}
   ElementsKeep (elements_more s es) limit depth = Keeps s limit depth × ElementsKeep es limit depth
 
   -- the keys and values at this depth, those that are dropped too
-  pub MapItemsKeep : {calls rest : List Token} {items : List MapItem} → SpellsMapItems calls items rest → ℕ → ℕ → Type 0
+  pub MapItemsKeep : {calls rest : List Token} {items : List MapItem}
+      → SpellsMapItems calls items rest → ℕ → ℕ → Type 0
   MapItemsKeep items_end limit depth = Unit {0}
   MapItemsKeep (items_key s is) limit depth = Keeps s limit depth × MapItemsKeep is limit depth
   MapItemsKeep (items_value s is) limit depth = Keeps s limit depth × MapItemsKeep is limit depth
-  MapItemsKeep (items_entry k v is) limit depth = Keeps k limit depth × Keeps v limit depth × MapItemsKeep is limit depth
+  MapItemsKeep (items_entry k v is) limit depth =
+      Keeps k limit depth × Keeps v limit depth × MapItemsKeep is limit depth
 
   -- the fields at this depth
-  pub FieldsKeep : {calls rest : List Token} {fs : Fields} → SpellsFields calls fs rest → ℕ → ℕ → Type 0
+  pub FieldsKeep : {calls rest : List Token} {fs : Fields}
+      → SpellsFields calls fs rest → ℕ → ℕ → Type 0
   FieldsKeep fields_end limit depth = Unit {0}
   FieldsKeep (fields_more s fs) limit depth = Keeps s limit depth × FieldsKeep fs limit depth
 

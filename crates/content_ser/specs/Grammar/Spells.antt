@@ -35,27 +35,52 @@ mutual
   -- what stands before the rest spells the tree
   pub data Spells : List Token → Tree → List Token → Type 0 where
     spells_leaf : {t : Tree} {rest : List Token} → Spells (leaf t ∷ rest) t rest
-    spells_wrap : {w : Wrap} {calls rest : List Token} {t : Tree} → Spells calls t rest → Spells (wrap w ∷ calls) (wrapped w t) rest
-    spells_row : {r : Row} {calls rest : List Token} {ts : Trees} → SpellsElements (item_call r) calls ts rest → Spells (open_row r ∷ calls) (row_tree r ts) rest
-    spells_map : {calls rest : List Token} {items : List MapItem} → SpellsMapItems calls items rest → Spells (open_map ∷ calls) (tree.map (pairs items)) rest
-    spells_record : {h : Head} {calls rest : List Token} {fs : Fields} → SpellsFields calls fs rest → Spells (open_record h ∷ calls) (record_tree h fs) rest
+    spells_wrap : {w : Wrap} {calls rest : List Token} {t : Tree}
+        → Spells calls t rest
+        → Spells (wrap w ∷ calls) (wrapped w t) rest
+    spells_row : {r : Row} {calls rest : List Token} {ts : Trees}
+        → SpellsElements (item_call r) calls ts rest
+        → Spells (open_row r ∷ calls) (row_tree r ts) rest
+    spells_map : {calls rest : List Token} {items : List MapItem}
+        → SpellsMapItems calls items rest
+        → Spells (open_map ∷ calls) (tree.map (pairs items)) rest
+    spells_record : {h : Head} {calls rest : List Token} {fs : Fields}
+        → SpellsFields calls fs rest
+        → Spells (open_record h ∷ calls) (record_tree h fs) rest
 
   -- items after this item call, and the end
   pub data SpellsElements : ItemCall → List Token → Trees → List Token → Type 0 where
-    elements_end : {m : ItemCall} {rest : List Token} → SpellsElements m (finish ∷ rest) no_trees rest
-    elements_more : {m : ItemCall} {calls mid rest : List Token} {t : Tree} {ts : Trees} → Spells calls t mid → SpellsElements m mid ts rest → SpellsElements m (token.item m ∷ calls) (tree_then t ts) rest
+    elements_end : {m : ItemCall} {rest : List Token}
+        → SpellsElements m (finish ∷ rest) no_trees rest
+    elements_more : {m : ItemCall} {calls mid rest : List Token} {t : Tree} {ts : Trees}
+        → Spells calls t mid
+        → SpellsElements m mid ts rest
+        → SpellsElements m (token.item m ∷ calls) (tree_then t ts) rest
 
   -- the items of a map, and the end
   pub data SpellsMapItems : List Token → List MapItem → List Token → Type 0 where
     items_end : {rest : List Token} → SpellsMapItems (finish ∷ rest) [] rest
-    items_key : {calls mid rest : List Token} {t : Tree} {items : List MapItem} → Spells calls t mid → SpellsMapItems mid items rest → SpellsMapItems (token.key ∷ calls) (key t ∷ items) rest
-    items_value : {calls mid rest : List Token} {t : Tree} {items : List MapItem} → Spells calls t mid → SpellsMapItems mid items rest → SpellsMapItems (token.value ∷ calls) (value t ∷ items) rest
-    items_entry : {calls mid last rest : List Token} {k v : Tree} {items : List MapItem} → Spells calls k mid → Spells mid v last → SpellsMapItems last items rest → SpellsMapItems (token.entry ∷ calls) (entry k v ∷ items) rest
+    items_key : {calls mid rest : List Token} {t : Tree} {items : List MapItem}
+        → Spells calls t mid
+        → SpellsMapItems mid items rest
+        → SpellsMapItems (token.key ∷ calls) (key t ∷ items) rest
+    items_value : {calls mid rest : List Token} {t : Tree} {items : List MapItem}
+        → Spells calls t mid
+        → SpellsMapItems mid items rest
+        → SpellsMapItems (token.value ∷ calls) (value t ∷ items) rest
+    items_entry : {calls mid last rest : List Token} {k v : Tree} {items : List MapItem}
+        → Spells calls k mid
+        → Spells mid v last
+        → SpellsMapItems last items rest
+        → SpellsMapItems (token.entry ∷ calls) (entry k v ∷ items) rest
 
   -- the fields of a struct or a struct variant, and the end
   pub data SpellsFields : List Token → Fields → List Token → Type 0 where
     fields_end : {rest : List Token} → SpellsFields (finish ∷ rest) no_fields rest
-    fields_more : {calls mid rest : List Token} {k : List ℕ} {t : Tree} {fs : Fields} → Spells calls t mid → SpellsFields mid fs rest → SpellsFields (token.field k ∷ calls) (field_then (static_name k) t fs) rest
+    fields_more : {calls mid rest : List Token} {k : List ℕ} {t : Tree} {fs : Fields}
+        → Spells calls t mid
+        → SpellsFields mid fs rest
+        → SpellsFields (token.field k ∷ calls) (field_then (static_name k) t fs) rest
 
 -- the list spells the tree
 abbrev pub SpellsWhole : List Event → Tree → Type 0

@@ -12,22 +12,30 @@ use Rattle.content_ser.specs.Scripts.Script.{IsCustom}
 abbrev pub Halted : {S : Type 0} → Step S → RefusalRule S → S → List Event → Error → S → Type 0
 Halted {S} step refuses old cs e new =
     (made : List Event) × (c : Event) × (rest : List Event) × (mid : S)
-    × (made ++ c ∷ rest ≡ cs) × (run step old made ≡ Some mid) × RefusesCall step refuses mid c e new
+    × (made ++ c ∷ rest ≡ cs) × (run step old made ≡ Some mid)
+    × RefusesCall step refuses mid c e new
 
 -- some beginning of the calls runs to this state
 abbrev pub RunsTo : {S : Type 0} → Step S → S → List Event → S → Type 0
-RunsTo step old cs new = (made rest : List Event) × (made ++ rest ≡ cs) × (run step old made ≡ Some new)
+RunsTo step old cs new = (made rest : List Event)
+    × (made ++ rest ≡ cs) × (run step old made ≡ Some new)
 
 -- all its calls are made, and then it stops
 abbrev pub Stopped : {S : Type 0} → Step S → S → Script → Error → S → Type 0
-Stopped step old sc e new = (message : List ℕ) × (stop_of sc ≡ Some message) × IsCustom message e × (run step old (calls_of sc) ≡ Some new)
+Stopped step old sc e new =
+    (message : List ℕ) × (stop_of sc ≡ Some message) × IsCustom message e
+    × (run step old (calls_of sc) ≡ Some new)
 
 -- a script sent to a serialiser that has not failed
-abbrev pub AnswersScript : {S : Type 0} → Step S → RefusalRule S → S → Script → Answer → Bool → S → Type 0
-AnswersScript step refuses old sc (Ok u) failed new = (stop_of sc ≡ None) × (failed ≡ false) × (run step old (calls_of sc) ≡ Some new)
+abbrev pub AnswersScript : {S : Type 0} → Step S → RefusalRule S
+    → S → Script → Answer → Bool → S → Type 0
+AnswersScript step refuses old sc (Ok u) failed new = (stop_of sc ≡ None)
+    × (failed ≡ false)
+    × (run step old (calls_of sc) ≡ Some new)
 AnswersScript step refuses old sc (Err e) failed new =
     ((failed ≡ true) × Halted step refuses old (calls_of sc) e new)
-    ⊎ ((failed ≡ false) × (Stopped step old sc e new ⊎ (IsOutOfMemory e × RunsTo step old (calls_of sc) new)))
+    ⊎ ((failed ≡ false)
+    × (Stopped step old sc e new ⊎ (IsOutOfMemory e × RunsTo step old (calls_of sc) new)))
 
 -- a script sent to a serialiser that has failed before: its first call is refused, or none is made
 abbrev pub AnswersInVain : {S : Type 0} → RefusalRule S → S → Script → Answer → S → Type 0
@@ -35,11 +43,17 @@ AnswersInVain refuses old done (Ok u) new = new ≡ old
 AnswersInVain refuses old (stop_with message) (Ok u) new = ⊥
 AnswersInVain refuses old (call_then c sc) (Ok u) new = ⊥
 AnswersInVain refuses old done (Err e) new = IsOutOfMemory e × (new ≡ old)
-AnswersInVain refuses old (stop_with message) (Err e) new = (IsCustom message e ⊎ IsOutOfMemory e) × (new ≡ old)
-AnswersInVain refuses old (call_then c sc) (Err e) new = refuses after_failure old e new ⊎ (IsOutOfMemory e × (new ≡ old))
+AnswersInVain refuses old (stop_with message) (Err e) new =
+    (IsCustom message e ⊎ IsOutOfMemory e) × (new ≡ old)
+AnswersInVain refuses old (call_then c sc) (Err e) new =
+    refuses after_failure old e new
+    ⊎ (IsOutOfMemory e × (new ≡ old))
 
 -- a script, which may turn on whether the serialiser is for people to read, sent to a serialiser
-pub record Sends {S : Type 0} (step : Step S) (refuses : RefusalRule S) (old : Seen S) (sc : Bool → Script) (r : Answer) (new : Seen S) : Type 0 where
+pub record Sends {S : Type 0} (step : Step S) (refuses : RefusalRule S)
+    (old : Seen S) (sc : Bool → Script) (r : Answer) (new : Seen S) : Type 0 where
   pub readable : new.readable ≡ old.readable
-  pub when_failed : old.failed ≡ true → (new.failed ≡ true) × AnswersInVain refuses old.state (sc old.readable) r new.state
-  pub otherwise : old.failed ≡ false → AnswersScript step refuses old.state (sc old.readable) r new.failed new.state
+  pub when_failed : old.failed ≡ true
+      → (new.failed ≡ true) × AnswersInVain refuses old.state (sc old.readable) r new.state
+  pub otherwise : old.failed ≡ false
+      → AnswersScript step refuses old.state (sc old.readable) r new.failed new.state

@@ -22,7 +22,9 @@ as_built = at_texts to_owned to_static
 
 -- without a stop, the calls of a tree spell it
 abbrev pub ScriptSpells : Type 0
-ScriptSpells = (t : Tree) → stop_of (script_of t) ≡ None → SpellsWhole (calls_of (script_of t)) (as_built t)
+ScriptSpells = (t : Tree)
+    → stop_of (script_of t) ≡ None
+    → SpellsWhole (calls_of (script_of t)) (as_built t)
 
 -- the loose form of a loose form is itself
 abbrev pub LooseOnce : Type 0
@@ -32,7 +34,8 @@ LooseOnce = (t : Tree) → loose (loose t) ≡ loose t
 -- its texts and byte values owned
 abbrev pub CanonicalSpelled : Type 0
 CanonicalSpelled = (t c : Tree) (readable : Bool) → IsCanonical t c
-    → (stop_of (loose_script t readable) ≡ None) × SpellsWhole (calls_of (loose_script t readable)) (owned c)
+    → (stop_of (loose_script t readable) ≡ None)
+    × SpellsWhole (calls_of (loose_script t readable)) (owned c)
 
 -- a tree has a canonical form, or it has none and its script stops
 abbrev pub CanonicalOrStops : Type 0

@@ -46,8 +46,11 @@ abbrev mutual
   loose (tree.map ps) = tree.map (loose_pairs ps)
   loose tree.absent = tree.absent
   loose (tree.present t) = tree.present (loose t)
-  loose (tree.structure n p) = if n.borrowed then tree.structure n (loose_data p) else loose_struct p
-  loose (tree.enumeration n i v p) = if n.borrowed && v.borrowed then tree.enumeration n i v (loose_data p) else loose_variant v p
+  loose (tree.structure n p) =
+      if n.borrowed then tree.structure n (loose_data p) else loose_struct p
+  loose (tree.enumeration n i v p) =
+      if n.borrowed && v.borrowed then tree.enumeration n i v (loose_data p)
+      else loose_variant v p
   loose (tree.tuple ts) = tree.tuple (loose_each ts)
 
   -- a struct with an owned name: what it holds
@@ -89,7 +92,8 @@ abbrev mutual
   -- fields as pairs with text keys, order and duplicates kept
   pub loose_field_pairs : Fields → Pairs
   loose_field_pairs tree.no_fields = tree.no_pairs
-  loose_field_pairs (tree.field_then k t fs) = tree.pair_then (tree.text k) (loose t) (loose_field_pairs fs)
+  loose_field_pairs (tree.field_then k t fs) =
+      tree.pair_then (tree.text k) (loose t) (loose_field_pairs fs)
 
   -- fields by the bytes of their keys
   pub keyed : Fields → List KeyedTree

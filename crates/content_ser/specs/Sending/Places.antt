@@ -12,8 +12,11 @@ abbrev pub keyed_tree_of : CowStr × NamedValue → KeyedTree
 keyed_tree_of f = (text_content f.0, loose (tree_of f.1))
 
 -- each place has the field of its entry
-abbrev pub StandsFor : List (CowStr × NamedValue) → List (Bor (List ℕ) × ℕ) → List KeyedTree → Type 0
+abbrev pub StandsFor : List (CowStr × NamedValue) → List (Bor (List ℕ) × ℕ)
+    → List KeyedTree → Type 0
 StandsFor fs [] [] = Unit {0}
 StandsFor fs [] (e ∷ es) = ⊥
 StandsFor fs (p ∷ ps) [] = ⊥
-StandsFor fs (p ∷ ps) (e ∷ es) = (slice_get (map keyed_tree_of fs) p.1 ≡ Some e) × (p.0.now ≡ e.0) × StandsFor fs ps es
+StandsFor fs (p ∷ ps) (e ∷ es) =
+    (slice_get (map keyed_tree_of fs) p.1 ≡ Some e) × (p.0.now ≡ e.0)
+    × StandsFor fs ps es

@@ -44,12 +44,14 @@ abbrev mutual
   -- in pairs
   pub EachPairName : (Name Key : Text → Type 0) → Pairs → Type 0
   EachPairName Name Key tree.no_pairs = Unit {0}
-  EachPairName Name Key (tree.pair_then k t ps) = EachName Name Key k × EachName Name Key t × EachPairName Name Key ps
+  EachPairName Name Key (tree.pair_then k t ps) =
+      EachName Name Key k × EachName Name Key t × EachPairName Name Key ps
 
   -- in fields
   pub EachFieldName : (Name Key : Text → Type 0) → Fields → Type 0
   EachFieldName Name Key tree.no_fields = Unit {0}
-  EachFieldName Name Key (tree.field_then k t fs) = Key k × EachName Name Key t × EachFieldName Name Key fs
+  EachFieldName Name Key (tree.field_then k t fs) =
+      Key k × EachName Name Key t × EachFieldName Name Key fs
 
 -- each name of a struct, and each name and variant of an enum, is static
 abbrev pub HasStaticNames : Tree → Type 0

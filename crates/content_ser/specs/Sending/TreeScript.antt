@@ -16,11 +16,13 @@ owned_key_text k = codes "failed to deserialize; expected a static string slice,
 
 -- a field's key: a call, or a stop where it is owned
 abbrev pub key_script : Text → Script
-key_script k = if k.borrowed then call_then (event.field k.content) done else stop_with (owned_key_text k.content)
+key_script k =
+    if k.borrowed then call_then (event.field k.content) done else stop_with (owned_key_text k.content)
 
 -- the calls that open a map of one entry, up to its text key
 abbrev pub single_head : Text → Script
-single_head k = call_then (event.map (Some 1)) (call_then event.entry (call_then (event.text k.content) done))
+single_head k =
+    call_then (event.map (Some 1)) (call_then event.entry (call_then (event.text k.content) done))
 
 -- its call where nothing is held
 abbrev pub unit_call : Head → Event
@@ -66,7 +68,8 @@ abbrev mutual
   script_of (tree.character c) = call_then (event.character c) done
   script_of (tree.text t) = call_then (event.text t.content) done
   script_of (tree.octets t) = call_then (event.octets t.content) done
-  script_of (tree.seq ts) = call_then (event.seq (Some (count ts))) (script_of_each event.element ts)
+  script_of (tree.seq ts) =
+      call_then (event.seq (Some (count ts))) (script_of_each event.element ts)
   script_of (tree.map ps) = call_then (event.map (Some (count_pairs ps))) (script_of_pairs ps)
   script_of tree.absent = call_then event.none done
   script_of (tree.present t) = call_then event.some (script_of t)
@@ -78,23 +81,28 @@ abbrev mutual
   pub script_of_data : Head → TreeData → Script
   script_of_data head tree.no_data = call_then (unit_call head) done
   script_of_data head (tree.one t) = call_then (newtype_call head) (script_of t)
-  script_of_data head (tree.many ts) = call_then (tuple_call head (count ts)) (script_of_each event.tuple_field ts)
-  script_of_data head (tree.named fs) = call_then (struct_call head (count_fields fs)) (script_of_fields fs)
+  script_of_data head (tree.many ts) =
+      call_then (tuple_call head (count ts)) (script_of_each event.tuple_field ts)
+  script_of_data head (tree.named fs) =
+      call_then (struct_call head (count_fields fs)) (script_of_fields fs)
 
   -- each item after this call, and the end
   pub script_of_each : Event → Trees → Script
   script_of_each item_call tree.no_trees = call_then event.end done
-  script_of_each item_call (tree.tree_then t ts) = call_then item_call (and_then (script_of t) (script_of_each item_call ts))
+  script_of_each item_call (tree.tree_then t ts) =
+      call_then item_call (and_then (script_of t) (script_of_each item_call ts))
 
   -- each pair as an entry, and the end
   pub script_of_pairs : Pairs → Script
   script_of_pairs tree.no_pairs = call_then event.end done
-  script_of_pairs (tree.pair_then k t ps) = call_then event.entry (and_then (script_of k) (and_then (script_of t) (script_of_pairs ps)))
+  script_of_pairs (tree.pair_then k t ps) =
+      call_then event.entry (and_then (script_of k) (and_then (script_of t) (script_of_pairs ps)))
 
   -- each field, and the end
   pub script_of_fields : Fields → Script
   script_of_fields tree.no_fields = call_then event.end done
-  script_of_fields (tree.field_then k t fs) = and_then (key_script k) (and_then (script_of t) (script_of_fields fs))
+  script_of_fields (tree.field_then k t fs) =
+      and_then (key_script k) (and_then (script_of t) (script_of_fields fs))
 
 -- what is sent for a tree, whether the serialiser is for people to read or not
 abbrev pub loose_script : Tree → Bool → Script

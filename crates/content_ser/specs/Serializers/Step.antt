@@ -41,17 +41,24 @@ RefusesCall step refuses old c e new =
     ⊎ (IsSome (step old c) × IsOutOfMemory e × refuses no_memory old e new)
 
 -- one call on a serialiser that has not failed
-abbrev pub AnswersCall : {S : Type 0} → Step S → RefusalRule S → S → Event → Answer → Bool → S → Type 0
+abbrev pub AnswersCall : {S : Type 0} → Step S → RefusalRule S
+    → S → Event → Answer → Bool → S → Type 0
 AnswersCall step refuses old c (Ok u) failed new = (failed ≡ false) × (step old c ≡ Some new)
-AnswersCall step refuses old c (Err e) failed new = (failed ≡ true) × RefusesCall step refuses old c e new
+AnswersCall step refuses old c (Err e) failed new =
+    (failed ≡ true) × RefusesCall step refuses old c e new
 
 -- one call: the answer and the state after it
-pub record Takes {S : Type 0} (step : Step S) (refuses : RefusalRule S) (old : Seen S) (c : Event) (r : Answer) (new : Seen S) : Type 0 where
+pub record Takes {S : Type 0} (step : Step S) (refuses : RefusalRule S)
+    (old : Seen S) (c : Event) (r : Answer) (new : Seen S) : Type 0 where
   pub readable : new.readable ≡ old.readable
-  pub when_failed : old.failed ≡ true → IsErrAnd r (λ e. (new.failed ≡ true) × refuses after_failure old.state e new.state)
+  pub when_failed : old.failed ≡ true
+      → IsErrAnd r (λ e. (new.failed ≡ true) × refuses after_failure old.state e new.state)
   pub otherwise : old.failed ≡ false → AnswersCall step refuses old.state c r new.failed new.state
 
 -- the text call of these printed bytes, or nothing done where there was no memory to print them
-abbrev pub Collects : {S : Type 0} → Step S → RefusalRule S → Seen S → Option (List ℕ) → Answer → Seen S → Type 0
+abbrev pub Collects : {S : Type 0} → Step S → RefusalRule S → Seen S
+    → Option (List ℕ) → Answer → Seen S → Type 0
 Collects step refuses old printed r new =
-    ((bytes : List ℕ) × IfSome printed (λ stated. bytes ≡ stated) × Takes step refuses old (text bytes) r new) ⊎ (IsErrAnd r IsOutOfMemory × (new ≡ old))
+    ((bytes : List ℕ) × IfSome printed (λ stated. bytes ≡ stated)
+    × Takes step refuses old (text bytes) r new)
+    ⊎ (IsErrAnd r IsOutOfMemory × (new ≡ old))

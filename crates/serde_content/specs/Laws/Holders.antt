@@ -1,5 +1,6 @@
 -- What holds others comes back where they do.
-use Rattle.std.specs.Prelude.{◌≡◌, Bool, true, false, List, [], ◌∷◌, Option, None, Some, IfSome, refl}
+use Rattle.std.specs.Prelude.{◌≡◌, Bool, true, false, List, [], ◌∷◌, Option, None, Some, IfSome}
+use Rattle.std.specs.Prelude.{refl}
 use Rattle.std.specs.Option.{option_eq}
 use Rattle.std.specs.List.{AllByRecursion}
 use Rattle.std.specs.Cmp.Lexicographic.{pointwise}
@@ -18,7 +19,8 @@ use Rattle.content_de.specs.Reads.Standard.{held_refusal, HeldGives, items_refus
 use Rattle.content_de.specs.Reads.Standard.{seq_refusal, SeqGives}
 use Rattle.serde_content.specs.RoundTrip.{SpellsSuch, GivesOnly, ComesBack, MayGive, CoercionKeeps}
 use Rattle.serde_content.specs.RoundTrip.{flags, under}
-use Rattle.serde_content.specs.Laws.Spelled.{RowSuch, Spelled, spelled_call, such_spelled, leaf_such}
+use Rattle.serde_content.specs.Laws.Spelled.{RowSuch, Spelled, spelled_call, such_spelled}
+use Rattle.serde_content.specs.Laws.Spelled.{leaf_such}
 use Rattle.serde_content.specs.Laws.Spelled.{wrapped_such, row_end, row_more}
 
 -- two refusals that aren't there

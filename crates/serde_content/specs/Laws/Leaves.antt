@@ -21,7 +21,8 @@ use Rattle.content_tree.proofs.DerivedTies.{equal_numbers}
 use Rattle.content_ser.specs.Calls.Event as event
 use Rattle.content_ser.specs.Scripts.Standard.{only}
 use Rattle.content_de.specs.Sources.Origin.{Origin, of_tree, Flags, tree_under}
-use Rattle.content_de.specs.Outcomes.{Outcome, taken, refused, misfit, IsRefused, IsTaken, refusal_of}
+use Rattle.content_de.specs.Outcomes.{Outcome, taken, refused, misfit, IsRefused, IsTaken}
+use Rattle.content_de.specs.Outcomes.{refusal_of}
 use Rattle.content_de.specs.Requests.Data.{or_else}
 use Rattle.content_de.specs.Requests.Leaves.{bool_from, char_from, unit_from, text_from}
 use Rattle.content_de.specs.Requests.Numbers.{number_from, expected_number}

@@ -1,5 +1,6 @@
 -- Values by key come back where each field does.
-use Rattle.std.specs.Prelude.{◌≡◌, ℕ, suc, Bool, true, false, List, [], ◌∷◌, Option, None, Some, refl, ⊤, codes}
+use Rattle.std.specs.Prelude.{◌≡◌, ℕ, suc, Bool, true, false, List, [], ◌∷◌, Option, None, Some}
+use Rattle.std.specs.Prelude.{refl, ⊤, codes}
 use Rattle.std.proofs.lemmas.Slice.Eq.{bytes_eq-Decides}
 use Rattle.content_tree.specs.Values.Text.{Text}
 use Rattle.content_tree.specs.Values.Tree.{Tree}
@@ -9,15 +10,18 @@ use Rattle.content_ser.specs.Grammar.Token as token
 use Rattle.content_ser.specs.Calls.Head.{of_struct}
 use Rattle.content_ser.specs.Scripts.Script.{Script}
 use Rattle.content_ser.specs.Scripts.Standard.{ScriptOf}
-use Rattle.content_ser.specs.Scripts.Own.{end_script, field_first, struct_script, newtype_struct_script}
+use Rattle.content_ser.specs.Scripts.Own.{end_script, field_first, struct_script}
+use Rattle.content_ser.specs.Scripts.Own.{newtype_struct_script}
 use Rattle.content_de.specs.Sources.Origin.{Origin, of_tree, of_identifier, Flags, tree_under}
 use Rattle.content_de.specs.Outcomes.{Outcome, taken, refused, outcome_map, refusal_then, IsTaken}
 use Rattle.content_de.specs.Requests.Leaves.{text_from}
 use Rattle.content_de.specs.Requests.Compounds.{entries_of_fields, newtype_in, struct_from}
 use Rattle.content_de.specs.Accesses.Map.{MapLeft, entries_under}
 use Rattle.content_de.specs.Reads.Read.{Refusal, Gives, first_of}
-use Rattle.content_de.specs.Reads.Own.{struct_refusal, StructGives, unless_named, field_then, no_field}
-use Rattle.content_de.specs.Reads.Own.{FieldThen, NoField, newtype_struct_refusal, NewtypeStructGives}
+use Rattle.content_de.specs.Reads.Own.{struct_refusal, StructGives, unless_named, field_then}
+use Rattle.content_de.specs.Reads.Own.{no_field}
+use Rattle.content_de.specs.Reads.Own.{FieldThen, NoField, newtype_struct_refusal}
+use Rattle.content_de.specs.Reads.Own.{NewtypeStructGives}
 use Rattle.serde_content.specs.RoundTrip.{SpellsSuch, GivesOnly, ComesBack, MayGive, CoercionKeeps}
 use Rattle.serde_content.specs.RoundTrip.{flags, under}
 use Rattle.serde_content.specs.Laws.Spelled.{FieldsSuch, Spelled, spelled_call, such_spelled}

@@ -1,5 +1,6 @@
 -- The variants of an enum come back where what they hold does.
-use Rattle.std.specs.Prelude.{◌≡◌, ℕ, Bool, true, false, List, Option, None, Some, option_map, refl, ⊤}
+use Rattle.std.specs.Prelude.{◌≡◌, ℕ, Bool, true, false, List, Option, None, Some, option_map, refl}
+use Rattle.std.specs.Prelude.{⊤}
 use Rattle.std.proofs.Common.{sym, subst, ◌∙◌}
 use Rattle.std.specs.Str.{bytes_eq}
 use Rattle.std.proofs.lemmas.Slice.Eq.{bytes_eq-Decides}
@@ -23,7 +24,8 @@ use Rattle.content_de.specs.Accesses.Map.{MapLeft, entries_under}
 use Rattle.content_de.specs.Accesses.Enum.{VariantLeft, Held, a_node, nothing, a_value, wrong_sort}
 use Rattle.content_de.specs.Accesses.Enum.{one_held, many_held, entries_held}
 use Rattle.content_de.specs.Reads.Read.{Refusal, Gives}
-use Rattle.content_de.specs.Reads.Own.{enum_refusal, EnumGives, unit_variant_refusal, UnitVariantGives}
+use Rattle.content_de.specs.Reads.Own.{enum_refusal, EnumGives, unit_variant_refusal}
+use Rattle.content_de.specs.Reads.Own.{UnitVariantGives}
 use Rattle.content_de.specs.Reads.Own.{newtype_variant_refusal, NewtypeVariantGives}
 use Rattle.content_de.specs.Reads.Own.{tuple_variant_refusal, TupleVariantGives}
 use Rattle.content_de.specs.Reads.Own.{struct_variant_refusal, StructVariantGives}

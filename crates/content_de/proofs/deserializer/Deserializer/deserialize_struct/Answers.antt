@@ -1,7 +1,8 @@
 use Rattle.std.proofs.Common.{rules}
 use Rattle.content_de.proofs.Values.{values}
 use Rattle.content_de.proofs.deserializer.Deserializer.deserialize_struct.Goals as goal
-use Rattle.content_de.proofs.deserializer.Deserializer.deserialize_struct.Goals.{in_default-via-in-Tree+in-Unit-1, in_default-via-in-Identifier-1}
+use Rattle.content_de.proofs.deserializer.Deserializer.deserialize_struct.Goals.{in_default-via-in-Tree+in-Unit-1}
+use Rattle.content_de.proofs.deserializer.Deserializer.deserialize_struct.Goals.{in_default-via-in-Identifier-1}
 
 pub returns-in_default : goal.returns-in_default
 returns-in_default c = elim c.in_default-1.branch [ in_default-via-in-Tree+in-Unit-1 w ↦ (search (rules, values)) | in_default-via-in-Identifier-1 w ↦ (search (rules, values)) ]
