@@ -6,6 +6,7 @@ ghost use Rattle.content_tree.specs.Errors.Kind.{IsOutOfMemory};
 
 use crate::error::Result;
 use std::alloc::{AllocError, Global};
+use std::mem;
 use std::result::Result as Answer;
 
 /// A text, borrowed or owned. A borrowed name is called static: in [`Value`](crate::Value) it lives
@@ -68,6 +69,15 @@ impl<'a> CowStr<'a> {
             CowStr::Borrowed(text) => String::from_str(alloc, text),
             CowStr::Owned(text) => Ok(text),
         }
+    }
+
+    /// The text as one that is owned, taken out of the place, where an empty text is left.
+    #[inline(always)]
+    pub(crate) fn take(&mut self, alloc: Global) -> Answer<String, AllocError>
+        ensures value { IfOk result (λ text. string_bytes text ≡ text_content self.old) }
+        ensures moved { IfSome (string_in self.old) (λ text. result ≡ Ok text) }
+    {
+        mem::replace(self, CowStr::Borrowed("")).own(alloc)
     }
 
     /// A copy of the same case: a borrowed text is borrowed again, without memory, and an owned one
@@ -134,6 +144,15 @@ impl<'a> CowBytes<'a> {
             CowBytes::Borrowed(bytes) => bytes.to_vec(alloc),
             CowBytes::Owned(bytes) => Ok(bytes),
         }
+    }
+
+    /// The bytes as ones that are owned, taken out of the place, where no bytes are left.
+    #[inline(always)]
+    pub(crate) fn take(&mut self, alloc: Global) -> Answer<Vec<u8>, AllocError>
+        ensures value { IfOk result (λ bytes. bytes.items ≡ bytes_content self.old) }
+        ensures moved { IfSome (vec_in self.old) (λ bytes. result ≡ Ok bytes) }
+    {
+        mem::replace(self, CowBytes::Borrowed(&[])).own(alloc)
     }
 
     /// A copy of the same case: borrowed bytes are borrowed again, without memory, and owned ones

@@ -1,7 +1,8 @@
 //! The image of a value.
 //!
-//! Inside, an `AllocError` alone is answered, and the image of what holds parts is made by a
-//! function of its own, so that a level of a deep value takes little stack.
+//! Inside, an `AllocError` alone is answered, and a value is taken where it stands: its owned texts
+//! and bytes are moved out of it, and the rest of it is dropped at the end. So no item stands in the
+//! frame of a level, and what holds parts has a function of its own.
 ghost use Rattle.std.specs.Prelude.{◌≡◌, None, Ok, IsOk, IfOk, IfErr, IfSome};
 ghost use Rattle.content_tree.specs.Values.Value.{tree_of, tree_data_of, struct_tree, enum_tree};
 ghost use Rattle.content_tree.specs.Values.Value.{held_view, trees_view, pairs_view, fields_view};
@@ -37,29 +38,30 @@ impl<'a, 'n> NamedValue<'a, 'n> {
         ensures bytes { IfSome (vec_at self.entry) (λ own. result ≡ Ok (found.Bytes own)) }
         ensures memory { IfErr result (λ e. IsOutOfMemory e) }
     {
-        Ok(found_value(alloc, self)?)
+        let mut value = self;
+        Ok(found_value(alloc, &mut value)?)
     }
 }
 
-/// The image of a value.
+/// The image of a value, whose owned texts and bytes are taken.
 #[cycle(image)]
 #[inline(always)]
 pub(crate) fn found_value<'a, 'n>(
     alloc: Global,
-    value: NamedValue<'a, 'n>,
+    value: &mut NamedValue<'a, 'n>,
 ) -> Answer<Found, AllocError>
-    ensures value { IfOk result (λ f. image_view f ≡ image (tree_of value.entry)) }
-    ensures succeeds { OwningTakesNoMemory (tree_of value.entry) → IsOk result }
-    ensures text { IfSome (string_at value.entry) (λ own. result ≡ Ok (found.String own)) }
-    ensures bytes { IfSome (vec_at value.entry) (λ own. result ≡ Ok (found.Bytes own)) }
+    ensures value { IfOk result (λ f. image_view f ≡ image (tree_of value.old)) }
+    ensures succeeds { OwningTakesNoMemory (tree_of value.old) → IsOk result }
+    ensures text { IfSome (string_at value.old) (λ own. result ≡ Ok (found.String own)) }
+    ensures bytes { IfSome (vec_at value.old) (λ own. result ≡ Ok (found.Bytes own)) }
 {
     match value {
         NamedValue::Unit => Ok(Found::Unit),
-        NamedValue::Bool(flag) => Ok(Found::Bool(flag)),
-        NamedValue::Number(number) => Ok(Found::Number(number)),
-        NamedValue::Char(character) => Ok(Found::Char(character)),
-        NamedValue::String(text) => Ok(Found::String(text.own(alloc)?)),
-        NamedValue::Bytes(bytes) => Ok(Found::Bytes(bytes.own(alloc)?)),
+        NamedValue::Bool(flag) => Ok(Found::Bool(*flag)),
+        NamedValue::Number(number) => Ok(Found::Number(*number)),
+        NamedValue::Char(character) => Ok(Found::Char(*character)),
+        NamedValue::String(text) => Ok(Found::String(text.take(alloc)?)),
+        NamedValue::Bytes(bytes) => Ok(Found::Bytes(bytes.take(alloc)?)),
         NamedValue::Seq(items) => Ok(Found::Seq(found_items(alloc, items)?)),
         NamedValue::Map(pairs) => Ok(Found::Map(found_pairs(alloc, pairs)?)),
         NamedValue::Option(held) => Ok(Found::Option(found_option(alloc, held)?)),
@@ -74,13 +76,12 @@ pub(crate) fn found_value<'a, 'n>(
 #[inline(never)]
 pub(crate) fn found_struct<'a, 'n>(
     alloc: Global,
-    inner: Box<NamedStruct<'a, 'n>>,
+    inner: &mut NamedStruct<'a, 'n>,
 ) -> Answer<Found, AllocError>
-    ensures { IfOk result (λ f. image_view f ≡ image (struct_tree inner.entry.value)) }
+    ensures { IfOk result (λ f. image_view f ≡ image (struct_tree inner.old)) }
 {
-    let NamedStruct { name, data } = Box::into_inner(inner);
-    let data = found_data(alloc, data)?;
-    name_struct(alloc, name, data)
+    let held = found_data(alloc, &mut inner.data)?;
+    name_struct(alloc, &mut inner.name, held)
 }
 
 /// The image of a variant.
@@ -88,31 +89,25 @@ pub(crate) fn found_struct<'a, 'n>(
 #[inline(never)]
 pub(crate) fn found_enum<'a, 'n>(
     alloc: Global,
-    inner: Box<NamedEnum<'a, 'n>>,
+    inner: &mut NamedEnum<'a, 'n>,
 ) -> Answer<Found, AllocError>
-    ensures { IfOk result (λ f. image_view f ≡ image (enum_tree inner.entry.value)) }
+    ensures { IfOk result (λ f. image_view f ≡ image (enum_tree inner.old)) }
 {
-    let NamedEnum {
-        name,
-        variant_index: _,
-        variant,
-        data,
-    } = Box::into_inner(inner);
-    let data = found_data(alloc, data)?;
-    name_enum(alloc, name, variant, data)
+    let held = found_data(alloc, &mut inner.data)?;
+    name_enum(alloc, &mut inner.name, &mut inner.variant, held)
 }
 
 // The image of a struct of this name.
 #[inline(never)]
 fn name_struct<'n>(
     alloc: Global,
-    name: CowStr<'n>,
+    name: &mut CowStr<'n>,
     held: Box<FoundData>,
 ) -> Answer<Found, AllocError>
-    ensures { IfOk result (λ f. image_view f ≡ structure (text_of name.entry).content
+    ensures { IfOk result (λ f. image_view f ≡ structure (text_of name.old).content
         (image_data_view held.value)) }
 {
-    let name = name.own(alloc)?;
+    let name = name.take(alloc)?;
     Ok(Found::Struct { name, data: held })
 }
 
@@ -120,15 +115,15 @@ fn name_struct<'n>(
 #[inline(never)]
 fn name_enum<'n>(
     alloc: Global,
-    name: CowStr<'n>,
-    variant: CowStr<'n>,
+    name: &mut CowStr<'n>,
+    variant: &mut CowStr<'n>,
     held: Box<FoundData>,
 ) -> Answer<Found, AllocError>
-    ensures { IfOk result (λ f. image_view f ≡ enumeration (text_of name.entry).content
-        (text_of variant.entry).content (image_data_view held.value)) }
+    ensures { IfOk result (λ f. image_view f ≡ enumeration (text_of name.old).content
+        (text_of variant.old).content (image_data_view held.value)) }
 {
-    let name = name.own(alloc)?;
-    let variant = variant.own(alloc)?;
+    let name = name.take(alloc)?;
+    let variant = variant.take(alloc)?;
     Ok(Found::Enum {
         name,
         variant,
@@ -158,10 +153,10 @@ fn box_fields(alloc: Global, fields: Vec<(String, Found)>) -> Answer<Box<FoundDa
 #[inline(never)]
 fn found_newtype<'a, 'n>(
     alloc: Global,
-    value: NamedValue<'a, 'n>,
+    value: &mut NamedValue<'a, 'n>,
 ) -> Answer<Box<FoundData>, AllocError>
     ensures { IfOk result (λ held. image_data_view held.value ≡ one
-        (image (tree_of value.entry))) }
+        (image (tree_of value.old))) }
 {
     let value = found_value(alloc, value)?;
     Ok(Box::new(alloc, FoundData::NewType(value))?)
@@ -169,9 +164,12 @@ fn found_newtype<'a, 'n>(
 
 #[cycle(image)]
 #[inline(always)]
-fn found_data<'a, 'n>(alloc: Global, inner: NamedData<'a, 'n>) -> Answer<Box<FoundData>, AllocError>
+fn found_data<'a, 'n>(
+    alloc: Global,
+    inner: &mut NamedData<'a, 'n>,
+) -> Answer<Box<FoundData>, AllocError>
     ensures { IfOk result (λ held. image_data_view held.value ≡ image_data
-        (tree_data_of inner.entry)) }
+        (tree_data_of inner.old)) }
 {
     match inner {
         NamedData::Unit => Ok(Box::new(alloc, FoundData::Unit)?),
@@ -185,15 +183,15 @@ fn found_data<'a, 'n>(alloc: Global, inner: NamedData<'a, 'n>) -> Answer<Box<Fou
 #[inline(never)]
 fn found_option<'a, 'n>(
     alloc: Global,
-    held: Option<Box<NamedValue<'a, 'n>>>,
+    held: &mut Option<Box<NamedValue<'a, 'n>>>,
 ) -> Answer<Option<Box<Found>>, AllocError>
-    ensures value { IfOk result (λ f. held_image f ≡ image (held_view held.entry)) }
-    ensures succeeds { held.entry ≡ None → IsOk result }
+    ensures value { IfOk result (λ f. held_image f ≡ image (held_view held.old)) }
+    ensures succeeds { held.old ≡ None → IsOk result }
 {
     match held {
         None => Ok(None),
         Some(inner) => {
-            let inner = found_value(alloc, Box::into_inner(inner))?;
+            let inner = found_value(alloc, inner)?;
             Ok(Some(Box::new(alloc, inner)?))
         }
     }
@@ -203,13 +201,13 @@ fn found_option<'a, 'n>(
 #[inline(never)]
 fn found_items<'a, 'n>(
     alloc: Global,
-    items: Vec<NamedValue<'a, 'n>>,
+    items: &mut Vec<NamedValue<'a, 'n>>,
 ) -> Answer<Vec<Found>, AllocError>
     ensures { IfOk result (λ f. images_view f.items ≡ image_each
-        (trees_view items.entry.items)) }
+        (trees_view items.old.items)) }
 {
     let mut found = Vec::with_capacity(alloc, items.len())?;
-    for item in items {
+    for item in items.iter_mut() {
         found.push_reserved(found_value(alloc, item)?);
     }
     Ok(found)
@@ -219,13 +217,13 @@ fn found_items<'a, 'n>(
 #[inline(never)]
 fn found_pairs<'a, 'n>(
     alloc: Global,
-    pairs: Vec<(NamedValue<'a, 'n>, NamedValue<'a, 'n>)>,
+    pairs: &mut Vec<(NamedValue<'a, 'n>, NamedValue<'a, 'n>)>,
 ) -> Answer<Vec<(Found, Found)>, AllocError>
     ensures { IfOk result (λ f. image_pairs_view f.items ≡ image_pairs
-        (pairs_view pairs.entry.items)) }
+        (pairs_view pairs.old.items)) }
 {
     let mut found = Vec::with_capacity(alloc, pairs.len())?;
-    for (key, value) in pairs {
+    for (key, value) in pairs.iter_mut() {
         let key = found_value(alloc, key)?;
         let value = found_value(alloc, value)?;
         found.push_reserved((key, value));
@@ -237,14 +235,14 @@ fn found_pairs<'a, 'n>(
 #[inline(never)]
 fn found_fields<'a, 'n>(
     alloc: Global,
-    fields: Vec<(CowStr<'n>, NamedValue<'a, 'n>)>,
+    fields: &mut Vec<(CowStr<'n>, NamedValue<'a, 'n>)>,
 ) -> Answer<Vec<(String, Found)>, AllocError>
     ensures { IfOk result (λ f. image_fields_view f.items ≡ image_fields
-        (fields_view fields.entry.items)) }
+        (fields_view fields.old.items)) }
 {
     let mut found = Vec::with_capacity(alloc, fields.len())?;
-    for (key, value) in fields {
-        let key = key.own(alloc)?;
+    for (key, value) in fields.iter_mut() {
+        let key = key.take(alloc)?;
         let value = found_value(alloc, value)?;
         found.push_reserved((key, value));
     }

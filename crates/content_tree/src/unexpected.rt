@@ -46,7 +46,8 @@ impl<'a, 'n> Unexpected for NamedValue<'a, 'n> {
     ghost takes_memory = { true };
 
     fn unexpected(self, alloc: Global, expected: Expected) -> Error {
-        refusal(found_value(alloc, self), expected)
+        let mut value = self;
+        refusal(found_value(alloc, &mut value), expected)
     }
 }
 
@@ -56,7 +57,8 @@ impl<'a, 'n> Unexpected for Box<NamedStruct<'a, 'n>> {
     ghost takes_memory = { true };
 
     fn unexpected(self, alloc: Global, expected: Expected) -> Error {
-        refusal(found_struct(alloc, self), expected)
+        let mut inner = self;
+        refusal(found_struct(alloc, &mut inner), expected)
     }
 }
 
@@ -66,7 +68,8 @@ impl<'a, 'n> Unexpected for Box<NamedEnum<'a, 'n>> {
     ghost takes_memory = { true };
 
     fn unexpected(self, alloc: Global, expected: Expected) -> Error {
-        refusal(found_enum(alloc, self), expected)
+        let mut inner = self;
+        refusal(found_enum(alloc, &mut inner), expected)
     }
 }
 

@@ -162,7 +162,7 @@ fn write_enum<'a, 'n, W: fmt::Write>(
 
 /// Writes what follows the name of a struct or a variant.
 #[cycle(print_value)]
-#[inline(never)]
+#[inline(always)]
 fn write_data<'a, 'n, W: fmt::Write>(
     inside: &NamedData<'a, 'n>,
     f: &mut fmt::Formatter<W>,
