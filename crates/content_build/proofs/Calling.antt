@@ -20,7 +20,7 @@ use Rattle.content_build.specs.Inner.Cells.{slot_wait, wrap_node, row_node, reco
 use Rattle.content_build.specs.Inner.Entries.{entry_view, node_view, wait_view, row}
 use Rattle.content_build.specs.Inner.Entries.{opens_view}
 use Rattle.content_build.specs.Inner.Sound.{meaning, IsSound, Stands, IsWaiting, IsKept, viewed}
-use Rattle.content_build.specs.Inner.Taken.{TakenTo, AnswersStep, AnswersToken}
+use Rattle.content_build.specs.Inner.Taken.{TakenTo, TakesStep, TakesToken}
 use Rattle.content_build.specs.Inner.Steps.{IsDue, IsIdle, Opens}
 use Rattle.content_build.specs.declared.node.Entry.{Entry}
 use Rattle.content_build.specs.declared.node.OpenHead.{OpenHead}
@@ -260,10 +260,10 @@ pub sound_after : (o : Option Partial) (es : List Entry) (hs : List OpenHead) �
 sound_after None es hs w = absurd w
 sound_after (Some next) es hs w = (sound_from es hs next w).0
 
--- what a call answers that was taken
-pub answered : (old : Partial) (call : Token) (es : List Entry) (hs : List OpenHead) → TakenTo (step_token old call) (Ok tt) es hs → AnswersToken (Some old) call (Ok tt) (Some (meaning es hs))
-answered old call es hs = go (step_token old call)
+-- what a call comes to that was taken
+pub now_taken : (old : Partial) (call : Token) (es : List Entry) (hs : List OpenHead) → TakenTo (step_token old call) (Ok tt) es hs → TakesToken (Some old) call (Ok tt) (Some (meaning es hs))
+now_taken old call es hs = go (step_token old call)
   where
-    go : (o : Option Partial) → TakenTo o (Ok tt) es hs → AnswersStep (Some old) o (Ok tt) (Some (meaning es hs))
+    go : (o : Option Partial) → TakenTo o (Ok tt) es hs → TakesStep (Some old) o (Ok tt) (Some (meaning es hs))
     go None w = absurd w
     go (Some next) w = ap Some (sound_from es hs next w).1

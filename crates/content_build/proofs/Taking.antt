@@ -2,13 +2,15 @@
 use Rattle.std.proofs.Common.{◌≡◌, ℕ, Bool, [], ◌∷◌, ◌++◌, Option, Some, None, Ok, Err, refl, sym}
 use Rattle.std.proofs.Common.{ap}
 use Rattle.std.proofs.Common.{subst, ◌∙◌, IsSome, option_and_then, option_map, inl, inr, ⊎_elim}
+use Rattle.std.proofs.Common.{Result}
 use Rattle.content_ser.specs.Calls.Event.{Event}
 use Rattle.content_ser.specs.Grammar.Token.{token_of}
 use Rattle.content_ser.specs.Serializers.Step.{Answer, Takes}
 use Rattle.content_build.specs.Builder.{seen_at, refuses, IsCause, StepsAreExact}
-use Rattle.content_build.specs.Inner.Taken.{AnswersStep}
+use Rattle.content_build.specs.Inner.Taken.{AnswersStep, IsAnswerTo, IsErrorOf, TakesStep}
 use Rattle.content_build.specs.Limit.{fresh_under, step_under, step}
 use Rattle.content_build.specs.Partial.{Partial}
+use Rattle.content_build.specs.declared.refusal.Refusal.{Refusal}
 use Rattle.content_build.proofs.Limits.{under, one_more, never_viable, still_viable}
 use Rattle.content_build.proofs.Limits.{viable_from_run}
 
@@ -25,6 +27,19 @@ takes_call limit (Some s) h c (Err x) (Some k) None e m = absurd (let y : Some k
 takes_call limit (Some s) h c (Err x) None (Some n) e m =
     record { readable = refl; when_failed = λ f. cc; otherwise = λ f. (refl, inr (subst IsSome (sym (ap (option_map (under limit)) e)) refl, m.0, m.0)) }
 takes_call limit (Some s) h c (Err x) (Some k) (Some n) e m = absurd (let y : Some k ≡ None = m.1 in cc)
+
+-- with its error, what a call comes to is what it answers
+pub with_error : (old next : Option Partial) (taken : Result (Unit {0}) Refusal) (r : Answer) (new : Option Partial) → TakesStep old next taken new → IsAnswerTo taken r → AnswersStep old next r new
+with_error None next (Ok u) r new m a = absurd m
+with_error None next (Err e) (Ok v) new m a = absurd a
+with_error None next (Err e) (Err x) new m a = (subst (λ k. IsErrorOf k x) m.0 a, m.1)
+with_error (Some s) None (Ok u) r new m a = absurd m
+with_error (Some s) None (Err e) (Ok v) new m a = absurd a
+with_error (Some s) None (Err e) (Err x) new m a = (subst (λ k. IsErrorOf k x) m.0 a, m.1)
+with_error (Some s) (Some n) (Ok u) (Ok v) new m a = m
+with_error (Some s) (Some n) (Ok u) (Err x) new m a = absurd a
+with_error (Some s) (Some n) (Err e) (Ok v) new m a = absurd a
+with_error (Some s) (Some n) (Err e) (Err x) new m a = (subst (λ k. IsErrorOf k x) m.0 a, m.1)
 
 pub taken : (limit : Option ℕ) (old : Option Partial) (h : Bool) (c : Event) (r : Answer) (new : Option Partial)
     → AnswersStep old (option_and_then (λ s. step_under limit s (token_of c)) old) r new → Takes step refuses (seen_at limit old h) c r (seen_at limit new h)

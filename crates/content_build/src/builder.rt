@@ -3,7 +3,7 @@
 ghost use Rattle.std.specs.Prelude.{◌≡◌, ◌≤◌, Some, false, option_and_then};
 ghost use Rattle.content_ser.specs.Calls.Call.{event_of};
 ghost use Rattle.content_ser.specs.Serializers.Step.{Takes};
-ghost use Rattle.content_build.specs.Inner.Taken.{AnswersStep};
+ghost use Rattle.content_build.specs.Inner.Taken.{TakesStep};
 ghost use Rattle.content_build.specs.Inner.Tape.{partial_tree};
 ghost use Rattle.content_build.specs.Inner.Tokens.{token_view};
 ghost use Rattle.content_build.specs.Limit.{Limited, fresh, fresh_under, step, step_under};
@@ -11,11 +11,11 @@ ghost use Rattle.content_build.specs.Partial.{open_count};
 ghost use Rattle.content_build.specs.Builder.{seen_of, refuses, AnswersExactly, Finishes};
 
 use crate::limit::fits;
-use crate::refusal::Refusal;
+use crate::refusal::{Refusal, Taken, answered, put_aside};
 use crate::tape::Tape;
 use crate::token::Token;
-use content_ser::{Call, Serializer};
-use content_tree::{Result, Value};
+use content_ser::{Call, Sent, Serializer};
+use content_tree::{Error, Result, Value};
 use std::alloc::Global;
 use std::marker::PhantomData;
 
@@ -50,8 +50,8 @@ pub struct Builder<'v> {
 
 /// Takes a call under a limit.
 #[inline(always)]
-fn take(tape: &mut Tape, limit: Option<usize>, call: Token<'_>) -> Result<()>
-    ensures { AnswersStep (partial_tree tape.old)
+fn take(tape: &mut Tape, limit: Option<usize>, call: Token<'_>) -> Taken
+    ensures { TakesStep (partial_tree tape.old)
         (option_and_then (λ s. step_under limit s (token_view call.entry))
         (partial_tree tape.old))
         result (partial_tree tape.new) }
@@ -60,7 +60,7 @@ fn take(tape: &mut Tape, limit: Option<usize>, call: Token<'_>) -> Result<()>
         tape.take(call)
     } else {
         tape.fail();
-        Err(Refusal::Misplaced.error())
+        Err(Refusal::Misplaced)
     }
 }
 
@@ -157,7 +157,12 @@ impl<'v> Serializer for Builder<'v> {
         // does
         ensures exact { AnswersExactly (seen_of self.old) (event_of call.entry) result }
     {
-        take(&mut self.tape, self.limit, Token::of(&call))
+        answered(take(&mut self.tape, self.limit, Token::of(&call)))
+    }
+
+    #[inline(always)]
+    fn call_aside(&mut self, call: Call<'_>, error: &mut Error) -> Sent {
+        put_aside(take(&mut self.tape, self.limit, Token::of(&call)), error)
     }
 
     #[tactic(auto, unfolding(crate::specs::Builder::seen_of))]

@@ -5,8 +5,8 @@ ghost use Rattle.content_build.specs.Serializer.{is_readable, limit_of, Serializ
 ghost use Rattle.content_build.specs.Serializer.{SerializedWithin};
 
 use crate::builder::Builder;
-use content_ser::Serialize;
-use content_tree::{Result, Value};
+use content_ser::{Aside, Serialize};
+use content_tree::{Error, ErrorKind, Result, Value};
 use std::alloc::Global;
 
 /// Makes the tree of anything that can be serialised. The name and the flag are `serde-content`'s.
@@ -83,8 +83,12 @@ impl Serializer {
             → SerializedWithin limit (T.script value.now (is_readable self)) result }
     {
         let mut builder: Builder<'static> = Builder::under(alloc, self.human_readable, self.limit);
-        value.serialize(alloc, &mut builder)?;
-        builder.finish()
+        // In the place of an error before there is one; no answer shows it.
+        let mut error = Error::from(ErrorKind::OutOfMemory);
+        match value.serialize_aside(alloc, &mut builder, &mut error) {
+            Ok(()) => builder.finish(),
+            Err(Aside) => Err(error),
+        }
     }
 }
 

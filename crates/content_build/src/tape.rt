@@ -4,7 +4,7 @@ ghost use Rattle.content_build.specs.Inner.Sound.{IsKept, IsKept-prop};
 
 use crate::grow::grow;
 use crate::node::{Entry, OpenHead};
-use crate::refusal::Refusal;
+use crate::refusal::{Refusal, Taken};
 use crate::steps::step;
 use crate::token::Token;
 use content_tree::{ErrorKind, Result, Value};
@@ -26,7 +26,7 @@ impl Tape {
     ghost use Rattle.content_build.specs.Partial.{fresh, open_count as partial_open_count};
     ghost use Rattle.content_build.specs.Builder.{has_failed, or_fresh, Finishes};
     ghost use Rattle.content_build.specs.Inner.Tape.{partial_tree};
-    ghost use Rattle.content_build.specs.Inner.Taken.{AnswersToken};
+    ghost use Rattle.content_build.specs.Inner.Taken.{TakesToken};
     ghost use Rattle.content_build.specs.Inner.Tokens.{token_view};
 
     /// No call yet.
@@ -43,18 +43,18 @@ impl Tape {
 
     /// A call.
     #[inline(always)]
-    pub(crate) fn take(&mut self, call: Token<'_>) -> Result<()>
-        ensures { AnswersToken (partial_tree self.old) (token_view call.entry)
+    pub(crate) fn take(&mut self, call: Token<'_>) -> Taken
+        ensures { TakesToken (partial_tree self.old) (token_view call.entry)
             result (partial_tree self.new) }
     {
         if self.failed {
-            return Err(Refusal::Failed.error());
+            return Err(Refusal::Failed);
         }
         match step(self.alloc, &mut self.entries, &mut self.heads, call) {
             Ok(()) => Ok(()),
             Err(refusal) => {
                 self.failed = true;
-                Err(refusal.error())
+                Err(refusal)
             }
         }
     }

@@ -132,6 +132,7 @@ impl<'a> Call<'a> {
     }
 
     /// The same call with its text or bytes lent. It takes no memory.
+    #[inline(always)]
     pub fn lend(&self) -> Call<'_>
         ensures { event_of result ≡ event_of self.now }
     {

@@ -2,6 +2,7 @@
 //! take.
 #![tactic(auto)]
 
+mod aside;
 mod call;
 mod head;
 mod impls;
@@ -13,6 +14,7 @@ mod send;
 mod serialize;
 mod serializer;
 
+pub use aside::{Aside, Sent};
 pub use call::Call;
 pub use head::Head;
 pub use loose_form::{canonical_once, loose_once, script_spells, static_is_canonical};

@@ -7,11 +7,13 @@ ghost use Rattle.content_ser.specs.Calls.Call.{event_of};
 ghost use Rattle.content_ser.specs.Scripts.Sends.{Sends};
 ghost use Rattle.content_ser.specs.Scripts.Own.{end_script};
 ghost use Rattle.content_ser.specs.Scripts.Standard.{call_first, only};
+ghost use Rattle.content_ser.specs.Sending.Aside.{answer_of};
 
+use crate::aside::{Sent, answer, no_error, put_aside};
 use crate::call::Call;
 use crate::serialize::Serialize;
 use crate::serializer::Serializer;
-use content_tree::Result;
+use content_tree::{Error, Result};
 use std::alloc::Global;
 
 /// The first calls of a script: one that opens something, and the values put into it so far.
@@ -35,8 +37,24 @@ pub trait Parts: Sized + Drop {
         ensures { Begins S.step S.refuses (S.seen serializer.old) (first self.now) result
             (S.seen serializer.new) };
 
+    /// Makes these calls as [`send_parts`](Parts::send_parts) does, with the error put aside: the
+    /// answer is a byte, and where it is an `Err`, the error stands in `error`. Parts of a caller's
+    /// own need not give it.
+    fn send_parts_aside<S: Serializer>(
+        &self,
+        alloc: Global,
+        serializer: &mut S,
+        error: &mut Error,
+    ) -> Sent
+        ensures { Begins S.step S.refuses (S.seen serializer.old) (first self.now)
+            (answer_of result error.new) (S.seen serializer.new) }
+    {
+        put_aside(self.send_parts(alloc, serializer), error)
+    }
+
     /// These calls, then a call that announces a value, as `Call::Field("x")` or
     /// `Call::TupleField`, and then the value. It sends nothing yet and takes no memory.
+    #[inline(always)]
     final fn with<'a, M: Parts, T: Serialize>(
         self,
         item_call: M,
@@ -54,16 +72,19 @@ pub trait Parts: Sized + Drop {
     /// Makes these calls, and then the one that closes what they opened. The error is that of the
     /// first call that is refused, or of the first value that stops. Memory is taken where a value
     /// or the serialiser takes some.
+    #[inline(always)]
     final fn end<S: Serializer>(self, alloc: Global, serializer: &mut S) -> Result<()>
         ensures { Sends S.step S.refuses (S.seen serializer.old) (first self end_script) result
             (S.seen serializer.new) }
     {
-        self.send_parts(alloc, serializer)?;
-        serializer.end()
+        let mut error = no_error();
+        let sent = send_all(&self, alloc, serializer, &mut error);
+        answer(sent, error)
     }
 
     /// Makes these calls, and then those of the one value that a newtype stands around. Errors and
     /// memory are as for [`end`](Parts::end).
+    #[inline(always)]
     final fn around<T: Serialize, S: Serializer>(
         self,
         value: &T,
@@ -73,9 +94,42 @@ pub trait Parts: Sized + Drop {
         ensures { Sends S.step S.refuses (S.seen serializer.old) (first self (T.script value.now))
             result (S.seen serializer.new) }
     {
-        self.send_parts(alloc, serializer)?;
-        value.serialize(alloc, serializer)
+        let mut error = no_error();
+        let sent = send_around(&self, value, alloc, serializer, &mut error);
+        answer(sent, error)
     }
+}
+
+/// The parts, and then the call that closes what they opened.
+#[inline(always)]
+fn send_all<P: Parts, S: Serializer>(
+    parts: &P,
+    alloc: Global,
+    serializer: &mut S,
+    error: &mut Error,
+) -> Sent
+    ensures { Sends S.step S.refuses (S.seen serializer.old) (P.first parts.now end_script)
+        (answer_of result error.new) (S.seen serializer.new) }
+{
+    parts.send_parts_aside(alloc, serializer, error)?;
+    serializer.call_aside(Call::End, error)
+}
+
+/// The parts, and then the value that they stand around.
+#[inline(always)]
+fn send_around<P: Parts, T: Serialize, S: Serializer>(
+    parts: &P,
+    value: &T,
+    alloc: Global,
+    serializer: &mut S,
+    error: &mut Error,
+) -> Sent
+    ensures { Sends S.step S.refuses (S.seen serializer.old)
+        (P.first parts.now (T.script value.now))
+        (answer_of result error.new) (S.seen serializer.new) }
+{
+    parts.send_parts_aside(alloc, serializer, error)?;
+    value.serialize_aside(alloc, serializer, error)
 }
 
 impl Parts for Call<'static> {
@@ -83,6 +137,16 @@ impl Parts for Call<'static> {
 
     fn send_parts<S: Serializer>(&self, _alloc: Global, serializer: &mut S) -> Result<()> {
         serializer.call(self.lend())
+    }
+
+    #[inline(always)]
+    fn send_parts_aside<S: Serializer>(
+        &self,
+        _alloc: Global,
+        serializer: &mut S,
+        error: &mut Error,
+    ) -> Sent {
+        serializer.call_aside(self.lend(), error)
     }
 }
 
@@ -110,8 +174,20 @@ impl<'a, P: Parts, M: Parts, T: Serialize> Parts for Announced<'a, P, M, T> {
         (M.first p.item_call (value_first (T.script p.value.now) rest)) };
 
     fn send_parts<S: Serializer>(&self, alloc: Global, serializer: &mut S) -> Result<()> {
-        self.before.send_parts(alloc, serializer)?;
-        self.item_call.send_parts(alloc, serializer)?;
-        self.value.serialize(alloc, serializer)
+        let mut error = no_error();
+        let sent = self.send_parts_aside(alloc, serializer, &mut error);
+        answer(sent, error)
+    }
+
+    #[inline(always)]
+    fn send_parts_aside<S: Serializer>(
+        &self,
+        alloc: Global,
+        serializer: &mut S,
+        error: &mut Error,
+    ) -> Sent {
+        self.before.send_parts_aside(alloc, serializer, error)?;
+        self.item_call.send_parts_aside(alloc, serializer, error)?;
+        self.value.serialize_aside(alloc, serializer, error)
     }
 }

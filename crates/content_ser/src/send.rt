@@ -1,7 +1,6 @@
 //! Values, structs and variants, sent.
 
-mod aside;
-mod calls;
+pub(crate) mod calls;
 mod head;
 mod key;
 mod places;
@@ -12,10 +11,10 @@ ghost use Rattle.content_ser.specs.Laws.TreeScripts.{tree_lawful};
 ghost use Rattle.content_ser.specs.Sending.TreeScript.{loose_script};
 ghost use Rattle.content_ser.specs.Sending.Loose.{loose};
 
-use crate::send::aside::{answer, no_error};
+use crate::aside::{Sent, answer, no_error};
 use crate::serialize::Serialize;
 use crate::serializer::Serializer;
-use content_tree::{Enum, Result, Struct, Value};
+use content_tree::{Enum, Error, Result, Struct, Value};
 use std::alloc::Global;
 
 /// Each node by its own call and children in order, a struct and a variant as below. The first
@@ -31,6 +30,15 @@ impl<'a> Serialize for Value<'a> {
         let sent = walk::send(self, alloc, serializer, &mut error);
         answer(sent, error)
     }
+
+    fn serialize_aside<S: Serializer>(
+        &self,
+        alloc: Global,
+        serializer: &mut S,
+        error: &mut Error,
+    ) -> Sent {
+        walk::send(self, alloc, serializer, error)
+    }
 }
 
 /// Under its name where that is static; else what it holds alone: a unit, a value, a sequence, or a
@@ -44,6 +52,15 @@ impl<'a> Serialize for Struct<'a> {
         let mut error = no_error();
         let sent = walk::send_struct(self, alloc, serializer, &mut error);
         answer(sent, error)
+    }
+
+    fn serialize_aside<S: Serializer>(
+        &self,
+        alloc: Global,
+        serializer: &mut S,
+        error: &mut Error,
+    ) -> Sent {
+        walk::send_struct(self, alloc, serializer, error)
     }
 }
 
@@ -59,5 +76,14 @@ impl<'a> Serialize for Enum<'a> {
         let mut error = no_error();
         let sent = walk::send_enum(self, alloc, serializer, &mut error);
         answer(sent, error)
+    }
+
+    fn serialize_aside<S: Serializer>(
+        &self,
+        alloc: Global,
+        serializer: &mut S,
+        error: &mut Error,
+    ) -> Sent {
+        walk::send_enum(self, alloc, serializer, error)
     }
 }

@@ -3,9 +3,11 @@
 ghost use Rattle.std.specs.Prelude.{Bool};
 ghost use Rattle.content_ser.specs.Scripts.Script.{IsLawful, Script};
 ghost use Rattle.content_ser.specs.Scripts.Sends.{Sends};
+ghost use Rattle.content_ser.specs.Sending.Aside.{answer_of};
 
+use crate::aside::{Sent, put_aside};
 use crate::serializer::Serializer;
-use content_tree::Result;
+use content_tree::{Error, Result};
 use std::alloc::Global;
 
 /// What sends itself to any serialiser.
@@ -25,6 +27,21 @@ pub trait Serialize {
     fn serialize<S: Serializer>(&self, alloc: Global, serializer: &mut S) -> Result<()>
         ensures { Sends S.step S.refuses (S.seen serializer.old)
             (script self.now) result (S.seen serializer.new) };
+
+    /// Makes the calls of the script as [`serialize`](Serialize::serialize) does, with the error put
+    /// aside: the answer is a byte, and where it is an `Err`, the error stands in `error`, whatever
+    /// was there before. Where it is `Ok`, what stands there says nothing. A type need not give it.
+    fn serialize_aside<S: Serializer>(
+        &self,
+        alloc: Global,
+        serializer: &mut S,
+        error: &mut Error,
+    ) -> Sent
+        ensures { Sends S.step S.refuses (S.seen serializer.old) (script self.now)
+            (answer_of result error.new) (S.seen serializer.new) }
+    {
+        put_aside(self.serialize(alloc, serializer), error)
+    }
 
     /// Without a stop the calls spell a tree; with a stop some calls can follow that make them
     /// spell one.

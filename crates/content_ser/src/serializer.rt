@@ -9,10 +9,12 @@ ghost use Rattle.content_ser.specs.Calls.Event.{tuple_struct, tuple_variant, map
 ghost use Rattle.content_ser.specs.Calls.Event.{struct_variant, element, tuple_field, field, key};
 ghost use Rattle.content_ser.specs.Calls.Event.{value, entry, end as end_};
 ghost use Rattle.content_ser.specs.Calls.Call.{event_of};
+ghost use Rattle.content_ser.specs.Sending.Aside.{answer_of};
 ghost use Rattle.content_ser.specs.Serializers.Step.{Collects, RefusalRule, Seen, Step, Takes};
 
+use crate::aside::{Sent, put_aside};
 use crate::call::Call;
-use content_tree::{CowBytes, CowStr, Number, Result};
+use content_tree::{CowBytes, CowStr, Error, Number, Result};
 use std::alloc::Global;
 use std::fmt::Display;
 
@@ -44,6 +46,17 @@ pub trait Serializer {
     /// Makes this call. The others are each one of it.
     fn call(&mut self, call: Call<'_>) -> Result<()>
         ensures { Takes step refuses (seen self.old) (event_of call.entry) result (seen self.new) };
+
+    /// Makes this call with its error put aside: the answer is a byte, and where it is an `Err`, the
+    /// error stands in `error`, whatever was there before. Where it is `Ok`, what stands there says
+    /// nothing. An implementation need not give it; one that does spares its callers the moving of a
+    /// large answer.
+    fn call_aside(&mut self, call: Call<'_>, error: &mut Error) -> Sent
+        ensures { Takes step refuses (seen self.old) (event_of call.entry)
+            (answer_of result error.new) (seen self.new) }
+    {
+        put_aside(self.call(call), error)
+    }
 
     /// A boolean.
     final fn serialize_bool(&mut self, v: bool) -> Result<()>

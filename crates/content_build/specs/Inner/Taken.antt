@@ -1,5 +1,5 @@
 -- What a call answers in a partial tree.
-use Rattle.std.specs.Prelude.{◌≡◌, List, Option, Some, None, Result, Ok, Err, option_and_then}
+use Rattle.std.specs.Prelude.{◌≡◌, ⊤, List, Option, Some, None, Result, Ok, Err, option_and_then}
 use Rattle.content_tree.specs.Errors.Kind.{kind_of, IsOutOfMemory}
 use Rattle.content_tree.specs.declared.error.Error.{Error}
 use Rattle.content_tree.specs.declared.error.ErrorKind.TheVariants.{Misplaced, Failed}
@@ -34,6 +34,22 @@ AnswersStep (Some s) None (Err e) new = (kind_of e ≡ Misplaced) × (new ≡ No
 AnswersStep (Some s) (Some next) (Ok u) new = new ≡ Some next
 AnswersStep (Some s) (Some next) (Err e) new = IsOutOfMemory e × (new ≡ None)
 
--- the answer of a call of this token, and the state after it
-abbrev pub AnswersToken : Option Partial → Token → Answer → Option Partial → Type 0
-AnswersToken old call r new = AnswersStep old (option_and_then (λ s. step_token s call) old) r new
+-- what a call in this state that leads to next comes to, before its error is made, and the state after it
+abbrev pub TakesStep : Option Partial → Option Partial → Result (Unit {0}) Refusal → Option Partial → Type 0
+TakesStep None next (Ok u) new = ⊥
+TakesStep None next (Err e) new = (e ≡ refusal.Failed) × (new ≡ None)
+TakesStep (Some s) None (Ok u) new = ⊥
+TakesStep (Some s) None (Err e) new = (e ≡ refusal.Misplaced) × (new ≡ None)
+TakesStep (Some s) (Some next) (Ok u) new = new ≡ Some next
+TakesStep (Some s) (Some next) (Err e) new = (e ≡ refusal.NoMemory) × (new ≡ None)
+
+-- the answer with the error of a refusal
+abbrev pub IsAnswerTo : Result (Unit {0}) Refusal → Answer → Type 0
+IsAnswerTo (Ok u) (Ok v) = ⊤
+IsAnswerTo (Ok u) (Err e) = ⊥
+IsAnswerTo (Err refused) (Ok v) = ⊥
+IsAnswerTo (Err refused) (Err e) = IsErrorOf refused e
+
+-- what a call of this token comes to, and the state after it
+abbrev pub TakesToken : Option Partial → Token → Result (Unit {0}) Refusal → Option Partial → Type 0
+TakesToken old call r new = TakesStep old (option_and_then (λ s. step_token s call) old) r new

@@ -4,9 +4,11 @@
 ghost use Rattle.content_ser.specs.Scripts.Standard.{option_script};
 ghost use Rattle.content_ser.specs.Laws.StandardScripts.{option_lawful};
 
+use crate::aside::{Sent, answer, no_error};
+use crate::send::calls::{serialize_none, serialize_some};
 use crate::serialize::Serialize;
 use crate::serializer::Serializer;
-use content_tree::Result;
+use content_tree::{Error, Result};
 use std::alloc::Global;
 
 impl<T: Serialize> Serialize for Option<T> {
@@ -15,11 +17,22 @@ impl<T: Serialize> Serialize for Option<T> {
     ghost lawful = { option_lawful T.lawful };
 
     fn serialize<S: Serializer>(&self, alloc: Global, serializer: &mut S) -> Result<()> {
+        let mut error = no_error();
+        let sent = self.serialize_aside(alloc, serializer, &mut error);
+        answer(sent, error)
+    }
+
+    fn serialize_aside<S: Serializer>(
+        &self,
+        alloc: Global,
+        serializer: &mut S,
+        error: &mut Error,
+    ) -> Sent {
         match self {
-            None => serializer.serialize_none(),
+            None => serialize_none(serializer, error),
             Some(value) => {
-                serializer.serialize_some()?;
-                value.serialize(alloc, serializer)
+                serialize_some(serializer, error)?;
+                value.serialize_aside(alloc, serializer, error)
             }
         }
     }
@@ -32,5 +45,14 @@ impl<T: Serialize> Serialize for Box<T> {
 
     fn serialize<S: Serializer>(&self, alloc: Global, serializer: &mut S) -> Result<()> {
         Serialize::serialize(&**self, alloc, serializer)
+    }
+
+    fn serialize_aside<S: Serializer>(
+        &self,
+        alloc: Global,
+        serializer: &mut S,
+        error: &mut Error,
+    ) -> Sent {
+        Serialize::serialize_aside(&**self, alloc, serializer, error)
     }
 }

@@ -4,9 +4,11 @@
 ghost use Rattle.content_ser.specs.Scripts.Standard.{map_script};
 ghost use Rattle.content_ser.specs.Laws.StandardScripts.{map_lawful};
 
+use crate::aside::{Sent, answer, no_error};
+use crate::send::calls::{end, serialize_entry, serialize_map};
 use crate::serialize::Serialize;
 use crate::serializer::Serializer;
-use content_tree::Result;
+use content_tree::{Error, Result};
 use std::alloc::Global;
 use std::collections::BTreeMap;
 
@@ -16,12 +18,23 @@ impl<K: Serialize + Ord, V: Serialize> Serialize for BTreeMap<K, V> {
     ghost lawful = { λ m. map_lawful K.lawful V.lawful m.entries };
 
     fn serialize<S: Serializer>(&self, alloc: Global, serializer: &mut S) -> Result<()> {
-        serializer.serialize_map(Some(self.len()))?;
+        let mut error = no_error();
+        let sent = self.serialize_aside(alloc, serializer, &mut error);
+        answer(sent, error)
+    }
+
+    fn serialize_aside<S: Serializer>(
+        &self,
+        alloc: Global,
+        serializer: &mut S,
+        error: &mut Error,
+    ) -> Sent {
+        serialize_map(self.len(), serializer, error)?;
         for (key, value) in self {
-            serializer.serialize_entry()?;
-            key.serialize(alloc, serializer)?;
-            value.serialize(alloc, serializer)?;
+            serialize_entry(serializer, error)?;
+            key.serialize_aside(alloc, serializer, error)?;
+            value.serialize_aside(alloc, serializer, error)?;
         }
-        serializer.end()
+        end(serializer, error)
     }
 }

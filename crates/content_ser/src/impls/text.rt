@@ -6,9 +6,11 @@ ghost use Rattle.content_ser.specs.Calls.Event.{boolean, character, text, unit};
 ghost use Rattle.content_ser.specs.Scripts.Standard.{only};
 ghost use Rattle.content_ser.specs.Laws.StandardScripts.{leaf_lawful};
 
+use crate::aside::Sent;
+use crate::call::Call;
 use crate::serialize::Serialize;
 use crate::serializer::Serializer;
-use content_tree::Result;
+use content_tree::{CowStr, Error, Result};
 use std::alloc::Global;
 
 impl Serialize for bool {
@@ -18,6 +20,16 @@ impl Serialize for bool {
 
     fn serialize<S: Serializer>(&self, _alloc: Global, serializer: &mut S) -> Result<()> {
         serializer.serialize_bool(*self)
+    }
+
+    #[inline(always)]
+    fn serialize_aside<S: Serializer>(
+        &self,
+        _alloc: Global,
+        serializer: &mut S,
+        error: &mut Error,
+    ) -> Sent {
+        serializer.call_aside(Call::Bool(*self), error)
     }
 }
 
@@ -29,6 +41,16 @@ impl Serialize for char {
     fn serialize<S: Serializer>(&self, _alloc: Global, serializer: &mut S) -> Result<()> {
         serializer.serialize_char(*self)
     }
+
+    #[inline(always)]
+    fn serialize_aside<S: Serializer>(
+        &self,
+        _alloc: Global,
+        serializer: &mut S,
+        error: &mut Error,
+    ) -> Sent {
+        serializer.call_aside(Call::Char(*self), error)
+    }
 }
 
 impl Serialize for String {
@@ -38,6 +60,16 @@ impl Serialize for String {
 
     fn serialize<S: Serializer>(&self, _alloc: Global, serializer: &mut S) -> Result<()> {
         serializer.serialize_str(self.as_str())
+    }
+
+    #[inline(always)]
+    fn serialize_aside<S: Serializer>(
+        &self,
+        _alloc: Global,
+        serializer: &mut S,
+        error: &mut Error,
+    ) -> Sent {
+        serializer.call_aside(Call::Str(CowStr::Borrowed(self.as_str())), error)
     }
 }
 
@@ -49,6 +81,16 @@ impl Serialize for &str {
     fn serialize<S: Serializer>(&self, _alloc: Global, serializer: &mut S) -> Result<()> {
         serializer.serialize_str(self)
     }
+
+    #[inline(always)]
+    fn serialize_aside<S: Serializer>(
+        &self,
+        _alloc: Global,
+        serializer: &mut S,
+        error: &mut Error,
+    ) -> Sent {
+        serializer.call_aside(Call::Str(CowStr::Borrowed(self)), error)
+    }
 }
 
 impl Serialize for () {
@@ -58,5 +100,15 @@ impl Serialize for () {
 
     fn serialize<S: Serializer>(&self, _alloc: Global, serializer: &mut S) -> Result<()> {
         serializer.serialize_unit()
+    }
+
+    #[inline(always)]
+    fn serialize_aside<S: Serializer>(
+        &self,
+        _alloc: Global,
+        serializer: &mut S,
+        error: &mut Error,
+    ) -> Sent {
+        serializer.call_aside(Call::Unit, error)
     }
 }

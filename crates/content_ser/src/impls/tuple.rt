@@ -5,9 +5,11 @@ ghost use Rattle.content_ser.specs.Calls.Event.{end};
 ghost use Rattle.content_ser.specs.Scripts.Standard.{element_first, only, tuple_script};
 ghost use Rattle.content_ser.specs.Laws.StandardScripts.{element_fits, end_fits, tuple_lawful};
 
+use crate::aside::{Sent, answer, no_error};
+use crate::send::calls::{end, serialize_element, serialize_tuple};
 use crate::serialize::Serialize;
 use crate::serializer::Serializer;
-use content_tree::Result;
+use content_tree::{Error, Result};
 use std::alloc::Global;
 
 impl<A: Serialize> Serialize for (A,) {
@@ -16,10 +18,21 @@ impl<A: Serialize> Serialize for (A,) {
     ghost lawful = { λ t readable. tuple_lawful (element_fits (A.lawful t.0 readable) end_fits) };
 
     fn serialize<S: Serializer>(&self, alloc: Global, serializer: &mut S) -> Result<()> {
-        serializer.serialize_tuple(1)?;
-        serializer.serialize_element()?;
-        self.0.serialize(alloc, serializer)?;
-        serializer.end()
+        let mut error = no_error();
+        let sent = self.serialize_aside(alloc, serializer, &mut error);
+        answer(sent, error)
+    }
+
+    fn serialize_aside<S: Serializer>(
+        &self,
+        alloc: Global,
+        serializer: &mut S,
+        error: &mut Error,
+    ) -> Sent {
+        serialize_tuple(1, serializer, error)?;
+        serialize_element(serializer, error)?;
+        self.0.serialize_aside(alloc, serializer, error)?;
+        end(serializer, error)
     }
 }
 
@@ -31,12 +44,23 @@ impl<A: Serialize, B: Serialize> Serialize for (A, B) {
         (element_fits (A.lawful t.0 readable) (element_fits (B.lawful t.1 readable) end_fits)) };
 
     fn serialize<S: Serializer>(&self, alloc: Global, serializer: &mut S) -> Result<()> {
-        serializer.serialize_tuple(2)?;
-        serializer.serialize_element()?;
-        self.0.serialize(alloc, serializer)?;
-        serializer.serialize_element()?;
-        self.1.serialize(alloc, serializer)?;
-        serializer.end()
+        let mut error = no_error();
+        let sent = self.serialize_aside(alloc, serializer, &mut error);
+        answer(sent, error)
+    }
+
+    fn serialize_aside<S: Serializer>(
+        &self,
+        alloc: Global,
+        serializer: &mut S,
+        error: &mut Error,
+    ) -> Sent {
+        serialize_tuple(2, serializer, error)?;
+        serialize_element(serializer, error)?;
+        self.0.serialize_aside(alloc, serializer, error)?;
+        serialize_element(serializer, error)?;
+        self.1.serialize_aside(alloc, serializer, error)?;
+        end(serializer, error)
     }
 }
 
@@ -49,14 +73,25 @@ impl<A: Serialize, B: Serialize, C: Serialize> Serialize for (A, B, C) {
         (element_fits (C.lawful t.2 readable) end_fits))) };
 
     fn serialize<S: Serializer>(&self, alloc: Global, serializer: &mut S) -> Result<()> {
-        serializer.serialize_tuple(3)?;
-        serializer.serialize_element()?;
-        self.0.serialize(alloc, serializer)?;
-        serializer.serialize_element()?;
-        self.1.serialize(alloc, serializer)?;
-        serializer.serialize_element()?;
-        self.2.serialize(alloc, serializer)?;
-        serializer.end()
+        let mut error = no_error();
+        let sent = self.serialize_aside(alloc, serializer, &mut error);
+        answer(sent, error)
+    }
+
+    fn serialize_aside<S: Serializer>(
+        &self,
+        alloc: Global,
+        serializer: &mut S,
+        error: &mut Error,
+    ) -> Sent {
+        serialize_tuple(3, serializer, error)?;
+        serialize_element(serializer, error)?;
+        self.0.serialize_aside(alloc, serializer, error)?;
+        serialize_element(serializer, error)?;
+        self.1.serialize_aside(alloc, serializer, error)?;
+        serialize_element(serializer, error)?;
+        self.2.serialize_aside(alloc, serializer, error)?;
+        end(serializer, error)
     }
 }
 
@@ -71,15 +106,26 @@ impl<A: Serialize, B: Serialize, C: Serialize, D: Serialize> Serialize for (A, B
         (element_fits (D.lawful t.3 readable) end_fits)))) };
 
     fn serialize<S: Serializer>(&self, alloc: Global, serializer: &mut S) -> Result<()> {
-        serializer.serialize_tuple(4)?;
-        serializer.serialize_element()?;
-        self.0.serialize(alloc, serializer)?;
-        serializer.serialize_element()?;
-        self.1.serialize(alloc, serializer)?;
-        serializer.serialize_element()?;
-        self.2.serialize(alloc, serializer)?;
-        serializer.serialize_element()?;
-        self.3.serialize(alloc, serializer)?;
-        serializer.end()
+        let mut error = no_error();
+        let sent = self.serialize_aside(alloc, serializer, &mut error);
+        answer(sent, error)
+    }
+
+    fn serialize_aside<S: Serializer>(
+        &self,
+        alloc: Global,
+        serializer: &mut S,
+        error: &mut Error,
+    ) -> Sent {
+        serialize_tuple(4, serializer, error)?;
+        serialize_element(serializer, error)?;
+        self.0.serialize_aside(alloc, serializer, error)?;
+        serialize_element(serializer, error)?;
+        self.1.serialize_aside(alloc, serializer, error)?;
+        serialize_element(serializer, error)?;
+        self.2.serialize_aside(alloc, serializer, error)?;
+        serialize_element(serializer, error)?;
+        self.3.serialize_aside(alloc, serializer, error)?;
+        end(serializer, error)
     }
 }

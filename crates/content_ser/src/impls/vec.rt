@@ -4,9 +4,11 @@
 ghost use Rattle.content_ser.specs.Scripts.Standard.{seq_script};
 ghost use Rattle.content_ser.specs.Laws.StandardScripts.{seq_lawful};
 
+use crate::aside::{Sent, answer, no_error};
+use crate::send::calls::{end, serialize_element, serialize_seq};
 use crate::serialize::Serialize;
 use crate::serializer::Serializer;
-use content_tree::Result;
+use content_tree::{Error, Result};
 use std::alloc::Global;
 
 impl<T: Serialize> Serialize for Vec<T> {
@@ -15,11 +17,22 @@ impl<T: Serialize> Serialize for Vec<T> {
     ghost lawful = { λ v. seq_lawful T.lawful v.items };
 
     fn serialize<S: Serializer>(&self, alloc: Global, serializer: &mut S) -> Result<()> {
-        serializer.serialize_seq(Some(self.len()))?;
+        let mut error = no_error();
+        let sent = self.serialize_aside(alloc, serializer, &mut error);
+        answer(sent, error)
+    }
+
+    fn serialize_aside<S: Serializer>(
+        &self,
+        alloc: Global,
+        serializer: &mut S,
+        error: &mut Error,
+    ) -> Sent {
+        serialize_seq(self.len(), serializer, error)?;
         for item in self {
-            serializer.serialize_element()?;
-            item.serialize(alloc, serializer)?;
+            serialize_element(serializer, error)?;
+            item.serialize_aside(alloc, serializer, error)?;
         }
-        serializer.end()
+        end(serializer, error)
     }
 }

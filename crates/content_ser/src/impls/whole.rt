@@ -7,9 +7,11 @@ ghost use Rattle.content_tree.specs.declared.number.Number.TheVariants as num;
 ghost use Rattle.std.specs.Prelude.{refl};
 ghost use Rattle.content_ser.specs.Laws.StandardScripts.{leaf_lawful};
 
+use crate::aside::Sent;
+use crate::call::Call;
 use crate::serialize::Serialize;
 use crate::serializer::Serializer;
-use content_tree::{Number, Result};
+use content_tree::{Error, Number, Result};
 use std::alloc::Global;
 
 impl Serialize for i8 {
@@ -19,6 +21,16 @@ impl Serialize for i8 {
 
     fn serialize<S: Serializer>(&self, _alloc: Global, serializer: &mut S) -> Result<()> {
         serializer.serialize_i8(*self)
+    }
+
+    #[inline(always)]
+    fn serialize_aside<S: Serializer>(
+        &self,
+        _alloc: Global,
+        serializer: &mut S,
+        error: &mut Error,
+    ) -> Sent {
+        serializer.call_aside(Call::Number(Number::I8(*self)), error)
     }
 }
 
@@ -30,6 +42,16 @@ impl Serialize for u8 {
     fn serialize<S: Serializer>(&self, _alloc: Global, serializer: &mut S) -> Result<()> {
         serializer.serialize_u8(*self)
     }
+
+    #[inline(always)]
+    fn serialize_aside<S: Serializer>(
+        &self,
+        _alloc: Global,
+        serializer: &mut S,
+        error: &mut Error,
+    ) -> Sent {
+        serializer.call_aside(Call::Number(Number::U8(*self)), error)
+    }
 }
 
 impl Serialize for i16 {
@@ -39,6 +61,16 @@ impl Serialize for i16 {
 
     fn serialize<S: Serializer>(&self, _alloc: Global, serializer: &mut S) -> Result<()> {
         serializer.serialize_i16(*self)
+    }
+
+    #[inline(always)]
+    fn serialize_aside<S: Serializer>(
+        &self,
+        _alloc: Global,
+        serializer: &mut S,
+        error: &mut Error,
+    ) -> Sent {
+        serializer.call_aside(Call::Number(Number::I16(*self)), error)
     }
 }
 
@@ -50,6 +82,16 @@ impl Serialize for u16 {
     fn serialize<S: Serializer>(&self, _alloc: Global, serializer: &mut S) -> Result<()> {
         serializer.serialize_u16(*self)
     }
+
+    #[inline(always)]
+    fn serialize_aside<S: Serializer>(
+        &self,
+        _alloc: Global,
+        serializer: &mut S,
+        error: &mut Error,
+    ) -> Sent {
+        serializer.call_aside(Call::Number(Number::U16(*self)), error)
+    }
 }
 
 impl Serialize for i32 {
@@ -59,6 +101,16 @@ impl Serialize for i32 {
 
     fn serialize<S: Serializer>(&self, _alloc: Global, serializer: &mut S) -> Result<()> {
         serializer.serialize_i32(*self)
+    }
+
+    #[inline(always)]
+    fn serialize_aside<S: Serializer>(
+        &self,
+        _alloc: Global,
+        serializer: &mut S,
+        error: &mut Error,
+    ) -> Sent {
+        serializer.call_aside(Call::Number(Number::I32(*self)), error)
     }
 }
 
@@ -70,6 +122,16 @@ impl Serialize for u32 {
     fn serialize<S: Serializer>(&self, _alloc: Global, serializer: &mut S) -> Result<()> {
         serializer.serialize_u32(*self)
     }
+
+    #[inline(always)]
+    fn serialize_aside<S: Serializer>(
+        &self,
+        _alloc: Global,
+        serializer: &mut S,
+        error: &mut Error,
+    ) -> Sent {
+        serializer.call_aside(Call::Number(Number::U32(*self)), error)
+    }
 }
 
 impl Serialize for i64 {
@@ -79,6 +141,16 @@ impl Serialize for i64 {
 
     fn serialize<S: Serializer>(&self, _alloc: Global, serializer: &mut S) -> Result<()> {
         serializer.serialize_i64(*self)
+    }
+
+    #[inline(always)]
+    fn serialize_aside<S: Serializer>(
+        &self,
+        _alloc: Global,
+        serializer: &mut S,
+        error: &mut Error,
+    ) -> Sent {
+        serializer.call_aside(Call::Number(Number::I64(*self)), error)
     }
 }
 
@@ -90,6 +162,16 @@ impl Serialize for u64 {
     fn serialize<S: Serializer>(&self, _alloc: Global, serializer: &mut S) -> Result<()> {
         serializer.serialize_u64(*self)
     }
+
+    #[inline(always)]
+    fn serialize_aside<S: Serializer>(
+        &self,
+        _alloc: Global,
+        serializer: &mut S,
+        error: &mut Error,
+    ) -> Sent {
+        serializer.call_aside(Call::Number(Number::U64(*self)), error)
+    }
 }
 
 impl Serialize for i128 {
@@ -99,6 +181,16 @@ impl Serialize for i128 {
 
     fn serialize<S: Serializer>(&self, _alloc: Global, serializer: &mut S) -> Result<()> {
         serializer.serialize_i128(*self)
+    }
+
+    #[inline(always)]
+    fn serialize_aside<S: Serializer>(
+        &self,
+        _alloc: Global,
+        serializer: &mut S,
+        error: &mut Error,
+    ) -> Sent {
+        serializer.call_aside(Call::Number(Number::I128(*self)), error)
     }
 }
 
@@ -110,6 +202,16 @@ impl Serialize for u128 {
     fn serialize<S: Serializer>(&self, _alloc: Global, serializer: &mut S) -> Result<()> {
         serializer.serialize_u128(*self)
     }
+
+    #[inline(always)]
+    fn serialize_aside<S: Serializer>(
+        &self,
+        _alloc: Global,
+        serializer: &mut S,
+        error: &mut Error,
+    ) -> Sent {
+        serializer.call_aside(Call::Number(Number::U128(*self)), error)
+    }
 }
 
 impl Serialize for usize {
@@ -120,6 +222,16 @@ impl Serialize for usize {
     fn serialize<S: Serializer>(&self, _alloc: Global, serializer: &mut S) -> Result<()> {
         serializer.serialize_u64(*self as u64)
     }
+
+    #[inline(always)]
+    fn serialize_aside<S: Serializer>(
+        &self,
+        _alloc: Global,
+        serializer: &mut S,
+        error: &mut Error,
+    ) -> Sent {
+        serializer.call_aside(Call::Number(Number::U64(*self as u64)), error)
+    }
 }
 
 impl Serialize for isize {
@@ -129,6 +241,16 @@ impl Serialize for isize {
 
     fn serialize<S: Serializer>(&self, _alloc: Global, serializer: &mut S) -> Result<()> {
         serializer.serialize_i64(*self as i64)
+    }
+
+    #[inline(always)]
+    fn serialize_aside<S: Serializer>(
+        &self,
+        _alloc: Global,
+        serializer: &mut S,
+        error: &mut Error,
+    ) -> Sent {
+        serializer.call_aside(Call::Number(Number::I64(*self as i64)), error)
     }
 }
 
@@ -150,5 +272,15 @@ impl Serialize for Number {
             Number::I128(n) => serializer.serialize_i128(n),
             Number::U128(n) => serializer.serialize_u128(n),
         }
+    }
+
+    #[inline(always)]
+    fn serialize_aside<S: Serializer>(
+        &self,
+        _alloc: Global,
+        serializer: &mut S,
+        error: &mut Error,
+    ) -> Sent {
+        serializer.call_aside(Call::Number(*self), error)
     }
 }

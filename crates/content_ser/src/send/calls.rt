@@ -1,7 +1,8 @@
-//! The calls of the walk, with their errors put aside.
+//! The calls of the walk and of the standard library's types, with their errors put aside.
 //!
-//! Each is a function of its own that isn't inlined: what a call of a serialiser answers is large,
-//! and so it takes stack while the call runs, and none at the levels of the walk above it.
+//! Those that open or close something, and the leaves, are functions of their own that aren't
+//! inlined: what they need takes stack while the call runs, and none at the levels of the walk above
+//! it. Those that announce an item are inlined, since they need little.
 #![tactic(auto, using(crate::proofs::Sending::sending))]
 
 ghost use Rattle.std.specs.Prelude.{map as each, IfErr, IfOk, Some};
@@ -18,11 +19,11 @@ ghost use Rattle.content_ser.specs.Sending.Places.{keyed_tree_of, StandsFor};
 ghost use Rattle.content_ser.specs.Sending.TreeScript.{key_script};
 ghost use Rattle.content_ser.specs.Serializers.Step.{Takes};
 
-use crate::send::aside::{Aside, Sent, put_aside};
+use crate::aside::{Aside, Sent, put_aside};
+use crate::call::Call;
 use crate::send::{key, places};
-use crate::serialize::Serialize;
 use crate::serializer::Serializer;
-use content_tree::{CowStr, Error, Number, Value};
+use content_tree::{CowBytes, CowStr, Error, Number, Value};
 use std::alloc::Global;
 use std::collections::BTreeMap;
 
@@ -32,7 +33,7 @@ pub fn serialize_unit<S: Serializer>(serializer: &mut S, error: &mut Error) -> S
     ensures { Takes S.step S.refuses (S.seen serializer.old) unit
         (answer_of result error.new) (S.seen serializer.new) }
 {
-    put_aside(serializer.serialize_unit(), error)
+    serializer.call_aside(Call::Unit, error)
 }
 
 /// A boolean.
@@ -41,7 +42,7 @@ pub fn serialize_bool<S: Serializer>(v: bool, serializer: &mut S, error: &mut Er
     ensures { Takes S.step S.refuses (S.seen serializer.old) (boolean v)
         (answer_of result error.new) (S.seen serializer.new) }
 {
-    put_aside(serializer.serialize_bool(v), error)
+    serializer.call_aside(Call::Bool(v), error)
 }
 
 /// A character.
@@ -50,7 +51,7 @@ pub fn serialize_char<S: Serializer>(v: char, serializer: &mut S, error: &mut Er
     ensures { Takes S.step S.refuses (S.seen serializer.old) (character v)
         (answer_of result error.new) (S.seen serializer.new) }
 {
-    put_aside(serializer.serialize_char(v), error)
+    serializer.call_aside(Call::Char(v), error)
 }
 
 /// A text.
@@ -59,7 +60,7 @@ pub fn serialize_str<S: Serializer>(v: &str, serializer: &mut S, error: &mut Err
     ensures { Takes S.step S.refuses (S.seen serializer.old) (text v.now)
         (answer_of result error.new) (S.seen serializer.new) }
 {
-    put_aside(serializer.serialize_str(v), error)
+    serializer.call_aside(Call::Str(CowStr::Borrowed(v)), error)
 }
 
 /// An array of bytes.
@@ -68,7 +69,7 @@ pub fn serialize_bytes<S: Serializer>(v: &[u8], serializer: &mut S, error: &mut 
     ensures { Takes S.step S.refuses (S.seen serializer.old) (octets v.now)
         (answer_of result error.new) (S.seen serializer.new) }
 {
-    put_aside(serializer.serialize_bytes(v), error)
+    serializer.call_aside(Call::Bytes(CowBytes::Borrowed(v)), error)
 }
 
 /// An absent optional value.
@@ -77,7 +78,7 @@ pub fn serialize_none<S: Serializer>(serializer: &mut S, error: &mut Error) -> S
     ensures { Takes S.step S.refuses (S.seen serializer.old) none
         (answer_of result error.new) (S.seen serializer.new) }
 {
-    put_aside(serializer.serialize_none(), error)
+    serializer.call_aside(Call::NoneCall, error)
 }
 
 /// A present optional value.
@@ -86,7 +87,7 @@ pub fn serialize_some<S: Serializer>(serializer: &mut S, error: &mut Error) -> S
     ensures { Takes S.step S.refuses (S.seen serializer.old) some
         (answer_of result error.new) (S.seen serializer.new) }
 {
-    put_aside(serializer.serialize_some(), error)
+    serializer.call_aside(Call::SomeCall, error)
 }
 
 /// Opens a sequence of known length.
@@ -95,7 +96,7 @@ pub fn serialize_seq<S: Serializer>(len: usize, serializer: &mut S, error: &mut 
     ensures { Takes S.step S.refuses (S.seen serializer.old) (seq (Some len))
         (answer_of result error.new) (S.seen serializer.new) }
 {
-    put_aside(serializer.serialize_seq(Some(len)), error)
+    serializer.call_aside(Call::Seq(Some(len)), error)
 }
 
 /// Opens a map of known length.
@@ -104,7 +105,7 @@ pub fn serialize_map<S: Serializer>(len: usize, serializer: &mut S, error: &mut 
     ensures { Takes S.step S.refuses (S.seen serializer.old) (map (Some len))
         (answer_of result error.new) (S.seen serializer.new) }
 {
-    put_aside(serializer.serialize_map(Some(len)), error)
+    serializer.call_aside(Call::Map(Some(len)), error)
 }
 
 /// Opens a tuple.
@@ -113,34 +114,34 @@ pub fn serialize_tuple<S: Serializer>(len: usize, serializer: &mut S, error: &mu
     ensures { Takes S.step S.refuses (S.seen serializer.old) (tuple len)
         (answer_of result error.new) (S.seen serializer.new) }
 {
-    put_aside(serializer.serialize_tuple(len), error)
+    serializer.call_aside(Call::Tuple(len), error)
 }
 
 /// Announces an item of a sequence or a tuple.
-#[inline(never)]
+#[inline(always)]
 pub fn serialize_element<S: Serializer>(serializer: &mut S, error: &mut Error) -> Sent
     ensures { Takes S.step S.refuses (S.seen serializer.old) element
         (answer_of result error.new) (S.seen serializer.new) }
 {
-    put_aside(serializer.serialize_element(), error)
+    serializer.call_aside(Call::Element, error)
 }
 
 /// Announces a pair of a map.
-#[inline(never)]
+#[inline(always)]
 pub fn serialize_entry<S: Serializer>(serializer: &mut S, error: &mut Error) -> Sent
     ensures { Takes S.step S.refuses (S.seen serializer.old) entry
         (answer_of result error.new) (S.seen serializer.new) }
 {
-    put_aside(serializer.serialize_entry(), error)
+    serializer.call_aside(Call::Entry, error)
 }
 
 /// Announces an item of a tuple struct or a tuple variant.
-#[inline(never)]
+#[inline(always)]
 pub fn serialize_tuple_field<S: Serializer>(serializer: &mut S, error: &mut Error) -> Sent
     ensures { Takes S.step S.refuses (S.seen serializer.old) tuple_field
         (answer_of result error.new) (S.seen serializer.new) }
 {
-    put_aside(serializer.serialize_tuple_field(), error)
+    serializer.call_aside(Call::TupleField, error)
 }
 
 /// Closes what was opened last.
@@ -149,21 +150,16 @@ pub fn end<S: Serializer>(serializer: &mut S, error: &mut Error) -> Sent
     ensures { Takes S.step S.refuses (S.seen serializer.old) end_
         (answer_of result error.new) (S.seen serializer.new) }
 {
-    put_aside(serializer.end(), error)
+    serializer.call_aside(Call::End, error)
 }
 
 /// A number.
 #[inline(never)]
-pub fn serialize_number<S: Serializer>(
-    v: &Number,
-    alloc: Global,
-    serializer: &mut S,
-    error: &mut Error,
-) -> Sent
+pub fn serialize_number<S: Serializer>(v: &Number, serializer: &mut S, error: &mut Error) -> Sent
     ensures { Sends S.step S.refuses (S.seen serializer.old) (only (number v.now))
         (answer_of result error.new) (S.seen serializer.new) }
 {
-    put_aside(v.serialize(alloc, serializer), error)
+    serializer.call_aside(Call::Number(*v), error)
 }
 
 /// The key of a field, where it is static; where it is owned it makes no call and says so.

@@ -7,8 +7,9 @@ ghost use Rattle.content_ser.specs.Sending.Aside.{answer_of};
 ghost use Rattle.content_ser.specs.Sending.TreeScript.{newtype_call, struct_call, tuple_call};
 ghost use Rattle.content_ser.specs.Sending.TreeScript.{unit_call};
 
+use crate::aside::Sent;
+use crate::call::Call;
 use crate::head::Head;
-use crate::send::aside::{Sent, put_aside};
 use crate::serializer::Serializer;
 use content_tree::Error;
 
@@ -19,12 +20,9 @@ pub fn call_unit<S: Serializer>(head: &Head, serializer: &mut S, error: &mut Err
         (answer_of result error.new) (S.seen serializer.new) }
 {
     match head {
-        Head::Struct(name) => put_aside(serializer.serialize_unit_struct(name), error),
+        Head::Struct(name) => serializer.call_aside(Call::UnitStruct(name), error),
         Head::Variant(name, index, variant) => {
-            put_aside(
-                serializer.serialize_unit_variant(name, *index, variant),
-                error,
-            )
+            serializer.call_aside(Call::UnitVariant(name, *index, variant), error)
         }
     }
 }
@@ -36,12 +34,9 @@ pub fn call_newtype<S: Serializer>(head: &Head, serializer: &mut S, error: &mut 
         (answer_of result error.new) (S.seen serializer.new) }
 {
     match head {
-        Head::Struct(name) => put_aside(serializer.serialize_newtype_struct(name), error),
+        Head::Struct(name) => serializer.call_aside(Call::NewtypeStruct(name), error),
         Head::Variant(name, index, variant) => {
-            put_aside(
-                serializer.serialize_newtype_variant(name, *index, variant),
-                error,
-            )
+            serializer.call_aside(Call::NewtypeVariant(name, *index, variant), error)
         }
     }
 }
@@ -58,12 +53,9 @@ pub fn call_tuple<S: Serializer>(
         (answer_of result error.new) (S.seen serializer.new) }
 {
     match head {
-        Head::Struct(name) => put_aside(serializer.serialize_tuple_struct(name, len), error),
+        Head::Struct(name) => serializer.call_aside(Call::TupleStruct(name, len), error),
         Head::Variant(name, index, variant) => {
-            put_aside(
-                serializer.serialize_tuple_variant(name, *index, variant, len),
-                error,
-            )
+            serializer.call_aside(Call::TupleVariant(name, *index, variant, len), error)
         }
     }
 }
@@ -80,12 +72,9 @@ pub fn call_struct<S: Serializer>(
         (answer_of result error.new) (S.seen serializer.new) }
 {
     match head {
-        Head::Struct(name) => put_aside(serializer.serialize_struct(name, len), error),
+        Head::Struct(name) => serializer.call_aside(Call::Struct(name, len), error),
         Head::Variant(name, index, variant) => {
-            put_aside(
-                serializer.serialize_struct_variant(name, *index, variant, len),
-                error,
-            )
+            serializer.call_aside(Call::StructVariant(name, *index, variant, len), error)
         }
     }
 }

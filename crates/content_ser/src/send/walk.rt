@@ -16,8 +16,8 @@ ghost use Rattle.content_ser.specs.Sending.TreeScript.{script_of, script_of_each
 ghost use Rattle.content_ser.specs.Sending.TreeScript.{script_of_pairs, script_of_data};
 ghost use Rattle.content_ser.specs.Sending.TreeScript.{loose_script, single_head};
 
+use crate::aside::Sent;
 use crate::head::Head;
-use crate::send::aside::Sent;
 use crate::send::calls::{
     end, last_places, send_key, serialize_bool, serialize_bytes, serialize_char, serialize_element,
     serialize_entry, serialize_map, serialize_none, serialize_number, serialize_seq,
@@ -43,7 +43,7 @@ pub fn send<S: Serializer>(
     match value {
         Value::Unit => serialize_unit(serializer, error),
         Value::Bool(flag) => serialize_bool(*flag, serializer, error),
-        Value::Number(number) => serialize_number(number, alloc, serializer, error),
+        Value::Number(number) => serialize_number(number, serializer, error),
         Value::Char(character) => serialize_char(*character, serializer, error),
         Value::String(text) => serialize_str(text.as_str(), serializer, error),
         Value::Bytes(bytes) => serialize_bytes(bytes.as_bytes(), serializer, error),

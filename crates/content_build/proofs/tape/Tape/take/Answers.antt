@@ -1,8 +1,8 @@
 use Rattle.std.proofs.Common.{Ok, sym, subst}
 use Rattle.content_build.specs.Inner.Sound.{IsKept, meaning, viewed}
-use Rattle.content_build.specs.Inner.Taken.{AnswersToken}
+use Rattle.content_build.specs.Inner.Taken.{TakesToken}
 use Rattle.content_build.specs.Inner.Tokens.{token_view}
-use Rattle.content_build.proofs.Calling.{sound_after, answered}
+use Rattle.content_build.proofs.Calling.{sound_after, now_taken}
 use Rattle.content_build.proofs.tape.Tape.take.Goals as goal
 
 pub invariant_of-self : goal.invariant_of-self
@@ -16,5 +16,5 @@ returns-in-Ok c =
     let es = c.args.self.now.entries.items in
     let hs = c.args.self.now.heads.items in
     let call = token_view c.args.call in
-    subst (λ failed. AnswersToken (viewed failed es hs) call (Ok tt) (viewed failed c.step.new.entries.items c.step.new.heads.items)) (sym c.if-self.false)
-    (answered (meaning es hs) call c.step.new.entries.items c.step.new.heads.items c.in-Ok.ensures)
+    subst (λ failed. TakesToken (viewed failed es hs) call (Ok tt) (viewed failed c.step.new.entries.items c.step.new.heads.items)) (sym c.if-self.false)
+    (now_taken (meaning es hs) call c.step.new.entries.items c.step.new.heads.items c.in-Ok.ensures)

@@ -1,7 +1,7 @@
 use Rattle.content_ser.specs.Serializers.Step.{Answer, Seen}
 use Rattle.content_ser.specs.Scripts.Sends.{Sends}
 use Rattle.content_ser.specs.Scripts.Standard.{entries_script}
-use Rattle.content_ser.proofs.impls.map.BTreeMapSerialize.serialize.Given as goal
+use Rattle.content_ser.proofs.impls.map.BTreeMapSerialize.serialize_aside.Given as goal
 
 -- whatever ends the rest from here ends the whole from the start
 abbrev pub invariant-loop-key : goal.invariant-loop-key

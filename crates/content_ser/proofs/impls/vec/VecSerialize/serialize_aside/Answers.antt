@@ -2,35 +2,35 @@ use Rattle.std.proofs.Common.{◌≡◌, [], length, drop, Some, arith, rules}
 use Rattle.std.proofs.lemmas.List.{drop_all}
 use Rattle.content_ser.specs.Calls.Event as event
 use Rattle.content_ser.proofs.Sending.{takes_only, takes_then, takes_err, sends_then, sends_err}
-use Rattle.content_ser.proofs.Sending.{at_exit, told_then, told_err}
+use Rattle.content_ser.proofs.Sending.{at_exit_aside, told_then, told_err}
 use Rattle.content_ser.proofs.Lists.{drop_here}
-use Rattle.content_ser.proofs.impls.vec.VecSerialize.serialize.Goals as goal
+use Rattle.content_ser.proofs.impls.vec.VecSerialize.serialize_aside.Goals as goal
 
 pub returns-in_err-serialize_seq : goal.returns-in_err-serialize_seq
 returns-in_err-serialize_seq g c =
     let n : c.len.result ≡ length c.args.self.now.items = search rules in
-    at_exit _ _ c.from_residual.ensures.1 (told_err (λ n. event.seq (Some n)) n c.in_err-serialize_seq.ensures)
+    at_exit_aside _ _ c.from_residual.ensures.1 (told_err (λ n. event.seq (Some n)) n c.in_err-serialize_seq.ensures)
 
 pub returns-in_err-serialize_element : goal.returns-in_err-serialize_element
 returns-in_err-serialize_element g c =
     let xs = c.deref-item-items in
     let n : c.len.result ≡ length xs.result.now = search rules in
     let e = drop_here xs.result.now c.loop-item.item-index c.item-item.result c.loop-item-test.true c.item-item.is in
-    at_exit _ _ c.from_residual-in_err-serialize_element.ensures.1 (rw (← xs.ensures.value) (told_then (λ n. event.seq (Some n)) n c.in_ok-serialize_seq.ensures
+    at_exit_aside _ _ c.from_residual-in_err-serialize_element.ensures.1 (rw (← xs.ensures.value) (told_then (λ n. event.seq (Some n)) n c.in_ok-serialize_seq.ensures
     (c.loop-item.invariant _ _ (rw e (takes_err c.in_err-serialize_element.ensures)))))
 
-pub returns-in_err-serialize : goal.returns-in_err-serialize
-returns-in_err-serialize g c =
+pub returns-in_err-serialize_aside : goal.returns-in_err-serialize_aside
+returns-in_err-serialize_aside g c =
     let xs = c.deref-item-items in
     let n : c.len.result ≡ length xs.result.now = search rules in
     let e = drop_here xs.result.now c.loop-item.item-index c.item-item.result c.loop-item-test.true c.item-item.is in
-    at_exit _ _ c.from_residual-in_err-serialize.ensures.1 (rw (← xs.ensures.value) (told_then (λ n. event.seq (Some n)) n c.in_ok-serialize_seq.ensures
-    (c.loop-item.invariant _ _ (rw e (takes_then c.in_ok-serialize_element.ensures (sends_err _ c.in_err-serialize.ensures))))))
+    at_exit_aside _ _ c.from_residual-in_err-serialize_aside.ensures.1 (rw (← xs.ensures.value) (told_then (λ n. event.seq (Some n)) n c.in_ok-serialize_seq.ensures
+    (c.loop-item.invariant _ _ (rw e (takes_then c.in_ok-serialize_element.ensures (sends_err _ c.in_err-serialize_aside.ensures))))))
 
 pub loop-item-preserved : goal.loop-item-preserved
 loop-item-preserved g c = λ r new rest.
     let e = drop_here c.deref-item-items.result.now c.loop-item.item-index c.item-item.result c.loop-item-test.true c.item-item.is in
-    c.loop-item.invariant r new (rw e (takes_then c.in_ok-serialize_element.ensures (sends_then c.in_ok-serialize.ensures rest)))
+    c.loop-item.invariant r new (rw e (takes_then c.in_ok-serialize_element.ensures (sends_then c.in_ok-serialize_aside.ensures rest)))
 
 pub returns : goal.returns
 returns g c =

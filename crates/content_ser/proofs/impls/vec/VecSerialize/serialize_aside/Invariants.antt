@@ -2,7 +2,7 @@ use Rattle.std.proofs.Common.{drop}
 use Rattle.content_ser.specs.Serializers.Step.{Answer, Seen}
 use Rattle.content_ser.specs.Scripts.Sends.{Sends}
 use Rattle.content_ser.specs.Scripts.Standard.{items_script}
-use Rattle.content_ser.proofs.impls.vec.VecSerialize.serialize.Given as goal
+use Rattle.content_ser.proofs.impls.vec.VecSerialize.serialize_aside.Given as goal
 
 -- whatever ends the rest from here ends the whole from the start
 abbrev pub invariant-loop-item : goal.invariant-loop-item
