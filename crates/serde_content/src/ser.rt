@@ -3,4 +3,4 @@
 pub use content_build::{
     Builder, CallsError, Recorder, from_calls, from_calls_prefix, from_calls_within,
 };
-pub use content_ser::{Announced, Call, Parts, Serialize, Serializer, replay};
+pub use content_ser::{Announced, Aside, Call, Parts, Sent, Serialize, Serializer, replay};
