@@ -28,9 +28,10 @@ pub trait Serialize {
         ensures { Sends S.step S.refuses (S.seen serializer.old)
             (script self.now) result (S.seen serializer.new) };
 
-    /// Makes the calls of the script as [`serialize`](Serialize::serialize) does, with the error put
-    /// aside: the answer is a byte, and where it is an `Err`, the error stands in `error`, whatever
-    /// was there before. Where it is `Ok`, what stands there says nothing. A type need not give it.
+    /// Makes the calls of the script as [`serialize`](Serialize::serialize) does, with the error
+    /// put aside: the answer is a byte, and where it is an `Err`, the error stands in `error`,
+    /// whatever was there before. Where it is `Ok`, what stands there says nothing. A type need not
+    /// give it. (Ours.)
     fn serialize_aside<S: Serializer>(
         &self,
         alloc: Global,

@@ -47,10 +47,10 @@ pub trait Serializer {
     fn call(&mut self, call: Call<'_>) -> Result<()>
         ensures { Takes step refuses (seen self.old) (event_of call.entry) result (seen self.new) };
 
-    /// Makes this call with its error put aside: the answer is a byte, and where it is an `Err`, the
-    /// error stands in `error`, whatever was there before. Where it is `Ok`, what stands there says
-    /// nothing. An implementation need not give it; one that does spares its callers the moving of a
-    /// large answer.
+    /// Makes this call with its error put aside: the answer is a byte, and where it is an `Err`,
+    /// the error stands in `error`, whatever was there before. Where it is `Ok`, what stands there
+    /// says nothing. An implementation need not give it; one that does spares its callers the
+    /// moving of a large answer. (Ours.)
     fn call_aside(&mut self, call: Call<'_>, error: &mut Error) -> Sent
         ensures { Takes step refuses (seen self.old) (event_of call.entry)
             (answer_of result error.new) (seen self.new) }
