@@ -10,6 +10,7 @@ top, room = sys.argv[1:]
 OUT_OF_MEMORY = (b"out of memory\n", 3)
 READ_FAILED = {"content_cli": (b"read failed\n", 4)}
 ROWS_FAILED = (b"a read or a write failed\n", 4)
+PROGRAMS_OF_ROWS = ("content_rows", "reading_rows")
 reports = itertools.count()
 
 
@@ -30,7 +31,7 @@ def is_told(program, answer):
     """Whether a program of rows tells that its operation answered out of memory."""
     out, status = answer
     got = out.partition(b": got ")[2].partition(b", wanted ")[0]
-    return program != "content_cli" and status == 1 and b"OutOfMemory" in got
+    return program in PROGRAMS_OF_ROWS and status == 1 and b"OutOfMemory" in got
 
 
 def faults(program, text):
@@ -74,7 +75,9 @@ def inputs():
     with open(f"{top}/checks/refused/lines", "rb") as file:
         for lines in file.read().split(b"\n\n"):
             yield "content_cli", lines.rstrip(b"\n") + b"\n"
-    for program in ("content_rows", "reading_rows"):
+    # no status 1 is right of its calls, whose right answers it knows
+    yield "memory_checks", b""
+    for program in PROGRAMS_OF_ROWS:
         sorts = {}
         with open(f"{top}/crates/{program}/stdin", "rb") as file:
             for row in file.read().splitlines():

@@ -1,0 +1,63 @@
+//! The values that are read, sent and compared. What holds something holds the number 7.
+
+use crate::tally::Made;
+use serde_content::{CowStr, Data, Enum, Struct, Value};
+use std::alloc::Global;
+
+/// One item.
+pub fn items(alloc: Global) -> Made<Vec<Value<'static>>> {
+    Ok(vec![in alloc; 7u8.into()]?)
+}
+
+/// A map of one entry.
+pub fn map(alloc: Global, key: &'static str, value: Value<'static>) -> Made<Value<'static>> {
+    Ok(Value::Map(vec![in alloc; (Value::from(key), value)]?))
+}
+
+/// One value.
+pub fn one() -> Data<'static> {
+    Data::NewType { value: 7u8.into() }
+}
+
+/// One value by place.
+pub fn places(alloc: Global) -> Made<Data<'static>> {
+    let values = items(alloc)?;
+    Ok(Data::Tuple { values })
+}
+
+/// One value by key.
+pub fn fields(alloc: Global) -> Made<Data<'static>> {
+    let fields = vec![in alloc; (CowStr::Borrowed("x"), 7u8.into())]?;
+    Ok(Data::Struct { fields })
+}
+
+/// A present optional value.
+pub fn some(alloc: Global, value: Value<'static>) -> Made<Value<'static>> {
+    Ok(Value::Option(Some(Box::new(alloc, value)?)))
+}
+
+/// A struct, with no box.
+pub fn holder(data: Data<'static>) -> Struct<'static> {
+    let name = CowStr::Borrowed("S");
+    Struct { name, data }
+}
+
+/// A struct.
+pub fn structure(alloc: Global, data: Data<'static>) -> Made<Value<'static>> {
+    Ok(Value::Struct(Box::new(alloc, holder(data))?))
+}
+
+/// A variant, with no box.
+pub fn variant(data: Data<'static>) -> Enum<'static> {
+    Enum {
+        name: CowStr::Borrowed("E"),
+        variant_index: 1,
+        variant: CowStr::Borrowed("V"),
+        data,
+    }
+}
+
+/// A variant.
+pub fn enumeration(alloc: Global, data: Data<'static>) -> Made<Value<'static>> {
+    Ok(Value::Enum(Box::new(alloc, variant(data))?))
+}
