@@ -5,6 +5,7 @@ pub use Rattle.content_tree.specs.Images.Image.{image}
 pub use Rattle.content_tree.specs.Printed.Images.{printed}
 pub use Rattle.content_tree.specs.Printed.Errors.{kind_text, error_text}
 pub use Rattle.content_tree.specs.Errors.Kind.{kind_of}
+pub use Rattle.content_tree.specs.declared.error.Error.{Error}
 pub use Rattle.content_tree.specs.declared.error.ErrorKind.{ErrorKind}
 pub use Rattle.content_ser.specs.Calls.Call.{event_of, events_of}
 pub use Rattle.content_ser.specs.Calls.Event.{Event}
@@ -13,3 +14,5 @@ pub use Rattle.content_ser.specs.Grammar.Spells.{SpellsWhole, IsWhole, IsViable}
 pub use Rattle.content_ser.specs.Grammar.Depth.{IsLimit, SpellsUnder, IsWholeUnder, IsViableUnder}
 pub use Rattle.content_build.specs.Answers.{IsAnswer, IsRefusal, IsAnswerUnder, IsRefusalUnder}
 pub use Rattle.content_build.specs.declared.calls_error.CallsError.{CallsError}
+pub use Rattle.content_build.specs.CallsBuilder.{HasTaken, AnswersNext, AnswersEnd}
+pub use Rattle.content_build.specs.declared.calls_builder.CallsBuilder.{CallsBuilder}
