@@ -30,12 +30,12 @@ pub taken_earns : {E : Type 0} (input : List ℕ) (calls : List Event) (t : Tree
 taken_earns input calls t (Ok a) good same spelled says code = inr (inl (record { good = good; tree = t; spelled = subst (λ l. SpellsUnder (limit_of input) l t) same spelled; says = says; code = code }))
 taken_earns input calls t (Err e) good same spelled says code = says
 
--- the line of a refusal is earned by calls that are refused so
-pub refused_earns : {E : Type 0} (input : List ℕ) (calls : List Event) (at : ℕ) (cause : ErrorKind) (r : Result Answer E) → first_bad (body_of input) ≡ None → calls ≡ calls_of (body_of input) → IsRefusalUnder (limit_of input) calls at cause
+-- the line of a refusal is earned by calls that are refused so, unless memory is the cause
+pub refused_earns : {E : Type 0} (input : List ℕ) (calls : List Event) (at : ℕ) (cause : ErrorKind) (r : Result Answer E) → first_bad (body_of input) ≡ None → calls ≡ calls_of (body_of input) → (cause ≢ OutOfMemory → IsRefusalUnder (limit_of input) calls at cause)
     → OnOk r (cause ≢ OutOfMemory) → IfOk r (λ a. string_bytes a.line ≡ codes "refused at " ++ (decimal at ++ (codes ": " ++ (kind_text cause ++ codes "\n")))) → IfOk r (λ a. a.status ≡ 1)
     → IfOk r (λ a. Earns input (string_bytes a.line) a.status)
 refused_earns input calls at cause (Ok a) good same refused caused says code =
-    inr (inr (record { good = good; at = at; cause = cause; refused = subst (λ l. IsRefusalUnder (limit_of input) l at cause) same refused; caused = caused; says = says; code = code }))
+    inr (inr (record { good = good; at = at; cause = cause; refused = subst (λ l. IsRefusalUnder (limit_of input) l at cause) same (refused caused); caused = caused; says = says; code = code }))
 refused_earns input calls at cause (Err e) good same refused caused says code = says
 
 -- each beginning of a whole list is viable

@@ -1,5 +1,7 @@
+pub mod Cutting
 pub mod Earned
 pub mod Limiting
 pub mod Parsed
+pub mod Reading
 pub mod Texts
 pub mod Told

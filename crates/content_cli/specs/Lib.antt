@@ -4,4 +4,5 @@ pub mod Words
 pub mod Lines
 pub mod Views
 pub mod Plain
+pub mod Outcomes
 pub mod Answers

@@ -1,17 +1,19 @@
 //! The line and the status that an input earns.
 
-ghost use Rattle.std.specs.Prelude.{◌≡◌, ◌≢◌, ◌≤◌, ◌+◌, ◌++◌, codes, IfOk, OnOk};
+ghost use Rattle.std.specs.Prelude.{ℕ, ◌≡◌, ◌≢◌, ◌≤◌, ◌+◌, ◌++◌, List, length, codes, None};
+ghost use Rattle.std.specs.Prelude.{IfOk, OnOk};
 ghost use Rattle.std.specs.String.{string_bytes};
 ghost use Rattle.std.specs.Fmt.{decimal};
 ghost use Rattle.serde_content.specs.Names.Words.{image, kind_of, printed, error_text, tree_of};
-ghost use Rattle.serde_content.specs.Names.Words.{events_of, IsLimit, IsAnswerUnder};
+ghost use Rattle.serde_content.specs.Names.Words.{HasTaken};
 ghost use Rattle.serde_content.specs.Names.ErrorKind.{OutOfMemory};
 ghost use Rattle.content_cli.specs.Answers.{Earns, EarnsStatus};
+ghost use Rattle.content_cli.specs.Lines.{limit_of, body_of, first_bad, calls_of};
+ghost use Rattle.content_cli.specs.Outcomes.{IsOutcome};
 
-use crate::calls::read_calls;
+use crate::calls::{Outcome, read_calls};
 use crate::limit::split_limit;
-use crate::line::first_bad_line;
-use serde_content::ser::{Call, CallsError, from_calls, from_calls_within};
+use serde_content::ser::{CallsBuilder, CallsError};
 use serde_content::{ErrorKind, Value};
 use std::alloc::{AllocError, Global};
 
@@ -69,34 +71,37 @@ fn refused(alloc: Global, refusal: &CallsError) -> Result<Answer, AllocError>
     })
 }
 
-/// The tree that the calls spell, within the limit where there is one.
-fn build<'v>(
-    alloc: Global,
-    calls: &[Call<'_>],
-    limit: Option<usize>,
-) -> Result<Value<'v>, CallsError>
-    requires { IsLimit limit }
-    ensures { IsAnswerUnder limit (events_of calls.now) result }
+/// What the input comes to, which is freed.
+fn read_input<'v>(alloc: Global, input: Vec<u8>) -> Outcome<'v>
+    ensures { IsOutcome (limit_of input.items) (body_of input.items) result }
 {
-    match limit {
-        None => from_calls(alloc, calls),
-        Some(limit) => from_calls_within(alloc, calls, limit),
+    let (limit, body) = split_limit(input.as_slice());
+    read_calls(alloc, body, limit)
+}
+
+/// The line and the status of calls that were all taken, so many.
+fn finished(alloc: Global, builder: CallsBuilder<'_>, count: usize) -> Result<Answer, AllocError>
+    ensures { (input : List ℕ) → first_bad (body_of input) ≡ None
+        → HasTaken (limit_of input) (calls_of (body_of input)) builder.entry
+        → count ≡ length (calls_of (body_of input))
+        → IfOk result (λ a. Earns input (string_bytes a.line) a.status) }
+{
+    match builder.finish() {
+        Ok(value) => taken(alloc, value),
+        Err(error) => refused(alloc, &CallsError { at: count, error }),
     }
 }
 
-/// The line and the status that the input earns, or an error where an allocation fails.
-pub fn make_answer(alloc: Global, input: &[u8]) -> Result<Answer, AllocError>
-    ensures value { IfOk result (λ a. Earns input.now (string_bytes a.line) a.status) }
-    ensures fits { IfOk result (λ a. EarnsStatus input.now a.status) }
+/// The line and the status that the input earns, or an error where an allocation fails. The input
+/// is freed before the tree is made.
+pub fn make_answer(alloc: Global, input: Vec<u8>) -> Result<Answer, AllocError>
+    ensures value { IfOk result (λ a. Earns input.items (string_bytes a.line) a.status) }
+    ensures fits { IfOk result (λ a. EarnsStatus input.items a.status) }
     ensures low { IfOk result (λ a. a.status ≤ 2) }
 {
-    let (limit, body) = split_limit(input);
-    if let Some(place) = first_bad_line(body) {
-        return bad_line(alloc, place);
-    }
-    let calls = read_calls(alloc, body)?;
-    match build(alloc, calls.as_slice(), limit) {
-        Ok(value) => taken(alloc, value),
-        Err(refusal) => refused(alloc, &refusal),
+    match read_input(alloc, input) {
+        Outcome::BadLine(place) => bad_line(alloc, place),
+        Outcome::Taken(builder, count) => finished(alloc, builder, count),
+        Outcome::Refused(refusal) => refused(alloc, &refusal),
     }
 }

@@ -1,15 +1,30 @@
 //! From lines to calls.
 
-ghost use Rattle.std.specs.Prelude.{◌≡◌, IfOk};
-ghost use Rattle.serde_content.specs.Names.Words.{event_of, events_of};
-ghost use Rattle.content_cli.specs.Lines.{calls_of};
+ghost use Rattle.std.specs.Prelude.{ℕ, ◌≡◌, ◌≤◌, ◌+◌, ◌^◌, ◌-◌, List, [], length, Option, MatchOption};
+ghost use Rattle.std.specs.Prelude.{IfOk};
+ghost use Rattle.serde_content.specs.Names.Words.{event_of, Event, HasTaken, IsLimit};
+ghost use Rattle.content_cli.specs.Lines.{first_bad};
+ghost use Rattle.content_cli.specs.Outcomes.{AnswersLine, IsOutcome};
 ghost use Rattle.content_cli.specs.Views.{line_event};
+ghost use Rattle.content_cli.specs.declared.calls.Outcome.TheVariants.{BadLine, Refused};
 
 use crate::hex;
-use crate::line::{Line, read_line};
-use serde_content::ser::Call;
+use crate::line::{Line, cut_line, first_bad_line, read_line};
+use serde_content::ser::{Call, CallsBuilder, CallsError};
 use serde_content::{CowBytes, CowStr};
 use std::alloc::{AllocError, Global};
+
+/// What lines of calls come to.
+#[derive(Drop)]
+pub enum Outcome<'v> {
+    /// A line is neither empty nor a call: the place of the first, counted from 0 with the empty
+    /// lines.
+    BadLine(usize),
+    /// All calls were taken: the builder that took them, and how many they are.
+    Taken(CallsBuilder<'v>, usize),
+    /// No line is bad, and a call was refused.
+    Refused(CallsError),
+}
 
 /// The call that a line spells. Its text is borrowed from the line; bytes take memory.
 pub fn make_call<'a>(alloc: Global, line: Line<'a>) -> Result<Call<'a>, AllocError>
@@ -45,15 +60,71 @@ pub fn make_call<'a>(alloc: Global, line: Line<'a>) -> Result<Call<'a>, AllocErr
     }
 }
 
-/// The calls of the lines, in order. A line that spells none gives none.
-pub fn read_calls<'a>(alloc: Global, input: &'a [u8]) -> Result<Vec<Call<'a>>, AllocError>
-    ensures { IfOk result (λ calls. events_of calls.items ≡ calls_of input.now) }
+/// A builder that took no call, under the limit where there is one.
+fn start<'v>(alloc: Global, limit: Option<usize>) -> CallsBuilder<'v>
+    requires { IsLimit limit }
+    ensures { HasTaken limit [] result }
 {
-    let mut calls = Vec::new(alloc);
-    for line in input.split(|b| *b == b'\n') {
-        if let Some(said) = read_line(line) {
-            calls.push(make_call(alloc, said)?)?;
-        }
+    match limit {
+        None => CallsBuilder::new(alloc),
+        Some(limit) => CallsBuilder::with_limit(alloc, limit),
     }
-    Ok(calls)
+}
+
+/// Makes the call that a line spells.
+fn take_line(
+    alloc: Global,
+    builder: &mut CallsBuilder<'_>,
+    line: Line<'_>,
+) -> serde_content::Result<()>
+    ensures { (limit : Option ℕ) → (calls : List Event) → HasTaken limit calls builder.old
+        → AnswersLine limit calls (line_event line.entry) result builder.new }
+{
+    builder.call(make_call(alloc, line)?)
+}
+
+/// What lines come to of which one was refused, where these stand after it, the first of them at
+/// this place: a bad line goes before a refusal.
+fn after_refusal<'v>(refusal: CallsError, place: usize, lines: &[u8]) -> Outcome<'v>
+    requires { place + length lines.now ≤ 2 ^ 64 - 1 }
+    ensures { MatchOption (first_bad lines.now) (result ≡ Refused refusal)
+        (λ further. result ≡ BadLine (place + further)) }
+{
+    match first_bad_line(lines) {
+        Some(further) => Outcome::BadLine(place + further),
+        None => Outcome::Refused(refusal),
+    }
+}
+
+/// What the lines of calls come to under the limit. Each line is read once and its call made at
+/// once; after a refusal lines are only read. No call is kept.
+pub fn read_calls<'v>(alloc: Global, body: &[u8], limit: Option<usize>) -> Outcome<'v>
+    requires { IsLimit limit }
+    ensures { IsOutcome limit body.now result }
+{
+    let mut builder = start(alloc, limit);
+    let mut count = 0;
+    let mut place = 0;
+    let mut text = body;
+    'lines: loop {
+        let (line, rest) = cut_line(text);
+        if !line.is_empty() {
+            let Some(said) = read_line(line) else {
+                return Outcome::BadLine(place);
+            };
+            if let Err(error) = take_line(alloc, &mut builder, said) {
+                let refusal = CallsError { at: count, error };
+                return match rest {
+                    Some(after) => after_refusal(refusal, place + 1, after),
+                    None => Outcome::Refused(refusal),
+                };
+            }
+            count += 1;
+        }
+        let Some(after) = rest else {
+            return Outcome::Taken(builder, count);
+        };
+        place += 1;
+        text = after;
+    }
 }

@@ -1,13 +1,13 @@
 //! The line that sets a limit on how deep trees nest.
 
 ghost use Rattle.std.specs.Prelude.{◌≡◌, drop};
-ghost use Rattle.std.specs.List.{before_first, position, position_or_len};
+ghost use Rattle.std.specs.List.{before_first, position_or_len};
 ghost use Rattle.serde_content.specs.Names.Words.{IsLimit};
 ghost use Rattle.content_cli.specs.Lines.{body_of, is_line_feed, limit_of};
 ghost use Rattle.content_cli.specs.Words.{limit_in, limit_of_parts, positive_of};
 ghost use Rattle.content_cli.specs.Words.{rest_of, word_of};
 
-use crate::line::text_of;
+use crate::line::{first_line_feed, text_of};
 use crate::numbers::read_usize;
 
 /// A number from 1 on.
@@ -37,13 +37,6 @@ fn read_limit(line: &[u8]) -> Option<usize>
     ensures { result ≡ limit_in line.now }
 {
     read_limit_text(text_of(line)?)
-}
-
-/// Where the first line feed stands.
-fn first_line_feed(input: &[u8]) -> Option<usize>
-    ensures { result ≡ position is_line_feed input.now }
-{
-    input.iter().position(|b| *b == b'\n')
 }
 
 /// The first line, without its line feed, and what stands from there on.

@@ -1,8 +1,8 @@
 //! What a line says.
 
-ghost use Rattle.std.specs.Prelude.{◌≡◌, MatchOption, true, false};
-ghost use Rattle.std.specs.List.{list_all};
-ghost use Rattle.content_cli.specs.Lines.{is_bad, first_bad};
+ghost use Rattle.std.specs.Prelude.{◌≡◌, ◌+◌, [], ◌∷◌, length, MatchOption, true, false};
+ghost use Rattle.std.specs.List.{list_all, position};
+ghost use Rattle.content_cli.specs.Lines.{is_bad, is_line_feed, lines_of, first_bad};
 ghost use Rattle.content_cli.specs.Forms.{is_printable};
 ghost use Rattle.content_cli.specs.Words.{event_in, of_parts, word_of, rest_of};
 ghost use Rattle.content_cli.specs.Views.{Reads};
@@ -95,6 +95,26 @@ fn is_bad_line(line: &[u8]) -> bool
     ensures { result ≡ is_bad line.now }
 {
     !line.is_empty() && read_line(line).is_none()
+}
+
+/// Where the first line feed stands.
+pub fn first_line_feed(text: &[u8]) -> Option<usize>
+    ensures { result ≡ position is_line_feed text.now }
+{
+    text.iter().position(|b| *b == b'\n')
+}
+
+/// The first line, without its line feed, and what stands after that, where there is one.
+pub fn cut_line(text: &[u8]) -> (&[u8], Option<&[u8]>)
+    ensures lines { MatchOption result.1 (lines_of text.now ≡ result.0.now ∷ [])
+        (λ rest. lines_of text.now ≡ result.0.now ∷ lines_of rest.now) }
+    ensures bytes { MatchOption result.1 (length text.now ≡ length result.0.now)
+        (λ rest. length text.now ≡ length result.0.now + (1 + length rest.now)) }
+{
+    match first_line_feed(text) {
+        Some(end) => (&text[..end], Some(&text[end + 1..])),
+        None => (text, None),
+    }
 }
 
 /// Where the first bad line of these lines of calls stands, counted from 0 with the empty lines. It

@@ -66,7 +66,7 @@ pub fn run<R: Source, W: Sink>(alloc: Global, reader: &mut R, writer: &mut W) ->
     match gather(alloc, reader) {
         Err(NoInput::ReadFailed) => finish(writer, b"read failed\n", 4),
         Err(NoInput::OutOfMemory) => finish(writer, b"out of memory\n", 3),
-        Ok(input) => match make_answer(alloc, input.as_slice()) {
+        Ok(input) => match make_answer(alloc, input) {
             Ok(answer) => finish(writer, answer.line.as_bytes(), answer.status),
             Err(_) => finish(writer, b"out of memory\n", 3),
         },
