@@ -125,7 +125,7 @@ module _ (limit : Option ℕ) (body : List ℕ) (builder : CallsBuilder) (count 
   refused_here c e new spells refused = (
     here false (call_good line c spells),
     λ caused. subst (λ n. IsRefusalUnder limit (calls_of body) n (kind_of e)) (sym h.counted)
-    (subst (λ l. IsRefusalUnder limit l (length h.calls) (kind_of e)) (sym (spelled_here (Some c) spells)) (refused limit h.calls h.taken caused (calls_in lines))),
+        (subst (λ l. IsRefusalUnder limit l (length h.calls) (kind_of e)) (sym (spelled_here (Some c) spells)) (refused limit h.calls h.taken caused (calls_in lines))),
   )
 
 -- the same of the builder and the count by other names

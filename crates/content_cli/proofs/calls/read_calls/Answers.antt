@@ -41,10 +41,11 @@ returns-in-Err c =
     let (same, refused) = refused_here c.args.limit body c.lines.builder c.lines.count c.lines.place c.lines.text.now line (lines_in c.cut_line.result.1) c.lines.invariant
     (cut_lines c.cut_line.result.1 c.lines.text.now line c.cut_line.ensures.lines)
     (line_event c.in-Some.said) c.in-Err.error c.take_line.new.builder c.in-Some.ensures (λ limit calls taken. c.in-Err.ensures limit calls taken) in
-    elim c.match-rest.branch
-    [ in-Some-rest w ↦ subst (IsOutcome c.args.limit body) (sym w.result-is)
-    (refused_or_bad c.args.limit body w.in-Some-rest.after.now (c.lines.place + 1) _ w.after_refusal.result (subst (λ o. first_bad body ≡ bad_from (c.lines.place + 1) (lines_in o)) w.in-Some-rest.is same) refused w.after_refusal.ensures)
-    | in-None w ↦ subst (IsOutcome c.args.limit body) (sym w.result-is) (subst (λ o. first_bad body ≡ bad_from (c.lines.place + 1) (lines_in o)) w.in-None.is same, refused) ]
+    elim c.match-rest.branch [
+      | in-Some-rest w ↦ subst (IsOutcome c.args.limit body) (sym w.result-is)
+          (refused_or_bad c.args.limit body w.in-Some-rest.after.now (c.lines.place + 1) _ w.after_refusal.result (subst (λ o. first_bad body ≡ bad_from (c.lines.place + 1) (lines_in o)) w.in-Some-rest.is same) refused w.after_refusal.ensures)
+      | in-None w ↦ subst (IsOutcome c.args.limit body) (sym w.result-is) (subst (λ o. first_bad body ≡ bad_from (c.lines.place + 1) (lines_in o)) w.in-None.is same, refused)
+    ]
 
 pub overflow_add-count : goal.overflow_add-count
 overflow_add-count c =
@@ -64,16 +65,17 @@ returns-in_default-rest c =
     let cut = cut_lines c.cut_line.result.1 text line c.cut_line.ensures.lines in
     let short = cut_bytes c.cut_line.result.1 text line c.cut_line.ensures.bytes in
     let read : HasReadTo c.args.limit body c.if-not-is_empty.builder c.if-not-is_empty.count c.lines.place lines left =
-    elim c.if-not-is_empty.branch
-    [ then-not-is_empty+in-Some+in_default-take_line w ↦
-    let some : 0 < length line = search (rules, tests) in
-    renamed c.args.limit body _ _ _ _ c.lines.place lines left w.builder-is w.count-is
-    (after_call c.args.limit body c.lines.builder c.lines.count c.lines.place text line lines c.lines.invariant cut (line_event w.in-Some.said) w.take_line.new.builder w.in-Some.ensures some short
-    (w.in_default-take_line.ensures c.args.limit c.lines.invariant.calls c.lines.invariant.taken))
-    | else-not-is_empty w ↦
-    let blank : length line ≡ 0 = search (rules, tests) in
-    renamed c.args.limit body _ _ _ _ c.lines.place lines left w.builder-is w.count-is
-    (after_blank c.args.limit body c.lines.builder c.lines.count c.lines.place text line lines c.lines.invariant cut blank) ] in
+    elim c.if-not-is_empty.branch [
+      | then-not-is_empty+in-Some+in_default-take_line w ↦
+          let some : 0 < length line = search (rules, tests) in
+          renamed c.args.limit body _ _ _ _ c.lines.place lines left w.builder-is w.count-is
+          (after_call c.args.limit body c.lines.builder c.lines.count c.lines.place text line lines c.lines.invariant cut (line_event w.in-Some.said) w.take_line.new.builder w.in-Some.ensures some short
+          (w.in_default-take_line.ensures c.args.limit c.lines.invariant.calls c.lines.invariant.taken))
+      | else-not-is_empty w ↦
+          let blank : length line ≡ 0 = search (rules, tests) in
+          renamed c.args.limit body _ _ _ _ c.lines.place lines left w.builder-is w.count-is
+          (after_blank c.args.limit body c.lines.builder c.lines.count c.lines.place text line lines c.lines.invariant cut blank)
+    ] in
     to_end c.args.limit body c.if-not-is_empty.builder c.if-not-is_empty.count c.lines.place left c.cut_line.result.1 c.in_default-rest.is read
 
 pub overflow_add-place-in-lines : goal.overflow_add-place-in-lines
@@ -98,15 +100,16 @@ lines-preserved c =
     let cut = cut_lines c.cut_line.result.1 text line c.cut_line.ensures.lines in
     let short = cut_bytes c.cut_line.result.1 text line c.cut_line.ensures.bytes in
     let read : HasReadTo c.args.limit body c.if-not-is_empty.builder c.if-not-is_empty.count c.lines.place lines left =
-    elim c.if-not-is_empty.branch
-    [ then-not-is_empty+in-Some+in_default-take_line w ↦
-    let some : 0 < length line = search (rules, tests) in
-    renamed c.args.limit body _ _ _ _ c.lines.place lines left w.builder-is w.count-is
-    (after_call c.args.limit body c.lines.builder c.lines.count c.lines.place text line lines c.lines.invariant cut (line_event w.in-Some.said) w.take_line.new.builder w.in-Some.ensures some short
-    (w.in_default-take_line.ensures c.args.limit c.lines.invariant.calls c.lines.invariant.taken))
-    | else-not-is_empty w ↦
-    let blank : length line ≡ 0 = search (rules, tests) in
-    renamed c.args.limit body _ _ _ _ c.lines.place lines left w.builder-is w.count-is
-    (after_blank c.args.limit body c.lines.builder c.lines.count c.lines.place text line lines c.lines.invariant cut blank) ] in
+    elim c.if-not-is_empty.branch [
+      | then-not-is_empty+in-Some+in_default-take_line w ↦
+          let some : 0 < length line = search (rules, tests) in
+          renamed c.args.limit body _ _ _ _ c.lines.place lines left w.builder-is w.count-is
+          (after_call c.args.limit body c.lines.builder c.lines.count c.lines.place text line lines c.lines.invariant cut (line_event w.in-Some.said) w.take_line.new.builder w.in-Some.ensures some short
+          (w.in_default-take_line.ensures c.args.limit c.lines.invariant.calls c.lines.invariant.taken))
+      | else-not-is_empty w ↦
+          let blank : length line ≡ 0 = search (rules, tests) in
+          renamed c.args.limit body _ _ _ _ c.lines.place lines left w.builder-is w.count-is
+          (after_blank c.args.limit body c.lines.builder c.lines.count c.lines.place text line lines c.lines.invariant cut blank)
+    ] in
     let bytes = subst (λ o. MatchOption o (length text ≡ length line) (λ rest. length text ≡ length line + (1 + length rest.now))) c.in-Some-rest-2.is c.cut_line.ensures.bytes in
     to_next c.args.limit body c.if-not-is_empty.builder c.if-not-is_empty.count c.lines.place text line c.cut_line.result.1 c.in-Some-rest-2.after c.in-Some-rest-2.is read c.lines.invariant.within bytes
