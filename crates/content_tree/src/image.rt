@@ -1,8 +1,8 @@
 //! The image of a value.
 //!
 //! Inside, an `AllocError` alone is answered, and a value is taken where it stands: its owned texts
-//! and bytes are moved out of it, and the rest of it is dropped at the end. So no item stands in the
-//! frame of a level, and what holds parts has a function of its own.
+//! and bytes are moved out of it, and the rest of it is dropped at the end. So no item stands in
+//! the frame of a level, and what holds parts has a function of its own.
 ghost use Rattle.std.specs.Prelude.{◌≡◌, None, Ok, IsOk, IfOk, IfErr, IfSome};
 ghost use Rattle.content_tree.specs.Values.Value.{tree_of, tree_data_of, struct_tree, enum_tree};
 ghost use Rattle.content_tree.specs.Values.Value.{held_view, trees_view, pairs_view, fields_view};
