@@ -1,19 +1,18 @@
 -- A list of calls that comes one call at a time.
-use Rattle.std.proofs.Common.{◌≡◌, ℕ, ◌+◌, ◌<◌, List, [], ◌∷◌, ◌++◌, length, take, Option, Some, None}
-use Rattle.std.proofs.Common.{Result, Ok, Err, refl, sym, ap, subst, ◌∙◌, arith, ⊎_elim, inl}
+use Rattle.std.proofs.Common.{◌≡◌, ℕ, ◌+◌, ◌<◌, List, [], ◌∷◌, ◌++◌, length, take, Option}
+use Rattle.std.proofs.Common.{Result, Ok, Err, sym, ap, subst, ◌∙◌, arith, ⊎_elim, inl}
 use Rattle.std.proofs.lemmas.List.{length-append}
 use Rattle.std.proofs.Math.Seq.{take-append_seam, take-append-add}
-use Rattle.content_tree.specs.Errors.Kind.{kind_of, IsOutOfMemory}
 use Rattle.content_tree.specs.declared.error.Error.{Error}
 use Rattle.content_tree.specs.declared.error.ErrorKind.TheVariants.{OutOfMemory, Misplaced}
 use Rattle.content_tree.specs.declared.value.NamedValue.{NamedValue}
 use Rattle.content_ser.specs.Calls.Event.{Event}
-use Rattle.content_ser.specs.Grammar.Depth.{IsLimit, IsViableUnder}
-use Rattle.content_ser.specs.Serializers.Step.{Seen, Takes, Answer}
+use Rattle.content_ser.specs.Grammar.Depth.{IsViableUnder}
+use Rattle.content_ser.specs.Serializers.Step.{Takes, Answer}
 use Rattle.content_build.specs.Answers.{IsRefusalUnder}
 use Rattle.content_build.specs.Builder.{refuses, seen_of, Finishes}
 use Rattle.content_build.specs.CallsBuilder.{HasTaken, AnswersNext, AnswersEnd}
-use Rattle.content_build.specs.Limit.{Limited, step, run, fresh_under}
+use Rattle.content_build.specs.Limit.{step, run, fresh_under}
 use Rattle.content_build.specs.declared.calls_builder.CallsBuilder.{CallsBuilder}
 use Rattle.content_build.proofs.Headline.{finished, unfinished}
 use Rattle.content_build.proofs.Limits.{one_more, viable_from_run, never_viable, still_viable}

@@ -1,5 +1,5 @@
 -- What a builder of a list of calls that comes one call at a time answers.
-use Rattle.std.specs.Prelude.{◌≡◌, ℕ, Bool, false, List, [], ◌∷◌, ◌++◌, length, Option, Some}
+use Rattle.std.specs.Prelude.{◌≡◌, ℕ, false, List, [], ◌∷◌, ◌++◌, length, Option, Some}
 use Rattle.std.specs.Prelude.{Result, Ok, Err}
 use Rattle.content_tree.specs.Errors.Kind.{kind_of}
 use Rattle.content_tree.specs.Values.Value.{tree_of}

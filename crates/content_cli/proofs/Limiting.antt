@@ -1,14 +1,9 @@
--- The limit that a line sets, and answers without one.
+-- The limit that a line sets.
 use Rattle.std.proofs.Common.{◌≡◌, ℕ, ◌≤◌, Bool, true, false, cond, nat_lt, List, Option, Some}
-use Rattle.std.proofs.Common.{None, Result}
-use Rattle.std.proofs.Common.{Ok, Err, refl, option_and_then, length, not, arith}
+use Rattle.std.proofs.Common.{None, refl, option_and_then, length, not, arith}
 use Rattle.std.proofs.lemmas.Bool.{ltb-true, ltb-false}
 use Rattle.std.proofs.lemmas.List.Sums.{prefix_len-le-length}
-use Rattle.serde_content.specs.Names.Words.{kind_of, ErrorKind, NamedValue, Event, IsLimit}
-use Rattle.serde_content.specs.Names.Words.{IsRefusal, IsAnswer, IsRefusalUnder, IsAnswerUnder}
-use Rattle.serde_content.specs.Names.Words.{CallsError}
-use Rattle.serde_content.specs.Names.ErrorKind.{Unexpected, Custom, OutOfMemory, Misplaced, Failed}
-use Rattle.serde_content.specs.Names.ErrorKind.{Unfinished}
+use Rattle.serde_content.specs.Names.Words.{IsLimit}
 use Rattle.content_cli.specs.Lines.{is_line_feed}
 use Rattle.content_cli.specs.Numerals.{natural_of}
 use Rattle.content_cli.specs.Words.{limit_in, limit_of_parts, positive_of, word_of, rest_of}
@@ -52,16 +47,3 @@ feed_at input k h = first_cases (position_or_len is_line_feed input) (length inp
 -- where none stands the first line is all
 pub no_feed : (input : List ℕ) → position is_line_feed input ≡ None → position_or_len is_line_feed input ≡ length input
 no_feed input h = none_cases (position_or_len is_line_feed input) (length input) _ refl (prefix_len-le-length (λ b. not (is_line_feed b)) input) h
-
-refusal_under : (calls : List Event) (at : ℕ) (cause : ErrorKind) → IsRefusal calls at cause → IsRefusalUnder None calls at cause
-refusal_under calls at OutOfMemory h = h
-refusal_under calls at (Unexpected found expected) h = h
-refusal_under calls at (Custom message) h = h
-refusal_under calls at Failed h = h
-refusal_under calls at Misplaced h = h
-refusal_under calls at Unfinished h = h
-
--- an answer without a limit
-pub answer_under : (calls : List Event) (r : Result NamedValue CallsError) → IsAnswer calls r → IsAnswerUnder None calls r
-answer_under calls (Ok v) a = a
-answer_under calls (Err e) a = refusal_under calls e.at (kind_of e.error) a

@@ -1,15 +1,14 @@
 -- Lines that are read one by one.
-use Rattle.std.proofs.Common.{◌≡◌, ◌≢◌, ℕ, ◌+◌, ◌-◌, ◌<◌, ◌≤◌, Bool, true, false, not, ◌&&◌, cond}
+use Rattle.std.proofs.Common.{◌≡◌, ℕ, ◌+◌, ◌-◌, ◌<◌, ◌≤◌, Bool, true, false, not, ◌&&◌, cond}
 use Rattle.std.proofs.Common.{List, [], ◌∷◌, ◌++◌}
 use Rattle.std.proofs.Common.{length, Option, Some, None, MatchOption, option_map, Result, Ok, Err, refl}
-use Rattle.std.proofs.Common.{sym, ap, subst, ◌∙◌, arith, rules, append_assoc, append-nil, length-append}
+use Rattle.std.proofs.Common.{sym, ap, subst, ◌∙◌, arith, append_assoc, append-nil, length-append}
 use Rattle.std.proofs.lemmas.Iterator.Adapters.{position_from-zero}
 use Rattle.std.specs.List.{flat_map, position_from}
 use Rattle.std.specs.Option.{option_to_list}
 use denote.Ref.{Bor}
 use Rattle.serde_content.specs.Names.Words.{Event, HasTaken, CallsBuilder, AnswersNext, Error}
 use Rattle.serde_content.specs.Names.Words.{kind_of, CallsError, IsRefusalUnder}
-use Rattle.serde_content.specs.Names.ErrorKind.{OutOfMemory}
 use Rattle.content_cli.specs.Lines.{is_bad, is_blank, lines_of, first_bad, calls_of}
 use Rattle.content_cli.specs.Outcomes.{AnswersLine, IsOutcome, IsRefusedUnder}
 use Rattle.content_cli.specs.Words.{event_in}

@@ -45,11 +45,8 @@ fn taken(alloc: Global, value: Value<'_>) -> Result<Answer, AllocError>
         (printed (image (tree_of value.entry)) ++ codes "\n")) }
     ensures status { IfOk result (λ a. a.status ≡ 0) }
 {
-    let Ok(found) = value.into_found(alloc) else {
-        return Err(AllocError);
-    };
     Ok(Answer {
-        line: format!(in alloc; "ok {found}\n")?,
+        line: format!(in alloc; "ok {}\n", value.display())?,
         status: 0,
     })
 }

@@ -23,7 +23,7 @@ fn finish<W: Sink>(writer: &mut W, line: &[u8], status: u8) -> u8
     }
 }
 
-/// Reads all input, turns each line into a call, builds a tree of the calls and writes one line. A
+/// Reads all input, makes the call of each line, builds a tree of the calls and writes one line. A
 /// first line `limit N`, N from 1 to 18446744073709551615, is no call: it sets a limit on how deep
 /// trees nest.
 ///

@@ -1,4 +1,4 @@
-use Rattle.std.proofs.Common.{arith, rules, sym}
+use Rattle.std.proofs.Common.{arith, sym}
 use Rattle.content_cli.proofs.Cutting.{bad_within}
 use Rattle.content_cli.proofs.calls.after_refusal.Goals as goal
 

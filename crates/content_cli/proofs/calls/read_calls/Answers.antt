@@ -1,7 +1,7 @@
-use Rattle.std.proofs.Common.{◌≡◌, ◌+◌, ◌-◌, ◌<◌, ◌≤◌, rules, arith, tests, true, length, Some, None, Ok, Err}
+use Rattle.std.proofs.Common.{◌≡◌, ◌+◌, ◌-◌, ◌<◌, ◌≤◌, rules, arith, tests, true, length, Some, None, Err}
 use Rattle.std.proofs.Common.{MatchOption, sym, subst}
 use Rattle.content_cli.specs.Lines.{is_bad, first_bad}
-use Rattle.content_cli.specs.Outcomes.{AnswersLine, IsOutcome}
+use Rattle.content_cli.specs.Outcomes.{IsOutcome}
 use Rattle.content_cli.specs.Views.{line_event}
 use Rattle.content_cli.proofs.Reading.{none_read, cut_lines, cut_bytes, bad_here, after_blank}
 use Rattle.content_cli.proofs.Reading.{after_call, renamed, refused_here, to_next, to_end, refused_or_bad}

@@ -1,5 +1,3 @@
-use Rattle.std.proofs.Common.{subst}
-use Rattle.content_build.specs.Builder.{Finishes, seen_of}
 use Rattle.content_build.proofs.Stepwise.{answers_end}
 use Rattle.content_build.proofs.calls_builder.CallsBuilder.finish.Goals as goal
 
