@@ -1,7 +1,7 @@
 //! From lines to calls.
 
-ghost use Rattle.std.specs.Prelude.{ℕ, ◌≡◌, ◌≤◌, ◌+◌, ◌^◌, ◌-◌, List, [], length, Option, MatchOption};
-ghost use Rattle.std.specs.Prelude.{IfOk};
+ghost use Rattle.std.specs.Prelude.{ℕ, ◌≡◌, ◌≤◌, ◌+◌, ◌^◌, ◌-◌, List, [], length, Option};
+ghost use Rattle.std.specs.Prelude.{MatchOption, IfOk};
 ghost use Rattle.serde_content.specs.Names.Words.{event_of, Event, HasTaken, IsLimit};
 ghost use Rattle.content_cli.specs.Lines.{first_bad};
 ghost use Rattle.content_cli.specs.Outcomes.{AnswersLine, IsOutcome};

@@ -24,8 +24,8 @@ pub struct Variant {
 
 /// The call that a line spells, borrowed from the line.
 ///
-/// Its variants are those of [`Call`](serde_content::ser::Call). A text is the line's own, and bytes are
-/// still digits.
+/// Its variants are those of [`Call`](serde_content::ser::Call). A text is the line's own, and bytes
+/// are still digits.
 #[derive(Clone, Copy, Debug, PartialEq, Eq)]
 pub enum Line<'a> {
     Unit,
