@@ -1,5 +1,5 @@
 -- Lists that are being printed, item by item.
-use Rattle.std.proofs.Common.{◌≡◌, refl, ℕ, suc, ◌+◌, ◌<◌, List, [], ◌∷◌, ◌++◌, codes, flat_map}
+use Rattle.std.proofs.Common.{◌≡◌, refl, ℕ, suc, ◌+◌, ◌<◌, List, [], ◌∷◌, ◌++◌, codes}
 use Rattle.std.proofs.Common.{length, drop, get_or, sym, ap, ◌∙◌, append-nil, append_assoc, add-one}
 use Rattle.std.proofs.Common.{drop-cons, Option, Some, None}
 use Rattle.std.specs.Fmt.{decimal, HasWrittenStyled, WritesStyledOnOk, DisplaysStyledOnOk}
@@ -15,11 +15,6 @@ use Rattle.content_tree.specs.Printed.Images.{printed, printed_list, printed_pai
 use Rattle.content_tree.specs.Printed.Images.{byte_list}
 use Rattle.content_tree.specs.Images.Image.{Image, Images, ImagePairs, ImageFields, image_then}
 use Rattle.content_tree.specs.Images.Image.{image_pair_then, image_field_then}
-
--- one more character
-pub flat_map-last : {A B : Type 0} (f : A → List B) (xs : List A) (x : A) → flat_map f (xs ++ x ∷ []) ≡ flat_map f xs ++ f x
-flat_map-last f [] x = append-nil (f x)
-flat_map-last f (y ∷ ys) x = ap (λ r. f y ++ r) (flat_map-last f ys x) ∙ sym (append_assoc (f y) _ _)
 
 -- what is left begins with the item that is read
 pub drop_here : {A : Type 0} (xs : List A) (i : ℕ) (x : A) → i < length xs → x ≡ get_or xs i x → drop i xs ≡ x ∷ drop (i + 1) xs

@@ -2,3 +2,4 @@
 pub mod Images
 pub mod Values
 pub mod Errors
+pub mod Escapes

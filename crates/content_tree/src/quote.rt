@@ -1,10 +1,12 @@
 //! Texts in quotes.
 #![tactic(auto, using(crate::proofs::Printing::two_writes, crate::proofs::Printing::three_writes, crate::proofs::Printing::four_writes))]
 
-ghost use Rattle.std.specs.Prelude.{flat_map};
+ghost use Rattle.std.specs.Prelude.{◌≡◌, ◌<◌, ◌++◌, true, length, flat_map, position};
+ghost use Rattle.std.specs.Option.{IfSome, MatchOption};
 ghost use Rattle.std.specs.Str.{chars};
 ghost use Rattle.std.specs.Fmt.{WritesStyledOnOk};
 ghost use Rattle.content_tree.specs.Printed.Images.{quoted, escaped};
+ghost use Rattle.content_tree.specs.Printed.Escapes.{has_escape};
 
 use crate::display::write_bare;
 use std::fmt;
@@ -22,29 +24,51 @@ fn write_escaped<W: fmt::Write>(text: &str, f: &mut fmt::Formatter<W>) -> fmt::R
     ensures { WritesStyledOnOk W.write_str_gives f.old result
         (flat_map escaped (chars text.now)) f.new }
 {
-    for c in text.chars() {
-        write_char(c, f)?;
+    let mut rest = text;
+    while let Some((plain, byte, after)) = cut_at_escape(rest) {
+        f.write_str(plain)?;
+        write_escape(byte, f)?;
+        rest = after;
     }
-    Ok(())
+    f.write_str(rest)
 }
 
-fn write_char<W: fmt::Write>(c: char, f: &mut fmt::Formatter<W>) -> fmt::Result
-    ensures { WritesStyledOnOk W.write_str_gives f.old result (escaped c) f.new }
+// What is printed as it is, the first character that isn't, and what follows it.
+fn cut_at_escape(text: &str) -> Option<(&str, u8, &str)>
+    ensures printed { MatchOption result (flat_map escaped (chars text.now) ≡ text.now)
+        (λ cut. flat_map escaped (chars text.now)
+        ≡ cut.0.now ++ (escaped cut.1 ++ flat_map escaped (chars cut.2.now))) }
+    ensures escape { IfSome result (λ cut. has_escape cut.1 ≡ true) }
+    ensures shorter { IfSome result (λ cut. length cut.2.now < length text.now) }
 {
-    match c {
-        '"' => f.write_str("\\\""),
-        '\\' => f.write_str("\\\\"),
-        '\t' => f.write_str("\\t"),
-        '\n' => f.write_str("\\n"),
-        '\r' => f.write_str("\\r"),
-        '\0' => f.write_str("\\0"),
-        _ => {
-            let code = u32::from(c);
-            if code < 32 || code == 127 {
-                write_bare(format_args!("\\u{{{code:x}}}"), f)
-            } else {
-                f.write_char(c)
-            }
-        }
+    let at = first_escape(text)?;
+    Some((&text[..at], text.as_bytes()[at], &text[at + 1..]))
+}
+
+fn first_escape(text: &str) -> Option<usize>
+    ensures { result ≡ position has_escape text.now }
+{
+    text.as_bytes().iter().position(|byte| has_escape(*byte))
+}
+
+// A byte that has one is a character of its own, so a text may be cut before it and after it.
+fn has_escape(byte: u8) -> bool
+    ensures { result ≡ has_escape byte }
+{
+    byte < b' ' || byte == b'"' || byte == b'\\' || byte == 127
+}
+
+fn write_escape<W: fmt::Write>(byte: u8, f: &mut fmt::Formatter<W>) -> fmt::Result
+    requires { has_escape byte ≡ true }
+    ensures { WritesStyledOnOk W.write_str_gives f.old result (escaped byte) f.new }
+{
+    match byte {
+        b'"' => f.write_str("\\\""),
+        b'\\' => f.write_str("\\\\"),
+        b'\t' => f.write_str("\\t"),
+        b'\n' => f.write_str("\\n"),
+        b'\r' => f.write_str("\\r"),
+        0 => f.write_str("\\0"),
+        _ => write_bare(format_args!("\\u{{{byte:x}}}"), f),
     }
 }

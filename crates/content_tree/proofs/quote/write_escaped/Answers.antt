@@ -1,16 +1,25 @@
-use Rattle.std.proofs.Common.{flat_map, sym, ap, ◌∙◌, map-id, rules}
+use Rattle.std.proofs.Common.{◌++◌, ◌∙◌, append_assoc, ap, sym, flat_map, rules}
+use Rattle.std.specs.Str.{chars}
 use Rattle.std.proofs.Output.{has_written_styled_append, has_written_styled_of_eq}
-use Rattle.std.proofs.lemmas.Iterator.{YieldsList-from_chars}
-use Rattle.std.proofs.lemmas.Iterator.Consumers.{YieldsList-end}
 use Rattle.content_tree.specs.Printed.Images.{escaped}
-use Rattle.content_tree.proofs.Printing.{flat_map-last}
+use Rattle.content_tree.proofs.Printing.{two_writes}
 use Rattle.content_tree.proofs.quote.write_escaped.Goals as goal
 
-pub loop-c-preserved : goal.loop-c-preserved
-loop-c-preserved g c = λ plain.
-    has_written_styled_of_eq _ _ _ _ _ (sym (flat_map-last escaped c.loop-c.yielded c.in-Some.c)) (has_written_styled_append _ _ _ _ _ _ (c.loop-c.invariant plain) (search rules))
+pub loop-plain-preserved : goal.loop-plain-preserved
+loop-plain-preserved g c = (
+  search rules,
+  λ flush.
+      let now = c.loop-plain.invariant.1 flush in
+      let as_it_is = c.in-Some.plain.now in
+      let escape = escaped c.in-Some.byte in
+      let left = flat_map escaped (chars c.in-Some.after.now) in (
+        now.0 ++ (as_it_is ++ escape),
+        has_written_styled_append _ _ now.0 _ (as_it_is ++ escape) _ now.1 (search (rules, two_writes)),
+        append_assoc now.0 (as_it_is ++ escape) left ∙ ap (λ r. now.0 ++ r) (append_assoc as_it_is escape left ∙ sym c.in-Some.ensures.printed) ∙ now.2,
+      ),
+)
 
 pub returns : goal.returns
-returns g c = λ plain _.
-    let end = YieldsList-end (YieldsList-from_chars c.args.text.now c.utf8.text cc) c.loop-c.yielded _ c.loop-c.yielded_by _ _ c.in-None.is c.next.ensures.steps in
-    has_written_styled_of_eq _ _ _ _ _ (ap (flat_map escaped) (sym (map-id c.loop-c.yielded) ∙ end.0)) (c.loop-c.invariant plain)
+returns g c = λ flush ok.
+    let now = c.loop-plain.invariant.1 flush in
+    has_written_styled_of_eq _ _ _ _ _ (ap (λ r. now.0 ++ r) (sym c.in_default.ensures.printed) ∙ now.2) (has_written_styled_append _ _ now.0 _ _ _ now.1 (c.write_str-2.ensures.styled (search rules) ok))

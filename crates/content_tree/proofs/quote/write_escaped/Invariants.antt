@@ -1,8 +1,15 @@
-use Rattle.std.proofs.Common.{flat_map}
+use Rattle.std.proofs.Common.{◌≡◌, ℕ, List, ◌++◌, length, flat_map}
+use denote.Text.{Utf8}
+use denote.Shadow.{shadow}
+use Rattle.std.specs.Str.{chars}
 use Rattle.std.specs.Fmt.{HasWrittenStyled, IsFlush}
 use Rattle.content_tree.specs.Printed.Images.{escaped}
 use Rattle.content_tree.proofs.quote.write_escaped.Given as goal
 
-abbrev pub invariant-loop-c : goal.invariant-loop-c
-invariant-loop-c g l =
-    IsFlush l.fn.f → HasWrittenStyled g.W.Write.write_str_gives l.fn.f (flat_map escaped l.yielded) l.f
+abbrev pub invariant-loop-plain : goal.invariant-loop-plain
+invariant-loop-plain g l =
+    shadow (Utf8 l.rest) × (IsFlush l.fn.f → (done : List ℕ) × HasWrittenStyled g.W.Write.write_str_gives l.fn.f done l.f
+    × (done ++ flat_map escaped (chars l.rest) ≡ flat_map escaped (chars l.text)))
+
+abbrev pub decreases-loop-plain : goal.decreases-loop-plain
+decreases-loop-plain g l = length l.rest
