@@ -1,7 +1,7 @@
 -- What each call does to a tape.
 use Rattle.std.proofs.Common.{◌≡◌, ℕ, suc, List, [], ◌∷◌, ◌++◌, Option, Some, None, Ok}
 use Rattle.std.proofs.Common.{length, take, refl, sym, ap, subst, ◌∙◌, arith, get_or, append_assoc}
-use Rattle.std.proofs.Common.{Bool, true, false, IfSome}
+use Rattle.std.proofs.Common.{Bool, true, false, cond, IfSome}
 use Rattle.std.proofs.Math.ListN.{set}
 use Rattle.std.proofs.lemmas.List.{length-map, length-reverse}
 use Rattle.content_tree.specs.Values.Text.{static_name}
@@ -10,6 +10,7 @@ use Rattle.content_tree.specs.Values.Tree.{no_fields}
 use Rattle.content_ser.specs.Calls.Head.{Head}
 use Rattle.content_ser.specs.Grammar.Token as token
 use Rattle.content_ser.specs.Grammar.Token.{Token, Wrap, Row, ItemCall, item_call}
+use Rattle.content_build.specs.Limit.{fits}
 use Rattle.content_build.specs.Partial as partial
 use Rattle.content_build.specs.Partial.{Partial, Slot, Compound, due, between, done, fill, begin}
 use Rattle.content_build.specs.Partial.{step_token, closed, next_item, open_count}
@@ -260,9 +261,10 @@ pub sound_after : (o : Option Partial) (es : List Entry) (hs : List OpenHead) �
 sound_after None es hs w = absurd w
 sound_after (Some next) es hs w = (sound_from es hs next w).0
 
--- what a call comes to that was taken
-pub now_taken : (old : Partial) (call : Token) (es : List Entry) (hs : List OpenHead) → TakenTo (step_token old call) (Ok tt) es hs → TakesToken (Some old) call (Ok tt) (Some (meaning es hs))
-now_taken old call es hs = go (step_token old call)
+-- what a call comes to that keeps the limit and was taken
+pub now_taken : (limit : Option ℕ) (old : Partial) (call : Token) (es : List Entry) (hs : List OpenHead) → fits limit (open_count old) call ≡ true → TakenTo (step_token old call) (Ok tt) es hs
+    → TakesToken limit (Some old) call (Ok tt) (Some (meaning es hs))
+now_taken limit old call es hs fit taken = subst (λ b. TakesStep (Some old) (cond b (step_token old call) None) (Ok tt) (Some (meaning es hs))) (sym fit) (go (step_token old call) taken)
   where
     go : (o : Option Partial) → TakenTo o (Ok tt) es hs → TakesStep (Some old) o (Ok tt) (Some (meaning es hs))
     go None w = absurd w

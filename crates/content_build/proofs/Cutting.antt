@@ -22,7 +22,7 @@ use Rattle.content_ser.specs.Serializers.Step.{Seen, Takes}
 use Rattle.content_build.specs.Answers.{IsRefusal, IfRefused}
 use Rattle.content_build.specs.Builder.{refuses, Finishes}
 use Rattle.content_build.specs.Cuts.{SpellsFirst, OnlyCut, NoCut, IsCutRefusal, IsCut, IfCut}
-use Rattle.content_build.specs.Limit.{Limited, fresh_under, step, run}
+use Rattle.content_build.specs.Limit.{Limited, fresh_within, step, run}
 use Rattle.content_build.specs.Partial as partial
 use Rattle.content_build.specs.Partial.{Partial, Slot, due, between, done, in_row, in_map}
 use Rattle.content_build.specs.Partial.{in_record, child, element, key, value, entry_key}
@@ -31,7 +31,7 @@ use Rattle.content_build.specs.Partial.{fresh, open_count}
 use Rattle.content_build.specs.declared.calls_error.CallsError.{CallsError}
 use Rattle.content_build.proofs.Agreement.{run_from_whole, unique_cut, one_tree}
 use Rattle.content_build.proofs.Limits as limits
-use Rattle.content_build.proofs.Limits.{under, whole_from_run}
+use Rattle.content_build.proofs.Limits.{limited, whole_from_run}
 use Rattle.content_build.proofs.Headline.{earlier, viable_whole, take-take, same_place}
 use Rattle.content_build.proofs.Headline.{beginning_take}
 
@@ -74,8 +74,8 @@ begun (between (in_record r fs) ps) finish = begun-fill ps _
 begun _ _ = tt
 
 -- the partial tree after a call
-step_inside : (limit : Option ℕ) (b : Bool) (o : Option Partial) (n : Limited) → option_map (under limit) (cond b o None) ≡ Some n → o ≡ Some n.tree
-step_inside limit true (Some m) n e = let same : under limit m ≡ n = cc in ap (λ x. Some x.tree) same
+step_inside : (limit : Option ℕ) (b : Bool) (o : Option Partial) (n : Limited) → option_map (limited limit) (cond b o None) ≡ Some n → o ≡ Some n.tree
+step_inside limit true (Some m) n e = let same : limited limit m ≡ n = cc in ap (λ x. Some x.tree) same
 step_inside limit true None n e = absurd (cc)
 step_inside limit false o n e = absurd (cc)
 
@@ -147,7 +147,7 @@ only_cut calls n l w m lm wm =
     (cases_lt m n)
 
 -- the tree of a beginning
-pub cut_here : (calls : List Event) (n : ℕ) (s : Limited) (v : NamedValue) → n ≤ length calls → run (fresh_under None) (take n calls) ≡ Some s → (t : Tree) × (s.tree ≡ done t) → Finishes false s.tree (Ok v)
+pub cut_here : (calls : List Event) (n : ℕ) (s : Limited) (v : NamedValue) → n ≤ length calls → run (fresh_within None) (take n calls) ≡ Some s → (t : Tree) × (s.tree ≡ done t) → Finishes false s.tree (Ok v)
     → SpellsFirst calls n (tree_of v) × OnlyCut calls n
 cut_here calls n s v l r d f =
     let same : tree_of v ≡ d.0 = subst (λ x. Finishes false x (Ok v)) d.1 f in
@@ -155,17 +155,17 @@ cut_here calls n s v l r d f =
     ((l, spelled), only_cut calls n l (tree_of v, spelled))
 
 -- a beginning that spells a tree, for which memory ran out
-pub cut_unmade : (calls : List Event) (n : ℕ) (s : Limited) (e : Error) → n ≤ length calls → run (fresh_under None) (take n calls) ≡ Some s → (t : Tree) × (s.tree ≡ done t) → Finishes false s.tree (Err e)
+pub cut_unmade : (calls : List Event) (n : ℕ) (s : Limited) (e : Error) → n ≤ length calls → run (fresh_within None) (take n calls) ≡ Some s → (t : Tree) × (s.tree ≡ done t) → Finishes false s.tree (Err e)
     → IsCutRefusal calls n (kind_of e)
 cut_unmade calls n s e l r d f =
     let memory : kind_of e ≡ OutOfMemory = subst (λ x. Finishes false x (Err e)) d.1 f in
     subst (IsCutRefusal calls n) (sym memory) (inr (l, (d.0, whole_from_run None tt (take n calls) s d.0 r d.1)))
 
 -- the calls so far spell no tree where some is open
-pub open_not_whole : (calls : List Event) (s : Limited) → run (fresh_under None) calls ≡ Some s → ¬ (open_count s.tree ≡ 0) → ¬ IsWhole calls
+pub open_not_whole : (calls : List Event) (s : Limited) → run (fresh_within None) calls ≡ Some s → ¬ (open_count s.tree ≡ 0) → ¬ IsWhole calls
 open_not_whole calls s r some w =
-    let e : Some s ≡ Some (under None (done w.0)) = sym r ∙ limits.run_from_whole None tt calls w.0 w.1 in
-    let same : s ≡ under None (done w.0) = cc in
+    let e : Some s ≡ Some (limited None (done w.0)) = sym r ∙ limits.run_from_whole None tt calls w.0 w.1 in
+    let same : s ≡ limited None (done w.0) = cc in
     some (ap (λ x. open_count x.tree) same)
 
 -- the end of a list of which no beginning spells a tree

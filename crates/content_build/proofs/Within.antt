@@ -1,4 +1,4 @@
--- The machine under a limit takes what keeps the limit. Here the limit is looked at after each step: Limits.antt says that this is the same.
+-- The machine within a limit takes what keeps the limit. Here the limit is looked at after each step: Limits.antt says that this is the same.
 use Rattle.std.proofs.Common.{◌≡◌, ℕ, suc, ◌≤◌, ◌<◌, nat_lt, Bool, true, cond, List, ◌∷◌, []}
 use Rattle.std.proofs.Common.{length, Option}
 use Rattle.std.proofs.Common.{Some, None, refl, sym, ap, ◌∙◌, option_and_then, arith}
@@ -41,11 +41,11 @@ has_room limit (done t) = true
 abbrev pub roomy : Option ℕ → Partial → Option Partial
 roomy limit s = cond (has_room limit s) (Some s) None
 
--- a call by its token, under the limit
+-- a call by its token, within the limit
 abbrev pub step_roomy : Option ℕ → Partial → Token → Option Partial
 step_roomy limit s call = option_and_then (roomy limit) (step_token s call)
 
--- calls by their tokens, one after another, under the limit
+-- calls by their tokens, one after another, within the limit
 abbrev pub run_roomy : Option ℕ → Partial → List Token → Option Partial
 run_roomy limit s [] = Some s
 run_roomy limit s (call ∷ calls) = option_and_then (λ next. run_roomy limit next calls) (step_roomy limit s call)

@@ -1,4 +1,4 @@
--- What the machine under a limit takes up to a tree keeps the limit.
+-- What the machine within a limit takes up to a tree keeps the limit.
 use Rattle.std.proofs.Common.{◌≡◌, ℕ, suc, ◌≤◌, Bool, true, false, List, [], ◌∷◌, length, Option}
 use Rattle.std.proofs.Common.{Some}
 use Rattle.std.proofs.Common.{None, refl, sym, ap, subst, ◌∙◌, option_and_then}

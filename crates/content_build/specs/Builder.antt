@@ -1,18 +1,17 @@
 -- What contracts see of a `Builder`.
-use Rattle.std.specs.Prelude.{◌≡◌, Bool, true, false, List, [], ◌∷◌, ◌++◌, Option, Some, None}
-use Rattle.std.specs.Prelude.{ℕ, Result, Ok, Err, IsErrAnd}
+use Rattle.std.specs.Prelude.{◌≡◌, Bool, true, false, List, [], ◌∷◌, ◌++◌, length, Option, Some}
+use Rattle.std.specs.Prelude.{None, ℕ, Result, Ok, Err, IsErrAnd}
 use Rattle.content_tree.specs.Errors.Kind.{kind_of, IsOutOfMemory}
 use Rattle.content_tree.specs.Values.Value.{tree_of}
 use Rattle.content_tree.specs.declared.error.Error.{Error}
-use Rattle.content_tree.specs.declared.error.ErrorKind.{ErrorKind}
-use Rattle.content_tree.specs.declared.error.ErrorKind.TheVariants.{Unexpected, Custom, OutOfMemory}
 use Rattle.content_tree.specs.declared.error.ErrorKind.TheVariants.{Misplaced, Failed, Unfinished}
 use Rattle.content_tree.specs.declared.value.NamedValue.{NamedValue}
 use Rattle.content_ser.specs.Calls.Event.{Event}
 use Rattle.content_ser.specs.Serializers.Step.{Seen, RefusalRule, Answer, Takes, after_failure}
 use Rattle.content_ser.specs.Serializers.Step.{out_of_place, no_memory}
-use Rattle.content_ser.specs.Grammar.Depth.{IsLimit, IsViableUnder}
-use Rattle.content_build.specs.Limit.{Limited, fresh_under, run, step}
+use Rattle.content_ser.specs.Grammar.Depth.{IsLimit, IsViableWithin, SpellsWithin}
+use Rattle.content_build.specs.Answers.{IsRefusalWithin}
+use Rattle.content_build.specs.Limit.{Limited, fresh_within, run, step}
 use Rattle.content_build.specs.Partial.{Partial, due, between, done, fresh}
 use Rattle.content_build.specs.Inner.Tape.{partial_tree}
 use Rattle.content_build.specs.declared.builder.Builder.{Builder}
@@ -27,14 +26,14 @@ abbrev pub or_fresh : Option Partial → Partial
 or_fresh None = fresh
 or_fresh (Some s) = s
 
--- a serialiser at this partial tree under this limit, or failed
+-- a serialiser at this partial tree within this limit, or failed
 abbrev pub seen_at : Option ℕ → Option Partial → Bool → Seen Limited
 seen_at limit s readable =
     record { state = record { limit = limit; tree = or_fresh s }; failed = has_failed s; readable = readable }
 
 -- the builder as a serialiser
 unfoldable pub seen_of : Builder → Seen Limited
-seen_of b = seen_at b.limit (partial_tree b.tape) b.human_readable
+seen_of b = seen_at b.tape.limit (partial_tree b.tape) b.human_readable
 
 -- with which error a builder refuses a call; nothing is said of what it keeps
 abbrev pub refuses : RefusalRule Limited
@@ -42,32 +41,31 @@ refuses after_failure old e new = kind_of e ≡ Failed
 refuses out_of_place old e new = kind_of e ≡ Misplaced
 refuses no_memory old e new = IsOutOfMemory e
 
--- why the last of these calls may be refused under this limit
-abbrev pub IsCause : Option ℕ → List Event → ErrorKind → Type 0
-IsCause limit calls Misplaced = ¬ IsViableUnder limit calls
-IsCause limit calls OutOfMemory = IsViableUnder limit calls
-IsCause limit calls Failed = ⊥
-IsCause limit calls Unfinished = ⊥
-IsCause limit calls (Unexpected found expected) = ⊥
-IsCause limit calls (Custom message) = ⊥
+-- it took these calls within this limit, and refused none
+pub record HasTaken (limit : Option ℕ) (calls : List Event) (b : Seen Limited) : Type 0 where
+  pub allowed : IsLimit limit
+  pub standing : b.failed ≡ false
+  pub reached : run (fresh_within limit) calls ≡ Some b.state
 
--- what the last of these calls is answered under this limit
-abbrev pub IsExact : Option ℕ → List Event → Answer → Type 0
-IsExact limit calls (Ok u) = IsViableUnder limit calls
-IsExact limit calls (Err e) = IsCause limit calls (kind_of e)
+-- a call after these is taken, and some whole list begins so; or each list that begins with these and it is refused at it
+abbrev pub AnswersNext : Option ℕ → List Event → Event → Answer → Seen Limited → Type 0
+AnswersNext limit calls c (Ok u) new =
+    HasTaken limit (calls ++ c ∷ []) new × IsViableWithin limit (calls ++ c ∷ [])
+AnswersNext limit calls c (Err e) new =
+    (rest : List Event) → IsRefusalWithin limit (calls ++ c ∷ rest) (length calls) (kind_of e)
 
--- a call on a builder that has not failed, after any calls that lead from the fresh state to its own
-abbrev pub AnswersExactly : Seen Limited → Event → Answer → Type 0
-AnswersExactly old c r = old.failed ≡ false → IsLimit old.state.limit
-    → (calls : List Event)
-    → run (fresh_under old.state.limit) calls ≡ Some old.state
-    → IsExact old.state.limit (calls ++ c ∷ []) r
+-- the tree that these calls spell, or their refusal at the end
+abbrev pub AnswersEnd : Option ℕ → List Event → Result NamedValue Error → Type 0
+AnswersEnd limit calls (Ok v) = SpellsWithin limit calls (tree_of v)
+AnswersEnd limit calls (Err e) = IsRefusalWithin limit calls (length calls) (kind_of e)
 
--- what the step of the partial tree under its limit says of a call is exact
+-- what the step of the partial tree within its limit says of a call is exact
 abbrev pub StepsAreExact : Type 0
 StepsAreExact = (old new : Seen Limited) (c : Event) (r : Answer)
     → Takes step refuses old c r new
-    → AnswersExactly old c r
+    → (limit : Option ℕ) (calls : List Event)
+    → HasTaken limit calls old
+    → AnswersNext limit calls c r new
 
 -- what finishing answers where the builder has failed or not, at this state
 abbrev pub Finishes : Bool → Partial → Result NamedValue Error → Type 0

@@ -3,7 +3,6 @@ pub mod Limit
 pub mod Inner
 pub mod Builder
 pub mod Answers
-pub mod CallsBuilder
 pub mod Cuts
 pub mod Recorder
 pub mod Serializer

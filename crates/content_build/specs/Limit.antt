@@ -1,4 +1,4 @@
--- A partial tree under a limit on how deep trees nest, and the step that each call takes in it.
+-- A partial tree within a limit on how deep trees nest, and the step that each call takes in it.
 use Rattle.std.specs.Prelude.{ℕ, suc, nat_lt, Bool, true, cond, List, Option, Some, None}
 use Rattle.std.specs.Prelude.{option_map}
 use Rattle.content_ser.specs.Calls.Event.{Event}
@@ -25,21 +25,21 @@ fits (Some limit) count token.entry = nat_lt count limit
 fits (Some limit) count call = true
 
 -- a call of this token: the step of the partial tree, if it fits
-abbrev pub step_under : Option ℕ → Partial → Token → Option Partial
-step_under limit s call = cond (fits limit (open_count s) call) (step_token s call) None
+abbrev pub step_within : Option ℕ → Partial → Token → Option Partial
+step_within limit s call = cond (fits limit (open_count s) call) (step_token s call) None
 
 -- a call
 abbrev pub step : Limited → Event → Option Limited
 step s call =
-    option_map (λ next. record { limit = s.limit; tree = next }) (step_under s.limit s.tree (token.token_of call))
+    option_map (λ next. record { limit = s.limit; tree = next }) (step_within s.limit s.tree (token.token_of call))
 
--- no call yet, under this limit
-abbrev pub fresh_under : Option ℕ → Limited
-fresh_under limit = record { limit = limit; tree = partial.fresh }
+-- no call yet, within this limit
+abbrev pub fresh_within : Option ℕ → Limited
+fresh_within limit = record { limit = limit; tree = partial.fresh }
 
 -- no call yet, and no limit
 abbrev pub fresh : Limited
-fresh = fresh_under None
+fresh = fresh_within None
 
 -- calls, one after another
 abbrev pub run : Limited → List Event → Option Limited

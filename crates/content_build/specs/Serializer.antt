@@ -27,7 +27,7 @@ Serialized sc (Err e) = IsOutOfMemory e
 
 -- the tree that the calls spell within the limit; or the stop's error, where they keep it; or out of memory; or a
 -- call out of place, where they don't keep it
-abbrev pub SerializedWithin : ℕ → Script → Result NamedValue Error → Type 0
+abbrev pub SerializedWithin : Option ℕ → Script → Result NamedValue Error → Type 0
 SerializedWithin limit sc (Ok v) = (stop_of sc ≡ None)
     × SpellsWithin limit (calls_of sc) (tree_of v)
 SerializedWithin limit sc (Err e) =

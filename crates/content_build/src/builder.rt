@@ -1,17 +1,15 @@
 //! The serialiser that builds a tree.
 
-ghost use Rattle.std.specs.Prelude.{◌≡◌, ◌≤◌, Some, false, option_and_then};
+ghost use Rattle.std.specs.Prelude.{◌≡◌, ◌≤◌, ℕ, List, [], Option, None, Some, false};
 ghost use Rattle.content_ser.specs.Calls.Call.{event_of};
+ghost use Rattle.content_ser.specs.Calls.Event.{Event};
 ghost use Rattle.content_ser.specs.Serializers.Step.{Takes};
-ghost use Rattle.content_build.specs.Inner.Taken.{TakesStep};
-ghost use Rattle.content_build.specs.Inner.Tape.{partial_tree};
-ghost use Rattle.content_build.specs.Inner.Tokens.{token_view};
-ghost use Rattle.content_build.specs.Limit.{Limited, fresh, fresh_under, step, step_under};
+ghost use Rattle.content_build.specs.Limit.{Limited, fresh, fresh_within, step};
 ghost use Rattle.content_build.specs.Partial.{open_count};
-ghost use Rattle.content_build.specs.Builder.{seen_of, refuses, AnswersExactly, Finishes};
+ghost use Rattle.content_build.specs.Builder.{seen_of, refuses, Finishes};
+ghost use Rattle.content_build.specs.Builder.{HasTaken, AnswersNext, AnswersEnd};
 
-use crate::limit::fits;
-use crate::refusal::{Refusal, Taken, answered, put_aside};
+use crate::refusal::{answered, put_aside};
 use crate::tape::Tape;
 use crate::token::Token;
 use content_ser::{Call, Sent, Serializer};
@@ -43,38 +41,22 @@ use std::marker::PhantomData;
 #[derive(Drop)]
 pub struct Builder<'v> {
     tape: Tape,
-    limit: Option<usize>,
     human_readable: bool,
     values: PhantomData<Value<'v>>,
-}
-
-/// Takes a call under a limit.
-#[inline(always)]
-fn take(tape: &mut Tape, limit: Option<usize>, call: Token<'_>) -> Taken
-    ensures { TakesStep (partial_tree tape.old)
-        (option_and_then (λ s. step_under limit s (token_view call.entry))
-        (partial_tree tape.old))
-        result (partial_tree tape.new) }
-{
-    if fits(tape, limit, &call) {
-        tape.take(call)
-    } else {
-        tape.fail();
-        Err(Refusal::Misplaced)
-    }
 }
 
 impl<'v> Builder<'v> {
     /// A builder to which no call was made, which takes no memory. The flag is what
     /// [`is_human_readable`](Serializer::is_human_readable) answers; nothing else rests on it.
     pub fn new(alloc: Global, human_readable: bool) -> Builder<'v>
-        ensures { seen_of result
+        ensures value { seen_of result
             ≡ record { state = fresh; failed = false; readable = human_readable } }
+        ensures taken { HasTaken None [] (seen_of result) }
     {
-        Builder::under(alloc, human_readable, None)
+        Builder::within(alloc, human_readable, None)
     }
 
-    /// A builder to which no call was made, under a limit on how deep trees nest, which is at least
+    /// A builder to which no call was made, within a limit on how deep trees nest, which is at least
     /// 1. It takes no memory. (Ours.)
     ///
     /// The tree of the whole list has depth 1, and a tree inside another that one's depth plus 1;
@@ -89,24 +71,24 @@ impl<'v> Builder<'v> {
     /// ```
     pub fn with_limit(alloc: Global, human_readable: bool, limit: usize) -> Builder<'v>
         requires { 1 ≤ limit }
-        ensures { seen_of result ≡ record {
-          state = fresh_under (Some limit);
+        ensures value { seen_of result ≡ record {
+          state = fresh_within (Some limit);
           failed = false;
           readable = human_readable;
         } }
+        ensures taken { HasTaken (Some limit) [] (seen_of result) }
     {
-        Builder::under(alloc, human_readable, Some(limit))
+        Builder::within(alloc, human_readable, Some(limit))
     }
 
     /// A builder to which no call was made, with a limit or none.
     #[tactic(auto, unfolding(crate::specs::Builder::seen_of))]
-    pub(crate) fn under(alloc: Global, human_readable: bool, limit: Option<usize>) -> Builder<'v>
+    pub(crate) fn within(alloc: Global, human_readable: bool, limit: Option<usize>) -> Builder<'v>
         ensures { seen_of result
-            ≡ record { state = fresh_under limit; failed = false; readable = human_readable } }
+            ≡ record { state = fresh_within limit; failed = false; readable = human_readable } }
     {
         Builder {
-            tape: Tape::new(alloc),
-            limit,
+            tape: Tape::new(alloc, limit),
             human_readable,
             values: PhantomData,
         }
@@ -130,6 +112,9 @@ impl<'v> Builder<'v> {
     pub fn finish(self) -> Result<Value<'v>>
         ensures value { Finishes (seen_of self.entry).failed
             (seen_of self.entry).state.tree result }
+        // the tree that the calls spell, or why they spell none
+        ensures exact { (limit : Option ℕ) → (calls : List Event)
+            → HasTaken limit calls (seen_of self.entry) → AnswersEnd limit calls result }
     {
         self.tape.finish()
     }
@@ -149,20 +134,20 @@ impl<'v> Serializer for Builder<'v> {
     /// for the tape, for texts and bytes, and for a number of 128 bits. No depth takes stack.
     #[inline(always)]
     fn call(&mut self, call: Call<'_>) -> Result<()>
-        // one step of the partial tree, under its limit
+        // one step of the partial tree, within its limit
         ensures taken { Takes step refuses (seen_of self.old)
             (event_of call.entry) result (seen_of self.new) }
-        // it is taken, or refused for memory, only where some list that is whole within the limit
-        // begins with the calls so far and this one, and refused as out of place only where none
-        // does
-        ensures exact { AnswersExactly (seen_of self.old) (event_of call.entry) result }
+        // it stands after the calls so far, or is refused whatever follows it
+        ensures exact { (limit : Option ℕ) → (calls : List Event)
+            → HasTaken limit calls (seen_of self.old)
+            → AnswersNext limit calls (event_of call.entry) result (seen_of self.new) }
     {
-        answered(take(&mut self.tape, self.limit, Token::of(&call)))
+        answered(self.tape.take(Token::of(&call)))
     }
 
     #[inline(always)]
     fn call_aside(&mut self, call: Call<'_>, error: &mut Error) -> Sent {
-        put_aside(take(&mut self.tape, self.limit, Token::of(&call)), error)
+        put_aside(self.tape.take(Token::of(&call)), error)
     }
 
     #[tactic(auto, unfolding(crate::specs::Builder::seen_of))]

@@ -7,7 +7,7 @@ ghost use Rattle.content_ser.specs.Calls.Call.{events_of};
 ghost use Rattle.content_ser.specs.Grammar.Depth.{IsLimit, SpellsWithin, IsWholeWithin};
 ghost use Rattle.content_ser.specs.Grammar.Depth.{IsViableWithin};
 ghost use Rattle.content_ser.specs.Grammar.Spells.{SpellsWhole, IsWhole, IsViable};
-ghost use Rattle.content_build.specs.Answers.{IsAnswer, IsAnswerUnder, IsRefusal, IsRefusalUnder};
+ghost use Rattle.content_build.specs.Answers.{IsAnswer, IsAnswerWithin, IsRefusal, IsRefusalWithin};
 ghost use Rattle.content_build.specs.Answers.{IfTaken, IfRefused};
 
 use crate::builder::Builder;
@@ -16,16 +16,16 @@ use content_ser::{Call, Serializer};
 use content_tree::Value;
 use std::alloc::Global;
 
-/// The tree that the calls spell under the limit, or the place of the first call that is refused.
+/// The tree that the calls spell within the limit, or the place of the first call that is refused.
 fn build<'v>(
     alloc: Global,
     calls: &[Call<'_>],
     limit: Option<usize>,
 ) -> Result<Value<'v>, CallsError>
     requires { IsLimit limit }
-    ensures { IsAnswerUnder limit (events_of calls.now) result }
+    ensures { IsAnswerWithin limit (events_of calls.now) result }
 {
-    let mut builder = Builder::under(alloc, false, limit);
+    let mut builder = Builder::within(alloc, false, limit);
     for (at, call) in calls.iter().enumerate() {
         match builder.call(call.lend()) {
             Ok(()) => {}
@@ -96,15 +96,16 @@ pub fn from_calls_within<'v>(
     requires { 1 ≤ limit }
     // a tree that the calls spell within the limit, or a refusal at the right place for the right
     // cause
-    ensures answer { IsAnswerUnder (Some limit) (events_of calls.now) result }
+    ensures answer { IsAnswerWithin (Some limit) (events_of calls.now) result }
     // what spells a tree within the limit is taken
-    ensures whole { (t : Tree) → SpellsWithin limit (events_of calls.now) t → IfTaken result t }
+    ensures whole { (t : Tree) → SpellsWithin (Some limit) (events_of calls.now) t
+        → IfTaken result t }
     // the first call after which no list that is whole within the limit can follow is out of place
-    ensures misplaced { (at : ℕ) → IsRefusalUnder (Some limit) (events_of calls.now) at Misplaced
+    ensures misplaced { (at : ℕ) → IsRefusalWithin (Some limit) (events_of calls.now) at Misplaced
         → IfRefused result Misplaced at }
     // what could go on to spell a tree within the limit, and spells none, is unfinished
-    ensures unfinished { IsViableWithin limit (events_of calls.now)
-        → ¬ IsWholeWithin limit (events_of calls.now)
+    ensures unfinished { IsViableWithin (Some limit) (events_of calls.now)
+        → ¬ IsWholeWithin (Some limit) (events_of calls.now)
         → IfRefused result Unfinished (length calls.now) }
 {
     build(alloc, calls, Some(limit))

@@ -3,7 +3,6 @@
 
 mod builder;
 mod calls;
-mod calls_builder;
 mod calls_error;
 mod canonical;
 mod grow;
@@ -22,7 +21,6 @@ mod token;
 
 pub use builder::Builder;
 pub use calls::{from_calls, from_calls_within};
-pub use calls_builder::CallsBuilder;
 pub use calls_error::CallsError;
 pub use canonical::{canonical_is_built, canonical_is_missing};
 pub use prefix::from_calls_prefix;

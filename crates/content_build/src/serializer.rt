@@ -48,7 +48,7 @@ impl Serializer {
         }
     }
 
-    /// The same under this limit on how deep trees nest, which is at least 1, in the place of any
+    /// The same within this limit on how deep trees nest, which is at least 1, in the place of any
     /// before. It takes no memory. (Ours.)
     ///
     /// A leaf and an empty compound have depth 1, and what holds others has one more than the
@@ -80,9 +80,9 @@ impl Serializer {
             → Serialized (T.script value.now (is_readable self)) result }
         // with one the same where the calls keep it, and where they don't a call out of place
         ensures within { (limit : ℕ) → limit_of self ≡ Some limit → 1 ≤ limit
-            → SerializedWithin limit (T.script value.now (is_readable self)) result }
+            → SerializedWithin (Some limit) (T.script value.now (is_readable self)) result }
     {
-        let mut builder: Builder<'static> = Builder::under(alloc, self.human_readable, self.limit);
+        let mut builder: Builder<'static> = Builder::within(alloc, self.human_readable, self.limit);
         // In the place of an error before there is one; no answer shows it.
         let mut error = Error::from(ErrorKind::OutOfMemory);
         match value.serialize_aside(alloc, &mut builder, &mut error) {

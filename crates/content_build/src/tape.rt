@@ -3,6 +3,7 @@
 ghost use Rattle.content_build.specs.Inner.Sound.{IsKept, IsKept-prop};
 
 use crate::grow::grow;
+use crate::limit::fits;
 use crate::node::{Entry, OpenHead};
 use crate::refusal::{Refusal, Taken};
 use crate::steps::step;
@@ -11,44 +12,67 @@ use content_tree::{ErrorKind, Result, Value};
 use std::alloc::Global;
 
 /// A partial tree: an entry for each node, in the order in which nodes begin, and the heads that
-/// are open, from the outermost to the innermost.
+/// are open, from the outermost to the innermost; and the limit on how many they may be, if there
+/// is one.
 #[derive(Drop)]
 pub(crate) struct Tape {
     alloc: Global,
     entries: Vec<Entry>,
     heads: Vec<OpenHead>,
+    limit: Option<usize>,
     failed: bool,
     ghost kept: { IsKept failed entries.items heads.items } by { IsKept-prop failed entries.items heads.items },
 }
 
 impl Tape {
-    ghost use Rattle.std.specs.Prelude.{◌≡◌, None, Some, IfSome};
+    ghost use Rattle.std.specs.Prelude.{◌≡◌, Some, IfSome};
     ghost use Rattle.content_build.specs.Partial.{fresh, open_count as partial_open_count};
     ghost use Rattle.content_build.specs.Builder.{has_failed, or_fresh, Finishes};
     ghost use Rattle.content_build.specs.Inner.Tape.{partial_tree};
     ghost use Rattle.content_build.specs.Inner.Taken.{TakesToken};
     ghost use Rattle.content_build.specs.Inner.Tokens.{token_view};
+    ghost use Rattle.content_build.specs.Limit as limits;
 
     /// No call yet.
-    pub(crate) fn new(alloc: Global) -> Tape
-        ensures { partial_tree result ≡ Some fresh }
+    pub(crate) fn new(alloc: Global, limit: Option<usize>) -> Tape
+        ensures tree { partial_tree result ≡ Some fresh }
+        ensures limit { result.limit ≡ limit }
     {
         Tape {
             alloc,
             entries: Vec::new(alloc),
             heads: Vec::new(alloc),
+            limit,
             failed: false,
+        }
+    }
+
+    /// Whether the call keeps the limit.
+    #[inline(always)]
+    fn fits(&self, call: &Token<'_>) -> bool
+        ensures { IfSome (partial_tree self.now) (λ partial.
+            result ≡ limits.fits self.now.limit (partial_open_count partial)
+            (token_view call.now)) }
+    {
+        match self.limit {
+            None => true,
+            Some(limit) => fits(limit, self.open_count(), call),
         }
     }
 
     /// A call.
     #[inline(always)]
     pub(crate) fn take(&mut self, call: Token<'_>) -> Taken
-        ensures { TakesToken (partial_tree self.old) (token_view call.entry)
+        ensures taken { TakesToken self.old.limit (partial_tree self.old) (token_view call.entry)
             result (partial_tree self.new) }
+        ensures limit { self.new.limit ≡ self.old.limit }
     {
         if self.failed {
             return Err(Refusal::Failed);
+        }
+        if !self.fits(&call) {
+            self.failed = true;
+            return Err(Refusal::Misplaced);
         }
         match step(self.alloc, &mut self.entries, &mut self.heads, call) {
             Ok(()) => Ok(()),
@@ -57,13 +81,6 @@ impl Tape {
                 Err(refusal)
             }
         }
-    }
-
-    /// A call was refused.
-    pub(crate) fn fail(&mut self)
-        ensures { partial_tree self.new ≡ None }
-    {
-        self.failed = true;
     }
 
     /// Whether a call was refused.
@@ -89,6 +106,7 @@ impl Tape {
             alloc,
             entries,
             heads,
+            limit: _,
             failed,
         } = self;
         if failed {

@@ -8,8 +8,8 @@ use Rattle.std.specs.Prelude.{take, drop}
 use Rattle.std.proofs.lemmas.List.{take-append-drop}
 use Rattle.std.proofs.lemmas.Option.{none-some}
 use Rattle.serde_content.specs.Names.Words.{image, printed, kind_text, Tree, ErrorKind, Event}
-use Rattle.serde_content.specs.Names.Words.{SpellsUnder, IsWholeUnder, IsViableUnder}
-use Rattle.serde_content.specs.Names.Words.{IsRefusalUnder}
+use Rattle.serde_content.specs.Names.Words.{SpellsWithin, IsWholeWithin, IsViableWithin}
+use Rattle.serde_content.specs.Names.Words.{IsRefusalWithin}
 use Rattle.serde_content.specs.Names.ErrorKind.{Unexpected, Custom, OutOfMemory, Misplaced, Failed}
 use Rattle.serde_content.specs.Names.ErrorKind.{Unfinished}
 use Rattle.content_cli.specs.Lines.{limit_of, body_of, first_bad, calls_of}
@@ -24,26 +24,26 @@ bad_earns input place (Ok a) bad says code = inl (record { place = place; bad = 
 bad_earns input place (Err e) bad says code = says
 
 -- the line of a tree is earned by calls that spell it
-pub taken_earns : {E : Type 0} (input : List ℕ) (calls : List Event) (t : Tree) (r : Result Answer E) → first_bad (body_of input) ≡ None → calls ≡ calls_of (body_of input) → SpellsUnder (limit_of input) calls t
+pub taken_earns : {E : Type 0} (input : List ℕ) (calls : List Event) (t : Tree) (r : Result Answer E) → first_bad (body_of input) ≡ None → calls ≡ calls_of (body_of input) → SpellsWithin (limit_of input) calls t
     → IfOk r (λ a. string_bytes a.line ≡ codes "ok " ++ (printed (image t) ++ codes "\n")) → IfOk r (λ a. a.status ≡ 0)
     → IfOk r (λ a. Earns input (string_bytes a.line) a.status)
-taken_earns input calls t (Ok a) good same spelled says code = inr (inl (record { good = good; tree = t; spelled = subst (λ l. SpellsUnder (limit_of input) l t) same spelled; says = says; code = code }))
+taken_earns input calls t (Ok a) good same spelled says code = inr (inl (record { good = good; tree = t; spelled = subst (λ l. SpellsWithin (limit_of input) l t) same spelled; says = says; code = code }))
 taken_earns input calls t (Err e) good same spelled says code = says
 
 -- the line of a refusal is earned by calls that are refused so, unless memory is the cause
-pub refused_earns : {E : Type 0} (input : List ℕ) (calls : List Event) (at : ℕ) (cause : ErrorKind) (r : Result Answer E) → first_bad (body_of input) ≡ None → calls ≡ calls_of (body_of input) → (cause ≢ OutOfMemory → IsRefusalUnder (limit_of input) calls at cause)
+pub refused_earns : {E : Type 0} (input : List ℕ) (calls : List Event) (at : ℕ) (cause : ErrorKind) (r : Result Answer E) → first_bad (body_of input) ≡ None → calls ≡ calls_of (body_of input) → (cause ≢ OutOfMemory → IsRefusalWithin (limit_of input) calls at cause)
     → OnOk r (cause ≢ OutOfMemory) → IfOk r (λ a. string_bytes a.line ≡ codes "refused at " ++ (decimal at ++ (codes ": " ++ (kind_text cause ++ codes "\n")))) → IfOk r (λ a. a.status ≡ 1)
     → IfOk r (λ a. Earns input (string_bytes a.line) a.status)
 refused_earns input calls at cause (Ok a) good same refused caused says code =
-    inr (inr (record { good = good; at = at; cause = cause; refused = subst (λ l. IsRefusalUnder (limit_of input) l at cause) same (refused caused); caused = caused; says = says; code = code }))
+    inr (inr (record { good = good; at = at; cause = cause; refused = subst (λ l. IsRefusalWithin (limit_of input) l at cause) same (refused caused); caused = caused; says = says; code = code }))
 refused_earns input calls at cause (Err e) good same refused caused says code = says
 
 -- each beginning of a whole list is viable
-beginning_viable : (limit : Option ℕ) (calls : List Event) (n : ℕ) → IsWholeUnder limit calls → IsViableUnder limit (take n calls)
-beginning_viable limit calls n whole = (drop n calls, subst (IsWholeUnder limit) (sym (take-append-drop n calls)) whole)
+beginning_viable : (limit : Option ℕ) (calls : List Event) (n : ℕ) → IsWholeWithin limit calls → IsViableWithin limit (take n calls)
+beginning_viable limit calls n whole = (drop n calls, subst (IsWholeWithin limit) (sym (take-append-drop n calls)) whole)
 
 -- refused calls spell no tree
-refused_spells_none : (limit : Option ℕ) (calls : List Event) (at : ℕ) (cause : ErrorKind) → IsRefusalUnder limit calls at cause → cause ≢ OutOfMemory → ¬ IsWholeUnder limit calls
+refused_spells_none : (limit : Option ℕ) (calls : List Event) (at : ℕ) (cause : ErrorKind) → IsRefusalWithin limit calls at cause → cause ≢ OutOfMemory → ¬ IsWholeWithin limit calls
 refused_spells_none limit calls at Misplaced h caused whole = h.2 (beginning_viable limit calls (at + 1) whole)
 refused_spells_none limit calls at Unfinished h caused whole = h.2 whole
 refused_spells_none limit calls at OutOfMemory h caused whole = caused refl

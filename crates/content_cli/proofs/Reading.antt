@@ -7,10 +7,10 @@ use Rattle.std.proofs.lemmas.Iterator.Adapters.{position_from-zero}
 use Rattle.std.specs.List.{flat_map, position_from}
 use Rattle.std.specs.Option.{option_to_list}
 use denote.Ref.{Bor}
-use Rattle.serde_content.specs.Names.Words.{Event, HasTaken, CallsBuilder, AnswersNext, Error}
-use Rattle.serde_content.specs.Names.Words.{kind_of, CallsError, IsRefusalUnder}
+use Rattle.serde_content.specs.Names.Words.{Event, seen_of, HasTaken, Builder, AnswersNext, Error}
+use Rattle.serde_content.specs.Names.Words.{kind_of, CallsError, IsRefusalWithin}
 use Rattle.content_cli.specs.Lines.{is_bad, is_blank, lines_of, first_bad, calls_of}
-use Rattle.content_cli.specs.Outcomes.{AnswersLine, IsOutcome, IsRefusedUnder}
+use Rattle.content_cli.specs.Outcomes.{AnswersLine, IsOutcome, IsRefusedWithin}
 use Rattle.content_cli.specs.Words.{event_in}
 use Rattle.content_cli.specs.declared.calls.Outcome.{Outcome}
 use Rattle.content_cli.specs.declared.calls.Outcome.TheVariants.{BadLine, Taken, Refused}
@@ -29,9 +29,9 @@ lines_in None = []
 lines_in (Some rest) = lines_of rest.now
 
 -- the lines before this text were read: none of them is bad, and the builder took their calls
-pub record HasRead (limit : Option ℕ) (body : List ℕ) (builder : CallsBuilder) (count place : ℕ) (text : List ℕ) : Type 0 where
+pub record HasRead (limit : Option ℕ) (body : List ℕ) (builder : Builder) (count place : ℕ) (text : List ℕ) : Type 0 where
   pub calls : List Event
-  pub taken : HasTaken limit calls builder
+  pub taken : HasTaken limit calls (seen_of builder)
   pub counted : count ≡ length calls
   pub spelled : calls_of body ≡ calls ++ calls_of text
   pub bad : first_bad body ≡ bad_from place (lines_of text)
@@ -39,16 +39,16 @@ pub record HasRead (limit : Option ℕ) (body : List ℕ) (builder : CallsBuilde
   pub fewer : count + length text ≤ length body
 
 -- the same of the lines up to this place, where these lines of so many bytes are left
-pub record HasReadTo (limit : Option ℕ) (body : List ℕ) (builder : CallsBuilder) (count place : ℕ) (lines : List (List ℕ)) (bytes : ℕ) : Type 0 where
+pub record HasReadTo (limit : Option ℕ) (body : List ℕ) (builder : Builder) (count place : ℕ) (lines : List (List ℕ)) (bytes : ℕ) : Type 0 where
   pub calls : List Event
-  pub taken : HasTaken limit calls builder
+  pub taken : HasTaken limit calls (seen_of builder)
   pub counted : count ≡ length calls
   pub spelled : calls_of body ≡ calls ++ calls_in lines
   pub bad : first_bad body ≡ bad_from (place + 1) lines
   pub fewer : count + bytes ≤ length body
 
 -- no line was read
-pub none_read : (limit : Option ℕ) (body : List ℕ) (builder : CallsBuilder) → HasTaken limit [] builder → HasRead limit body builder 0 0 body
+pub none_read : (limit : Option ℕ) (body : List ℕ) (builder : Builder) → HasTaken limit [] (seen_of builder) → HasRead limit body builder 0 0 body
 none_read limit body builder taken = record {
   calls = [];
   taken = taken;
@@ -85,7 +85,7 @@ and_no false = refl
 call_good : (line : List ℕ) (c : Event) → event_in line ≡ Some c → is_bad line ≡ false
 call_good line c h = rw h (and_no (not (is_blank line)))
 
-module _ (limit : Option ℕ) (body : List ℕ) (builder : CallsBuilder) (count place : ℕ) (text line : List ℕ) (lines : List (List ℕ)) (h : HasRead limit body builder count place text) (cut : lines_of text ≡ line ∷ lines) where
+module _ (limit : Option ℕ) (body : List ℕ) (builder : Builder) (count place : ℕ) (text line : List ℕ) (lines : List (List ℕ)) (h : HasRead limit body builder count place text) (cut : lines_of text ≡ line ∷ lines) where
   here : (b : Bool) → is_bad line ≡ b → first_bad body ≡ cond b (Some place) (bad_from (place + 1) lines)
   here b e = h.bad ∙ (ap (bad_from place) cut ∙ ap (λ x. cond x (Some place) (bad_from (place + 1) lines)) e)
 
@@ -108,7 +108,7 @@ module _ (limit : Option ℕ) (body : List ℕ) (builder : CallsBuilder) (count 
   }
 
   -- a line's call was taken
-  pub after_call : (c : Event) (new : CallsBuilder) → event_in line ≡ Some c → 0 < length line → length line ≤ length text → HasTaken limit (h.calls ++ c ∷ []) new → HasReadTo limit body new (count + 1) place lines (length text - length line)
+  pub after_call : (c : Event) (new : Builder) → event_in line ≡ Some c → 0 < length line → length line ≤ length text → HasTaken limit (h.calls ++ c ∷ []) (seen_of new) → HasReadTo limit body new (count + 1) place lines (length text - length line)
   after_call c new e some short taken = record {
     calls = h.calls ++ c ∷ [];
     taken = taken;
@@ -119,21 +119,21 @@ module _ (limit : Option ℕ) (body : List ℕ) (builder : CallsBuilder) (count 
   }
 
   -- a line's call was refused
-  pub refused_here : (c : Event) (e : Error) (new : CallsBuilder) → event_in line ≡ Some c → ((limit : Option ℕ) (calls : List Event) → HasTaken limit calls builder → AnswersLine limit calls c (Err e) new)
-      → (first_bad body ≡ bad_from (place + 1) lines) × IsRefusedUnder limit (calls_of body) (record { at = count; error = e })
+  pub refused_here : (c : Event) (e : Error) (new : Builder) → event_in line ≡ Some c → ((limit : Option ℕ) (calls : List Event) → HasTaken limit calls (seen_of builder) → AnswersLine limit calls c (Err e) new)
+      → (first_bad body ≡ bad_from (place + 1) lines) × IsRefusedWithin limit (calls_of body) (record { at = count; error = e })
   refused_here c e new spells refused = (
     here false (call_good line c spells),
-    λ caused. subst (λ n. IsRefusalUnder limit (calls_of body) n (kind_of e)) (sym h.counted)
-        (subst (λ l. IsRefusalUnder limit l (length h.calls) (kind_of e)) (sym (spelled_here (Some c) spells)) (refused limit h.calls h.taken caused (calls_in lines))),
+    λ caused. subst (λ n. IsRefusalWithin limit (calls_of body) n (kind_of e)) (sym h.counted)
+        (subst (λ l. IsRefusalWithin limit l (length h.calls) (kind_of e)) (sym (spelled_here (Some c) spells)) (refused limit h.calls h.taken caused (calls_in lines))),
   )
 
 -- the same of the builder and the count by other names
-pub renamed : (limit : Option ℕ) (body : List ℕ) (b builder : CallsBuilder) (n count place : ℕ) (lines : List (List ℕ)) (bytes : ℕ) → b ≡ builder → n ≡ count → HasReadTo limit body builder count place lines bytes → HasReadTo limit body b n place lines bytes
+pub renamed : (limit : Option ℕ) (body : List ℕ) (b builder : Builder) (n count place : ℕ) (lines : List (List ℕ)) (bytes : ℕ) → b ≡ builder → n ≡ count → HasReadTo limit body builder count place lines bytes → HasReadTo limit body b n place lines bytes
 renamed limit body b builder n count place lines bytes is counts h =
     subst (λ x. HasReadTo limit body x n place lines bytes) (sym is) (subst (λ x. HasReadTo limit body builder x place lines bytes) (sym counts) h)
 
 -- on to the next line
-pub to_next : (limit : Option ℕ) (body : List ℕ) (builder : CallsBuilder) (count place : ℕ) (text line : List ℕ) (o : Option (Bor (List ℕ))) (after : Bor (List ℕ)) → o ≡ Some after → HasReadTo limit body builder count place (lines_in o) (length text - length line) → place + length text ≤ length body
+pub to_next : (limit : Option ℕ) (body : List ℕ) (builder : Builder) (count place : ℕ) (text line : List ℕ) (o : Option (Bor (List ℕ))) (after : Bor (List ℕ)) → o ≡ Some after → HasReadTo limit body builder count place (lines_in o) (length text - length line) → place + length text ≤ length body
     → length text ≡ length line + (1 + length after.now) → HasRead limit body builder count (place + 1) after.now
 to_next limit body builder count place text line o after is h within bytes = record {
   calls = h.calls;
@@ -146,10 +146,10 @@ to_next limit body builder count place text line o after is h within bytes = rec
 }
 
 -- the last line was read
-pub to_end : (limit : Option ℕ) (body : List ℕ) (builder : CallsBuilder) (count place bytes : ℕ) (o : Option (Bor (List ℕ))) → o ≡ None → HasReadTo limit body builder count place (lines_in o) bytes → IsOutcome limit body (Taken builder count)
+pub to_end : (limit : Option ℕ) (body : List ℕ) (builder : Builder) (count place bytes : ℕ) (o : Option (Bor (List ℕ))) → o ≡ None → HasReadTo limit body builder count place (lines_in o) bytes → IsOutcome limit body (Taken builder count)
 to_end limit body builder count place bytes o is h =
     let all : calls_of body ≡ h.calls = h.spelled ∙ (ap (λ r. h.calls ++ calls_in (lines_in r)) is ∙ append-nil h.calls) in
-    (h.bad ∙ ap (λ r. bad_from (place + 1) (lines_in r)) is, subst (λ l. HasTaken limit l builder) (sym all) h.taken, h.counted ∙ ap length (sym all))
+    (h.bad ∙ ap (λ r. bad_from (place + 1) (lines_in r)) is, subst (λ l. HasTaken limit l (seen_of builder)) (sym all) h.taken, h.counted ∙ ap length (sym all))
 
 -- places are counted on
 by_test : (t : Bool) (lines : List (List ℕ)) (a b : ℕ) → bad_from ((a + b) + 1) lines ≡ option_map (λ n. a + n) (bad_from (b + 1) lines) → cond t (Some (a + b)) (bad_from ((a + b) + 1) lines) ≡ option_map (λ n. a + n) (cond t (Some b) (bad_from (b + 1) lines))
@@ -172,7 +172,7 @@ bad_after text place b e =
     ap (λ n. bad_from n (lines_of text)) (none_more place) ∙ (shifted (lines_of text) place 0 ∙ ap (option_map (λ n. place + n)) (sym (position_from-zero is_bad (lines_of text)) ∙ e))
 
 -- a refusal, or a bad line after it
-pub refused_or_bad : (limit : Option ℕ) (body text : List ℕ) (place : ℕ) (e : CallsError) (r : Outcome) → first_bad body ≡ bad_from place (lines_of text) → IsRefusedUnder limit (calls_of body) e
+pub refused_or_bad : (limit : Option ℕ) (body text : List ℕ) (place : ℕ) (e : CallsError) (r : Outcome) → first_bad body ≡ bad_from place (lines_of text) → IsRefusedWithin limit (calls_of body) e
     → MatchOption (first_bad text) (r ≡ Refused e) (λ further. r ≡ BadLine (place + further)) → IsOutcome limit body r
 refused_or_bad limit body text place e r same refused = by_found (first_bad text) refl
   where
@@ -181,6 +181,6 @@ refused_or_bad limit body text place e r same refused = by_found (first_bad text
     by_found (Some n) found is = subst (IsOutcome limit body) (sym is) (same ∙ bad_after text place (Some n) found)
 
 -- what a line's call is answered
-pub answers_line : (limit : Option ℕ) (calls : List Event) (c : Event) (r : Result (Unit {0}) Error) (new : CallsBuilder) → AnswersNext limit calls c r new → AnswersLine limit calls c r new
-answers_line limit calls c (Ok u) new h = h
+pub answers_line : (limit : Option ℕ) (calls : List Event) (c : Event) (r : Result (Unit {0}) Error) (new : Builder) → AnswersNext limit calls c r (seen_of new) → AnswersLine limit calls c r new
+answers_line limit calls c (Ok u) new h = h.0
 answers_line limit calls c (Err e) new h = λ caused rest. h rest

@@ -5,7 +5,7 @@ ghost use Rattle.std.specs.Prelude.{IfOk, OnOk};
 ghost use Rattle.std.specs.String.{string_bytes};
 ghost use Rattle.std.specs.Fmt.{decimal};
 ghost use Rattle.serde_content.specs.Names.Words.{image, kind_of, printed, error_text, tree_of};
-ghost use Rattle.serde_content.specs.Names.Words.{HasTaken};
+ghost use Rattle.serde_content.specs.Names.Words.{seen_of, HasTaken};
 ghost use Rattle.serde_content.specs.Names.ErrorKind.{OutOfMemory};
 ghost use Rattle.content_cli.specs.Answers.{Earns, EarnsStatus};
 ghost use Rattle.content_cli.specs.Lines.{limit_of, body_of, first_bad, calls_of};
@@ -13,7 +13,7 @@ ghost use Rattle.content_cli.specs.Outcomes.{IsOutcome};
 
 use crate::calls::{Outcome, read_calls};
 use crate::limit::split_limit;
-use serde_content::ser::{CallsBuilder, CallsError};
+use serde_content::ser::{Builder, CallsError};
 use serde_content::{ErrorKind, Value};
 use std::alloc::{AllocError, Global};
 
@@ -77,9 +77,9 @@ fn read_input<'v>(alloc: Global, input: Vec<u8>) -> Outcome<'v>
 }
 
 /// The line and the status of calls that were all taken, so many.
-fn finished(alloc: Global, builder: CallsBuilder<'_>, count: usize) -> Result<Answer, AllocError>
+fn finished(alloc: Global, builder: Builder<'_>, count: usize) -> Result<Answer, AllocError>
     ensures { (input : List ℕ) → first_bad (body_of input) ≡ None
-        → HasTaken (limit_of input) (calls_of (body_of input)) builder.entry
+        → HasTaken (limit_of input) (calls_of (body_of input)) (seen_of builder.entry)
         → count ≡ length (calls_of (body_of input))
         → IfOk result (λ a. Earns input (string_bytes a.line) a.status) }
 {

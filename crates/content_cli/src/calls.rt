@@ -2,7 +2,7 @@
 
 ghost use Rattle.std.specs.Prelude.{ℕ, ◌≡◌, ◌≤◌, ◌+◌, ◌^◌, ◌-◌, List, [], length, Option};
 ghost use Rattle.std.specs.Prelude.{MatchOption, IfOk};
-ghost use Rattle.serde_content.specs.Names.Words.{event_of, Event, HasTaken, IsLimit};
+ghost use Rattle.serde_content.specs.Names.Words.{event_of, Event, seen_of, HasTaken, IsLimit};
 ghost use Rattle.content_cli.specs.Lines.{first_bad};
 ghost use Rattle.content_cli.specs.Outcomes.{AnswersLine, IsOutcome};
 ghost use Rattle.content_cli.specs.Views.{line_event};
@@ -10,8 +10,8 @@ ghost use Rattle.content_cli.specs.declared.calls.Outcome.TheVariants.{BadLine, 
 
 use crate::hex;
 use crate::line::{Line, cut_line, first_bad_line, read_line};
-use serde_content::ser::{Call, CallsBuilder, CallsError};
-use serde_content::{CowBytes, CowStr};
+use serde_content::CowBytes;
+use serde_content::ser::{Builder, Call, CallsError, Serializer};
 use std::alloc::{AllocError, Global};
 
 /// What lines of calls come to.
@@ -21,63 +21,36 @@ pub enum Outcome<'v> {
     /// lines.
     BadLine(usize),
     /// All calls were taken: the builder that took them, and how many they are.
-    Taken(CallsBuilder<'v>, usize),
+    Taken(Builder<'v>, usize),
     /// No line is bad, and a call was refused.
     Refused(CallsError),
 }
 
-/// The call that a line spells. Its text is borrowed from the line; bytes take memory.
+/// The call that a line says. Its text is borrowed from the line; bytes take memory.
 pub fn make_call<'a>(alloc: Global, line: Line<'a>) -> Result<Call<'a>, AllocError>
     ensures { IfOk result (λ call. event_of call ≡ line_event line.entry) }
 {
     match line {
-        Line::Unit => Ok(Call::Unit),
-        Line::NoneCall => Ok(Call::NoneCall),
-        Line::SomeCall => Ok(Call::SomeCall),
-        Line::Bool(value) => Ok(Call::Bool(value)),
-        Line::Number(number) => Ok(Call::Number(number)),
-        Line::Char(value) => Ok(Call::Char(value)),
-        Line::Str(text) => Ok(Call::Str(CowStr::Borrowed(text))),
+        Line::Call(call) => Ok(call),
         Line::Bytes(digits) => Ok(Call::Bytes(CowBytes::Owned(hex::decode(alloc, digits)?))),
-        Line::UnitStruct(name) => Ok(Call::UnitStruct(name)),
-        Line::NewtypeStruct(name) => Ok(Call::NewtypeStruct(name)),
-        Line::UnitVariant(v) => Ok(Call::UnitVariant(v.name, v.index, v.variant)),
-        Line::NewtypeVariant(v) => Ok(Call::NewtypeVariant(v.name, v.index, v.variant)),
-        Line::Seq(hint) => Ok(Call::Seq(hint)),
-        Line::Map(hint) => Ok(Call::Map(hint)),
-        Line::Tuple(len) => Ok(Call::Tuple(len)),
-        Line::TupleStruct(name, len) => Ok(Call::TupleStruct(name, len)),
-        Line::TupleVariant(v, len) => Ok(Call::TupleVariant(v.name, v.index, v.variant, len)),
-        Line::Struct(name, len) => Ok(Call::Struct(name, len)),
-        Line::StructVariant(v, len) => Ok(Call::StructVariant(v.name, v.index, v.variant, len)),
-        Line::Element => Ok(Call::Element),
-        Line::TupleField => Ok(Call::TupleField),
-        Line::Field(key) => Ok(Call::Field(key)),
-        Line::Key => Ok(Call::Key),
-        Line::Value => Ok(Call::Value),
-        Line::Entry => Ok(Call::Entry),
-        Line::End => Ok(Call::End),
     }
 }
 
-/// A builder that took no call, under the limit where there is one.
-fn start<'v>(alloc: Global, limit: Option<usize>) -> CallsBuilder<'v>
+/// A builder that took no call, within the limit where there is one.
+fn start<'v>(alloc: Global, limit: Option<usize>) -> Builder<'v>
     requires { IsLimit limit }
-    ensures { HasTaken limit [] result }
+    ensures { HasTaken limit [] (seen_of result) }
 {
     match limit {
-        None => CallsBuilder::new(alloc),
-        Some(limit) => CallsBuilder::with_limit(alloc, limit),
+        None => Builder::new(alloc, false),
+        Some(limit) => Builder::with_limit(alloc, false, limit),
     }
 }
 
-/// Makes the call that a line spells.
-fn take_line(
-    alloc: Global,
-    builder: &mut CallsBuilder<'_>,
-    line: Line<'_>,
-) -> serde_content::Result<()>
-    ensures { (limit : Option ℕ) → (calls : List Event) → HasTaken limit calls builder.old
+/// Makes the call that a line says.
+fn take_line(alloc: Global, builder: &mut Builder<'_>, line: Line<'_>) -> serde_content::Result<()>
+    ensures { (limit : Option ℕ) → (calls : List Event)
+        → HasTaken limit calls (seen_of builder.old)
         → AnswersLine limit calls (line_event line.entry) result builder.new }
 {
     builder.call(make_call(alloc, line)?)
@@ -96,7 +69,7 @@ fn after_refusal<'v>(refusal: CallsError, place: usize, lines: &[u8]) -> Outcome
     }
 }
 
-/// What the lines of calls come to under the limit. Each line is read once and its call made at
+/// What the lines of calls come to within the limit. Each line is read once and its call made at
 /// once; after a refusal lines are only read. No call is kept.
 pub fn read_calls<'v>(alloc: Global, body: &[u8], limit: Option<usize>) -> Outcome<'v>
     requires { IsLimit limit }

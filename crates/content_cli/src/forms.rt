@@ -4,38 +4,43 @@ ghost use Rattle.std.specs.Prelude.{◌≡◌, MatchOption, None, Some, true, fa
 ghost use Rattle.content_cli.specs.Forms.{boolean_of, character_of, octets_of, is_name, pair_of};
 ghost use Rattle.content_cli.specs.Forms.{variant_start_of, variant_of, named_length_of};
 ghost use Rattle.content_cli.specs.Forms.{variant_length_of};
-ghost use Rattle.content_cli.specs.Views.{Reads, variant_parts};
+ghost use Rattle.content_cli.specs.Numerals.{unhex};
+ghost use Rattle.content_cli.specs.Views.{variant_parts};
+ghost use Rattle.serde_content.specs.Names.Event as event;
 
-use crate::line::{Line, Variant};
+use crate::line::Variant;
 use crate::{hex, numbers};
 
 /// `true` or `false`.
-pub fn read_bool<'a>(text: &str) -> Option<Line<'a>>
-    ensures { Reads result (boolean_of text.now) }
+pub fn read_bool(text: &str) -> Option<bool>
+    ensures { MatchOption result (boolean_of text.now ≡ None)
+        (λ b. boolean_of text.now ≡ Some (event.boolean b)) }
 {
     match text {
-        "true" => Some(Line::Bool(true)),
-        "false" => Some(Line::Bool(false)),
+        "true" => Some(true),
+        "false" => Some(false),
         _ => None,
     }
 }
 
 /// One printable character of ASCII.
-pub fn read_char<'a>(text: &str) -> Option<Line<'a>>
-    ensures { Reads result (character_of text.now) }
+pub fn read_char(text: &str) -> Option<char>
+    ensures { MatchOption result (character_of text.now ≡ None)
+        (λ c. character_of text.now ≡ Some (event.character c)) }
 {
     match text.as_bytes() {
-        [c @ 32..=126] => Some(Line::Char(*c as char)),
+        [c @ 32..=126] => Some(*c as char),
         _ => None,
     }
 }
 
 /// Pairs of lower-case hexadecimal digits.
-pub fn read_bytes(text: &str) -> Option<Line<'_>>
-    ensures { Reads result (octets_of text.now) }
+pub fn read_bytes(text: &str) -> Option<&[u8]>
+    ensures { MatchOption result (octets_of text.now ≡ None)
+        (λ digits. octets_of text.now ≡ Some (event.octets (unhex digits.now))) }
 {
     if hex::is_paired(text.as_bytes()) {
-        Some(Line::Bytes(text.as_bytes()))
+        Some(text.as_bytes())
     } else {
         None
     }

@@ -1,14 +1,15 @@
 //! What a line says.
 
-ghost use Rattle.std.specs.Prelude.{◌≡◌, ◌+◌, [], ◌∷◌, length, MatchOption, true, false};
+ghost use Rattle.std.specs.Prelude.{◌≡◌, ◌+◌, [], ◌∷◌, length, Option, MatchOption, true, false};
 ghost use Rattle.std.specs.List.{list_all, position};
 ghost use Rattle.content_cli.specs.Lines.{is_bad, is_line_feed, lines_of, first_bad};
 ghost use Rattle.content_cli.specs.Forms.{is_printable};
 ghost use Rattle.content_cli.specs.Words.{event_in, of_parts, word_of, rest_of};
-ghost use Rattle.content_cli.specs.Views.{Reads};
+ghost use Rattle.content_cli.specs.Views.{Reads, Spells};
+ghost use Rattle.serde_content.specs.Names.Words.{Event};
 
 use crate::words::{read_phrase, read_word};
-use serde_content::Number;
+use serde_content::ser::Call;
 use std::str;
 
 /// A variant of an enum, as a line names it: `N i V`.
@@ -22,38 +23,20 @@ pub struct Variant {
     pub variant: &'static str,
 }
 
-/// The call that a line spells, borrowed from the line.
-///
-/// Its variants are those of [`Call`](serde_content::ser::Call). A text is the line's own, and bytes
-/// are still digits.
-#[derive(Clone, Copy, Debug, PartialEq, Eq)]
+/// What a line says, borrowed from it.
+#[derive(Drop)]
 pub enum Line<'a> {
-    Unit,
-    NoneCall,
-    SomeCall,
-    Bool(bool),
-    Number(Number),
-    Char(char),
-    Str(&'a str),
+    /// A call.
+    Call(Call<'a>),
+    /// A call of bytes: their digits.
     Bytes(&'a [u8]),
-    UnitStruct(&'static str),
-    NewtypeStruct(&'static str),
-    UnitVariant(Variant),
-    NewtypeVariant(Variant),
-    Seq(Option<usize>),
-    Map(Option<usize>),
-    Tuple(usize),
-    TupleStruct(&'static str, usize),
-    TupleVariant(Variant, usize),
-    Struct(&'static str, usize),
-    StructVariant(Variant, usize),
-    Element,
-    TupleField,
-    Field(&'static str),
-    Key,
-    Value,
-    Entry,
-    End,
+}
+
+/// The line of a call, where there is one.
+pub fn line_of<'a>(call: Option<Call<'a>>) -> Option<Line<'a>>
+    ensures { (wanted : Option Event) → Spells call.entry wanted → Reads result wanted }
+{
+    Some(Line::Call(call?))
 }
 
 fn is_printable_text(line: &[u8]) -> bool
@@ -78,12 +61,12 @@ fn read_text(text: &str) -> Option<Line<'_>>
     ensures { Reads result (of_parts (word_of text.now) (rest_of text.now)) }
 {
     match text.split_once(' ') {
-        None => read_word(text),
+        None => line_of(read_word(text)),
         Some((word, rest)) => read_phrase(word, rest),
     }
 }
 
-/// The call that the line spells, if it spells one.
+/// What the line says, if it spells a call.
 pub fn read_line(line: &[u8]) -> Option<Line<'_>>
     ensures { Reads result (event_in line.now) }
 {

@@ -1,15 +1,15 @@
 //! What a struct or a variant holds, moved out of it.
 #![tactic(auto, using(crate::proofs::Values::values))]
 
-ghost use Rattle.std.specs.Prelude.{◌≡◌, Some, None, MatchResult};
+ghost use Rattle.std.specs.Prelude.{◌≡◌, Some, None, MatchOption, MatchResult};
 ghost use Rattle.content_tree.specs.Values.Text.{text_of};
 ghost use Rattle.content_tree.specs.Values.Tree as tree;
-ghost use Rattle.content_tree.specs.Values.Value.{tree_of, struct_tree, enum_tree, tree_data_of};
+ghost use Rattle.content_tree.specs.Values.Value.{tree_of, enum_tree, tree_data_of};
 ghost use Rattle.content_tree.specs.Values.Value.{trees_view, pairs_view, fields_view};
-ghost use Rattle.content_de.specs.Requests.Data.{data_in, is_nothing, one_in, many_in, named_in};
+ghost use Rattle.content_de.specs.Requests.Data.{is_nothing, one_in, many_in, named_in};
 ghost use Rattle.content_de.specs.Requests.Data.{seq_in, map_in, variant_in};
 
-use content_tree::{CowStr, NamedData, NamedEnum, NamedStruct, NamedValue};
+use content_tree::{CowStr, NamedData, NamedEnum, NamedValue};
 use std::mem;
 
 /// What was moved out, or the node as it was.
@@ -63,110 +63,51 @@ pub(crate) fn is_nothing<'de, 'n>(held: &NamedData<'de, 'n>) -> bool
     matches!(held, NamedData::Unit)
 }
 
-/// The one value of a newtype struct.
-pub(crate) fn struct_value<'de, 'n>(
-    mut node: Box<NamedStruct<'de, 'n>>,
-) -> Opened<NamedValue<'de, 'n>, Box<NamedStruct<'de, 'n>>>
-    ensures { MatchResult result
-        (λ v. one_in (data_in (struct_tree node.entry.value)) ≡ Some (tree_of v))
-        (λ b. (one_in (data_in (struct_tree node.entry.value)) ≡ None)
-        × (struct_tree b.value ≡ struct_tree node.entry.value)) }
+/// The one value, moved out, where there is one; else the data stays.
+pub(crate) fn take_value<'de, 'n>(data: &mut NamedData<'de, 'n>) -> Option<NamedValue<'de, 'n>>
+    ensures { MatchOption result
+        ((one_in (tree_data_of data.old) ≡ None) × (data.new ≡ data.old))
+        (λ v. one_in (tree_data_of data.old) ≡ Some (tree_of v)) }
 {
-    match mem::replace(&mut node.data, NamedData::Unit) {
-        NamedData::NewType { value } => Ok(value),
-        data => {
-            node.data = data;
-            Err(node)
+    match mem::replace(data, NamedData::Unit) {
+        NamedData::NewType { value } => Some(value),
+        other => {
+            *data = other;
+            None
         }
     }
 }
 
-/// The values of a tuple struct.
-pub(crate) fn struct_values<'de, 'n>(
-    mut node: Box<NamedStruct<'de, 'n>>,
-) -> Opened<Vec<NamedValue<'de, 'n>>, Box<NamedStruct<'de, 'n>>>
-    ensures { MatchResult result
-        (λ vs. many_in (data_in (struct_tree node.entry.value)) ≡ Some (trees_view vs.items))
-        (λ b. (many_in (data_in (struct_tree node.entry.value)) ≡ None)
-        × (struct_tree b.value ≡ struct_tree node.entry.value)) }
+/// The values of a tuple, moved out, where it is one; else the data stays.
+pub(crate) fn take_values<'de, 'n>(
+    data: &mut NamedData<'de, 'n>,
+) -> Option<Vec<NamedValue<'de, 'n>>>
+    ensures { MatchOption result
+        ((many_in (tree_data_of data.old) ≡ None) × (data.new ≡ data.old))
+        (λ vs. many_in (tree_data_of data.old) ≡ Some (trees_view vs.items)) }
 {
-    match mem::replace(&mut node.data, NamedData::Unit) {
-        NamedData::Tuple { values } => Ok(values),
-        data => {
-            node.data = data;
-            Err(node)
+    match mem::replace(data, NamedData::Unit) {
+        NamedData::Tuple { values } => Some(values),
+        other => {
+            *data = other;
+            None
         }
     }
 }
 
-/// The fields of an object-like struct.
-pub(crate) fn struct_fields<'de, 'n>(
-    mut node: Box<NamedStruct<'de, 'n>>,
-) -> Opened<Vec<(CowStr<'n>, NamedValue<'de, 'n>)>, Box<NamedStruct<'de, 'n>>>
-    ensures { MatchResult result
-        (λ fs. named_in (data_in (struct_tree node.entry.value)) ≡ Some (fields_view fs.items))
-        (λ b. (named_in (data_in (struct_tree node.entry.value)) ≡ None)
-        × (struct_tree b.value ≡ struct_tree node.entry.value)) }
+/// The fields, moved out, where there are such; else the data stays.
+pub(crate) fn take_fields<'de, 'n>(
+    data: &mut NamedData<'de, 'n>,
+) -> Option<Vec<(CowStr<'n>, NamedValue<'de, 'n>)>>
+    ensures { MatchOption result
+        ((named_in (tree_data_of data.old) ≡ None) × (data.new ≡ data.old))
+        (λ fs. named_in (tree_data_of data.old) ≡ Some (fields_view fs.items)) }
 {
-    match mem::replace(&mut node.data, NamedData::Unit) {
-        NamedData::Struct { fields } => Ok(fields),
-        data => {
-            node.data = data;
-            Err(node)
-        }
-    }
-}
-
-/// The one value of a newtype variant.
-pub(crate) fn variant_value<'de, 'n>(
-    mut node: Box<NamedEnum<'de, 'n>>,
-) -> Opened<NamedValue<'de, 'n>, Box<NamedEnum<'de, 'n>>>
-    ensures { MatchResult result
-        (λ v. one_in (data_in (enum_tree node.entry.value)) ≡ Some (tree_of v))
-        (λ b. (one_in (data_in (enum_tree node.entry.value)) ≡ None)
-        × (enum_tree b.value ≡ enum_tree node.entry.value)) }
-{
-    match mem::replace(&mut node.data, NamedData::Unit) {
-        NamedData::NewType { value } => Ok(value),
-        data => {
-            node.data = data;
-            Err(node)
-        }
-    }
-}
-
-/// The values of a tuple variant.
-pub(crate) fn variant_values<'de, 'n>(
-    mut node: Box<NamedEnum<'de, 'n>>,
-) -> Opened<Vec<NamedValue<'de, 'n>>, Box<NamedEnum<'de, 'n>>>
-    ensures { MatchResult result
-        (λ vs. many_in (data_in (enum_tree node.entry.value)) ≡ Some (trees_view vs.items))
-        (λ b. (many_in (data_in (enum_tree node.entry.value)) ≡ None)
-        × (enum_tree b.value ≡ enum_tree node.entry.value)) }
-{
-    match mem::replace(&mut node.data, NamedData::Unit) {
-        NamedData::Tuple { values } => Ok(values),
-        data => {
-            node.data = data;
-            Err(node)
-        }
-    }
-}
-
-/// The fields of an object-like variant.
-pub(crate) fn variant_fields<'de, 'n>(
-    mut node: Box<NamedEnum<'de, 'n>>,
-) -> Opened<Vec<(CowStr<'n>, NamedValue<'de, 'n>)>, Box<NamedEnum<'de, 'n>>>
-    ensures { MatchResult result
-        (λ fs. named_in (data_in (enum_tree node.entry.value)) ≡ Some (fields_view fs.items))
-        (λ b. (named_in (data_in (enum_tree node.entry.value)) ≡ None)
-        × (enum_tree b.value ≡ enum_tree node.entry.value)) }
-{
-    match mem::replace(&mut node.data, NamedData::Unit) {
-        NamedData::Struct { fields } => Ok(fields),
-        data => {
-            node.data = data;
-            Err(node)
+    match mem::replace(data, NamedData::Unit) {
+        NamedData::Struct { fields } => Some(fields),
+        other => {
+            *data = other;
+            None
         }
     }
 }

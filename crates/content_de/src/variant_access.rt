@@ -18,9 +18,7 @@ ghost use Rattle.content_de.specs.Accesses.Enum.{struct_variant_of};
 use crate::deserializer::Deserializer;
 use crate::enum_access::Requested;
 use crate::map::Map;
-use crate::open::{
-    Opened, is_nothing, map_pairs, seq_items, variant_fields, variant_value, variant_values,
-};
+use crate::open::{Opened, is_nothing, map_pairs, seq_items, take_fields, take_value, take_values};
 use crate::refusal::{a_variant, refusal};
 use crate::seq::Seq;
 use crate::source::Settings;
@@ -193,9 +191,9 @@ impl<'de, 'n> Payload<'de, 'n> {
             (λ p. (one_held (held_of self.entry) ≡ None) × (held_of p ≡ held_of self.entry)) }
     {
         match self {
-            Payload::Node(node) => match variant_value(node) {
-                Ok(value) => Ok(value),
-                Err(node) => Err(Payload::Node(node)),
+            Payload::Node(mut node) => match take_value(&mut node.data) {
+                Some(value) => Ok(value),
+                None => Err(Payload::Node(node)),
             },
             Payload::Nothing => Err(Payload::Nothing),
             Payload::Value(value) => Ok(value),
@@ -209,9 +207,9 @@ impl<'de, 'n> Payload<'de, 'n> {
             (λ p. (many_held (held_of self.entry) ≡ None) × (held_of p ≡ held_of self.entry)) }
     {
         match self {
-            Payload::Node(node) => match variant_values(node) {
-                Ok(values) => Ok(values),
-                Err(node) => Err(Payload::Node(node)),
+            Payload::Node(mut node) => match take_values(&mut node.data) {
+                Some(values) => Ok(values),
+                None => Err(Payload::Node(node)),
             },
             Payload::Nothing => Err(Payload::Nothing),
             Payload::Value(value) => match seq_items(value) {
@@ -229,9 +227,9 @@ impl<'de, 'n> Payload<'de, 'n> {
             (λ p. (entries_held (held_of self.entry) ≡ None) × (held_of p ≡ held_of self.entry)) }
     {
         match self {
-            Payload::Node(node) => match variant_fields(node) {
-                Ok(fields) => Ok(Map::fields(fields, settings)),
-                Err(node) => Err(Payload::Node(node)),
+            Payload::Node(mut node) => match take_fields(&mut node.data) {
+                Some(fields) => Ok(Map::fields(fields, settings)),
+                None => Err(Payload::Node(node)),
             },
             Payload::Nothing => Err(Payload::Nothing),
             Payload::Value(value) => match map_pairs(value) {

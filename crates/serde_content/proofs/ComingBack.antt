@@ -53,6 +53,14 @@ read_such {A} refusal gives {such} s t r only same reads = ok r (subst (λ u. Re
     ok (Ok y) h = only.only y h.1
     ok (Err e) h = tt
 
+-- what is read may be given of an equal subject
+pub read_given : {A : Type 0} (refusal : Refusal) (gives : Gives A) (s t : Subject) (r : Result A Error) → s ≡ t → Reads (refusal s) (gives s) r → IfOk r (gives t)
+read_given {A} refusal gives s t r same reads = ok r (subst (λ u. Reads (refusal u) (gives u) r) same reads)
+  where
+    ok : (q : Result A Error) → Reads (refusal t) (gives t) q → IfOk q (gives t)
+    ok (Ok y) h = h.1
+    ok (Err e) h = tt
+
 -- and else out of memory
 pub read_or_memory : {A : Type 0} (refusal : Refusal) (gives : Gives A) {such : A → Type 0} (s t : Subject) (r : Result A Error) → GivesOnly (refusal t) (gives t) such
     → s ≡ t → Reads (refusal s) (gives s) r → IfErr r (λ e. IsOutOfMemory e)

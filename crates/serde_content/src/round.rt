@@ -2,7 +2,10 @@
 
 ghost use Rattle.std.specs.Prelude.{◌≡◌, true, IfOk, IfErr, ⊤};
 ghost use Rattle.content_tree.specs.Errors.Kind.{IsOutOfMemory};
+ghost use Rattle.content_tree.specs.Values.Tree.{Tree};
 ghost use Rattle.content_tree.specs.Values.Value.{tree_of};
+ghost use Rattle.content_ser.specs.Grammar.Spells.{SpellsWhole};
+ghost use Rattle.content_ser.specs.Scripts.Script.{calls_of};
 ghost use Rattle.content_build.specs.Serializer.{Serialized};
 ghost use Rattle.content_de.specs.Sources.Deserializer.{subject};
 ghost use Rattle.content_de.specs.Sources.Origin.{tree_under};
@@ -60,6 +63,9 @@ pub fn round_trip<'de, T: RoundTrip<'de>>(
     coerce: bool,
 ) -> Result<T>
     ensures value { IfOk result (λ back. T.eq value.now back ≡ true) }
+    // it is read under these flags, from the tree that the value's calls spell
+    ensures given { (t : Tree) → SpellsWhole (calls_of (T.script value.now human_readable)) t
+        → IfOk result (λ back. T.gives (tree_under (flags human_readable coerce) t) back) }
     ensures memory { IfErr result (λ e. IsOutOfMemory e) }
 {
     value.known();

@@ -1,6 +1,6 @@
 //! Serialising: calls, what takes them, and what makes them.
 
 pub use content_build::{
-    Builder, CallsBuilder, CallsError, Recorder, from_calls, from_calls_prefix, from_calls_within,
+    Builder, CallsError, Recorder, from_calls, from_calls_prefix, from_calls_within,
 };
 pub use content_ser::{Announced, Aside, Call, Parts, Sent, Serialize, Serializer, replay};

@@ -1,11 +1,12 @@
 -- What a call answers in a partial tree.
-use Rattle.std.specs.Prelude.{◌≡◌, ⊤, List, Option, Some, None, Result, Ok, Err, option_and_then}
+use Rattle.std.specs.Prelude.{◌≡◌, ⊤, ℕ, List, Option, Some, None, Result, Ok, Err, option_and_then}
 use Rattle.content_tree.specs.Errors.Kind.{kind_of, IsOutOfMemory}
 use Rattle.content_tree.specs.declared.error.Error.{Error}
 use Rattle.content_tree.specs.declared.error.ErrorKind.TheVariants.{Misplaced, Failed}
 use Rattle.content_ser.specs.Grammar.Token.{Token}
 use Rattle.content_ser.specs.Serializers.Step.{Answer}
-use Rattle.content_build.specs.Partial.{Partial, step_token}
+use Rattle.content_build.specs.Limit.{step_within}
+use Rattle.content_build.specs.Partial.{Partial}
 use Rattle.content_build.specs.Inner.Sound.{Stands}
 use Rattle.content_build.specs.declared.node.Entry.{Entry}
 use Rattle.content_build.specs.declared.node.OpenHead.{OpenHead}
@@ -50,6 +51,6 @@ IsAnswerTo (Ok u) (Err e) = ⊥
 IsAnswerTo (Err refused) (Ok v) = ⊥
 IsAnswerTo (Err refused) (Err e) = IsErrorOf refused e
 
--- what a call of this token comes to, and the state after it
-abbrev pub TakesToken : Option Partial → Token → Result (Unit {0}) Refusal → Option Partial → Type 0
-TakesToken old call r new = TakesStep old (option_and_then (λ s. step_token s call) old) r new
+-- what a call of this token comes to within this limit, and the state after it
+abbrev pub TakesToken : Option ℕ → Option Partial → Token → Result (Unit {0}) Refusal → Option Partial → Type 0
+TakesToken limit old call r new = TakesStep old (option_and_then (λ s. step_within limit s call) old) r new

@@ -9,7 +9,7 @@ ghost use Rattle.content_de.specs.Sources.Deserializer.{subject};
 
 use crate::deserializer::Deserializer;
 use crate::map::Map;
-use crate::open::{is_nothing, struct_fields, struct_value, struct_values};
+use crate::open::{is_nothing, take_fields, take_value, take_values};
 use crate::seq::Seq;
 use crate::source::Source;
 use content_tree::{DataType, Expected, NamedValue, Result};
@@ -51,9 +51,9 @@ impl<'de, 'n> Deserializer<'de, 'n> {
     {
         let Deserializer { source, settings } = self;
         match source {
-            Source::Tree(NamedValue::Struct(node)) => match struct_value(node) {
-                Ok(value) => Ok(Deserializer::inside(value, settings)),
-                Err(node) => Ok(Deserializer::inside(NamedValue::Struct(node), settings)),
+            Source::Tree(NamedValue::Struct(mut node)) => match take_value(&mut node.data) {
+                Some(value) => Ok(Deserializer::inside(value, settings)),
+                None => Ok(Deserializer::inside(NamedValue::Struct(node), settings)),
             },
             Source::Tree(value) => Ok(Deserializer::inside(value, settings)),
             other => Err(other.refuse_struct(alloc, name, DataType::NewType)),
@@ -95,9 +95,9 @@ impl<'de, 'n> Deserializer<'de, 'n> {
         let Deserializer { source, settings } = self;
         match source {
             Source::Tree(NamedValue::Seq(items)) => Ok(Seq::new(items, settings)),
-            Source::Tree(NamedValue::Struct(node)) => match struct_values(node) {
-                Ok(values) => Ok(Seq::new(values, settings)),
-                Err(node) => {
+            Source::Tree(NamedValue::Struct(mut node)) => match take_values(&mut node.data) {
+                Some(values) => Ok(Seq::new(values, settings)),
+                None => {
                     let other: Source<'de, 'n> = Source::Tree(NamedValue::Struct(node));
                     Err(other.refuse_struct(alloc, name, DataType::Tuple))
                 }
@@ -130,9 +130,9 @@ impl<'de, 'n> Deserializer<'de, 'n> {
         let Deserializer { source, settings } = self;
         match source {
             Source::Tree(NamedValue::Map(pairs)) => Ok(Map::pairs(pairs, settings)),
-            Source::Tree(NamedValue::Struct(node)) => match struct_fields(node) {
-                Ok(fields) => Ok(Map::fields(fields, settings)),
-                Err(node) => {
+            Source::Tree(NamedValue::Struct(mut node)) => match take_fields(&mut node.data) {
+                Some(fields) => Ok(Map::fields(fields, settings)),
+                None => {
                     let other: Source<'de, 'n> = Source::Tree(NamedValue::Struct(node));
                     Err(other.refuse_struct(alloc, name, DataType::Struct))
                 }

@@ -93,7 +93,7 @@ impl<'de, 'n> Deserializer<'de, 'n> {
         ensures { Answers text_of (name_from (subject self.entry).origin) result }
     {
         match self.source {
-            Source::Tree(NamedValue::String(text)) => Ok(text),
+            Source::Tree(NamedValue::String(name)) => Ok(name),
             Source::Tree(NamedValue::Enum(node)) => Ok(variant_name(node)),
             Source::Identifier { name, index: _ } => Ok(name),
             other => Err(other.refuse(alloc, Expected::Identifier)),

@@ -39,32 +39,20 @@ abbrev mutual
   FieldsKeep fields_end limit depth = Unit {0}
   FieldsKeep (fields_more s fs) limit depth = Keeps s limit depth × FieldsKeep fs limit depth
 
--- the list spells the tree, whose own depth is 1, and no depth passes the limit
-abbrev pub SpellsWithin : ℕ → List Event → Tree → Type 0
-SpellsWithin limit calls t = (s : SpellsWhole calls t) × Keeps s limit 1
-
--- the list spells some tree within the limit
-abbrev pub IsWholeWithin : ℕ → List Event → Type 0
-IsWholeWithin limit calls = (t : Tree) × SpellsWithin limit calls t
-
--- some list, perhaps empty, makes it whole within the limit when put after it
-abbrev pub IsViableWithin : ℕ → List Event → Type 0
-IsViableWithin limit calls = (more : List Event) × IsWholeWithin limit (calls ++ more)
-
 -- a limit leaves room for a tree
 abbrev pub IsLimit : Option ℕ → Type 0
 IsLimit None = Unit {0}
 IsLimit (Some limit) = 1 ≤ limit
 
--- the list spells the tree, within the limit where there is one
-abbrev pub SpellsUnder : Option ℕ → List Event → Tree → Type 0
-SpellsUnder None calls t = SpellsWhole calls t
-SpellsUnder (Some limit) calls t = SpellsWithin limit calls t
+-- the list spells the tree, and no depth passes the limit, if there is one; the tree's own depth is 1
+abbrev pub SpellsWithin : Option ℕ → List Event → Tree → Type 0
+SpellsWithin None calls t = SpellsWhole calls t
+SpellsWithin (Some limit) calls t = (s : SpellsWhole calls t) × Keeps s limit 1
 
--- the list spells some tree, within the limit where there is one
-abbrev pub IsWholeUnder : Option ℕ → List Event → Type 0
-IsWholeUnder limit calls = (t : Tree) × SpellsUnder limit calls t
+-- the list spells some tree within the limit
+abbrev pub IsWholeWithin : Option ℕ → List Event → Type 0
+IsWholeWithin limit calls = (t : Tree) × SpellsWithin limit calls t
 
--- some list, perhaps empty, makes it whole, within the limit where there is one, when put after it
-abbrev pub IsViableUnder : Option ℕ → List Event → Type 0
-IsViableUnder limit calls = (more : List Event) × IsWholeUnder limit (calls ++ more)
+-- some list, perhaps empty, makes it whole within the limit when put after it
+abbrev pub IsViableWithin : Option ℕ → List Event → Type 0
+IsViableWithin limit calls = (more : List Event) × IsWholeWithin limit (calls ++ more)

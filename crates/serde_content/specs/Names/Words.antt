@@ -9,10 +9,11 @@ pub use Rattle.content_tree.specs.declared.error.Error.{Error}
 pub use Rattle.content_tree.specs.declared.error.ErrorKind.{ErrorKind}
 pub use Rattle.content_ser.specs.Calls.Call.{event_of, events_of}
 pub use Rattle.content_ser.specs.Calls.Event.{Event}
+pub use Rattle.content_ser.specs.declared.call.Call.{Call}
 pub use Rattle.content_tree.specs.declared.value.NamedValue.{NamedValue}
 pub use Rattle.content_ser.specs.Grammar.Spells.{SpellsWhole, IsWhole, IsViable}
-pub use Rattle.content_ser.specs.Grammar.Depth.{IsLimit, SpellsUnder, IsWholeUnder, IsViableUnder}
-pub use Rattle.content_build.specs.Answers.{IsAnswer, IsRefusal, IsAnswerUnder, IsRefusalUnder}
+pub use Rattle.content_ser.specs.Grammar.Depth.{IsLimit, SpellsWithin, IsWholeWithin, IsViableWithin}
+pub use Rattle.content_build.specs.Answers.{IsAnswer, IsRefusal, IsAnswerWithin, IsRefusalWithin}
 pub use Rattle.content_build.specs.declared.calls_error.CallsError.{CallsError}
-pub use Rattle.content_build.specs.CallsBuilder.{HasTaken, AnswersNext, AnswersEnd}
-pub use Rattle.content_build.specs.declared.calls_builder.CallsBuilder.{CallsBuilder}
+pub use Rattle.content_build.specs.Builder.{seen_of, HasTaken, AnswersNext, AnswersEnd}
+pub use Rattle.content_build.specs.declared.builder.Builder.{Builder}

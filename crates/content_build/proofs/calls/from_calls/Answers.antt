@@ -1,10 +1,7 @@
 use Rattle.std.proofs.Common.{None}
-use Rattle.content_build.proofs.Headline.{answer_of, whole_only, misplaced_only, unfinished_only}
+use Rattle.content_build.proofs.Headline.{whole_only, misplaced_only, unfinished_only}
 use Rattle.content_build.proofs.Headline.{length-events}
 use Rattle.content_build.proofs.calls.from_calls.Goals as goal
-
-pub returns-clause-answer : goal.returns-clause-answer
-returns-clause-answer c = answer_of _ _ c.build.ensures
 
 pub returns-clause-whole : goal.returns-clause-whole
 returns-clause-whole c t w = whole_only None _ _ t c.build.ensures w

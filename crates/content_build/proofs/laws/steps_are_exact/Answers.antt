@@ -1,4 +1,4 @@
-use Rattle.content_build.proofs.Taking.{steps_are_exact}
+use Rattle.content_build.proofs.Stepwise.{steps_are_exact}
 use Rattle.content_build.proofs.laws.steps_are_exact.Goals as goal
 
 pub returns : goal.returns

@@ -14,4 +14,4 @@ returns-in_default c =
     let no_str : bytes_eq w (codes "str") ≡ false = search rules in
     let no_bytes : bytes_eq w (codes "bytes") ≡ false = search rules in
     let same : of_phrase w c.args.rest.now ≡ of_number w c.args.rest.now = cond-false _ _ _ no_bool ∙ (cond-false _ _ _ no_char ∙ (cond-false _ _ _ no_str ∙ cond-false _ _ _ no_bytes)) in
-    subst (Reads c.read_number.result) (sym same) c.read_number.ensures
+    subst (Reads c.line_of.result) (sym same) (c.line_of.ensures _ c.read_number.ensures)

@@ -5,12 +5,12 @@ use Rattle.content_build.proofs.serializer.Serializer.serialize.Goals as goal
 
 pub returns : goal.returns
 returns g c =
-    let made = λ (l : IsLimit c.args.self.limit). sends_err c.args.self.limit l (g.T.Serialize.script c.args.value.now) c.args.self.human_readable _ _ c.serialize_aside.new.error (Err c.serialize_aside.new.error) (g.met.T.Serialize.lawful c.args.value.now) c.under-builder.ensures
+    let made = λ (l : IsLimit c.args.self.limit). sends_err c.args.self.limit l (g.T.Serialize.script c.args.value.now) c.args.self.human_readable _ _ c.serialize_aside.new.error (Err c.serialize_aside.new.error) (g.met.T.Serialize.lawful c.args.value.now) c.within-builder.ensures
     c.in-Err.ensures refl in
-    record { unlimited = unlimited c.args.self.limit _ _ made; within = within c.args.self.limit _ _ made }
+    record { unlimited = unlimited c.args.self.limit (g.T.Serialize.script c.args.value.now c.args.self.human_readable) (Err c.serialize_aside.new.error) (g.met.T.Serialize.lawful c.args.value.now c.args.self.human_readable) made; within = within c.args.self.limit (g.T.Serialize.script c.args.value.now c.args.self.human_readable) (Err c.serialize_aside.new.error) made }
 
 pub returns-in-Ok : goal.returns-in-Ok
 returns-in-Ok g c =
-    let made = λ (l : IsLimit c.args.self.limit). sends_ok c.args.self.limit l (g.T.Serialize.script c.args.value.now) c.args.self.human_readable _ _ _ _ (g.met.T.Serialize.lawful c.args.value.now) c.under-builder.ensures
+    let made = λ (l : IsLimit c.args.self.limit). sends_ok c.args.self.limit l (g.T.Serialize.script c.args.value.now) c.args.self.human_readable _ _ _ _ (g.met.T.Serialize.lawful c.args.value.now) c.within-builder.ensures
     c.in-Ok.ensures c.finish.ensures.value in
-    record { unlimited = unlimited c.args.self.limit _ _ made; within = within c.args.self.limit _ _ made }
+    record { unlimited = unlimited c.args.self.limit (g.T.Serialize.script c.args.value.now c.args.self.human_readable) c.finish.result (g.met.T.Serialize.lawful c.args.value.now c.args.self.human_readable) made; within = within c.args.self.limit (g.T.Serialize.script c.args.value.now c.args.self.human_readable) c.finish.result made }
