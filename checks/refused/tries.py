@@ -77,16 +77,19 @@ def run(program, text, **environment):
     return Ran(answer, *counts)
 
 
-def told(answer):
-    """An answer in a message."""
+def told(answer, start):
+    """An answer in a message, its text from this place on."""
     out, status = answer
-    return f"{out[:300].decode(errors='replace')!r} with status {status}"
+    return f"{out[start:][:300].decode(errors='replace')!r} with status {status}"
 
 
 def faults(how, ran, *wanted):
-    """What is wrong with a run, which may end in one of these answers."""
+    """What is wrong with a run, which may end in one of these answers: texts are told from a little
+    before the place where they differ."""
     if ran.answer not in wanted:
-        yield f"{how}: got {told(ran.answer)}, wanted {' or '.join(map(told, wanted))}"
+        same = os.path.commonprefix([ran.answer[0], wanted[0][0]])
+        got, *rest = (told(answer, max(0, len(same) - 100)) for answer in (ran.answer, *wanted))
+        yield f"{how}: got {got}, wanted {' or '.join(rest)}"
     if ran.left != 0:
         yield f"{how}: {ran.left} blocks left"
 
@@ -140,9 +143,12 @@ def rows_of(program):
 def cases():
     """Each program with each small input: a program of rows has one row a run, some of each sort
     and one that differs."""
-    lines = contents(f"{here}/lines")
-    for text, status, answer in re.findall(rb"(?ms)(.*?)^-> (\d) ([^\n]*\n)\n?", lines):
+    # an input, `-> STATUS ANSWER`, and an empty line where another input follows
+    lines = re.split(rb"(?m)^-> (\d) (.*\n)\n?", contents(f"{here}/lines"))
+    for text, status, answer in zip(lines[::3], lines[1::3], lines[2::3]):
         yield Case("content_cli", text, (answer, int(status)))
+    if lines[-1]:
+        sys.exit(f"{here}/lines: no answer stands behind {lines[-1]!r}")
     yield Case("memory_checks", b"", (contents(f"{top}/crates/memory_checks/stdout"), 0))
     for program in PROGRAMS_OF_ROWS:
         for row in rows_of(program):
@@ -222,14 +228,14 @@ KINDS = len([*table("trees")])
 SORTS = [Sort(*fields) for fields in table("bounds")]
 total = failed = 0
 with ThreadPoolExecutor(os.cpu_count()) as pool:
+    for case, runs, wrong in pool.map(tried, cases()):
+        total += runs
+        failed += tell(f"{case.program}, {case.text[:80].decode()!r}", wrong)
     for sort, count, ran, wrong in pool.map(weighed, itertools.product(SORTS, COUNTS)):
         what = f"{sort.program}, {sort.text[:80]!r}, {count} items"
         total += 1
         failed += tell(what, wrong)
         if "SHOW" in os.environ:
             print(f"{what}: asks for {ran.asked} bytes, {ran.most} in use at the most")
-    for case, runs, wrong in pool.map(tried, cases()):
-        total += runs
-        failed += tell(f"{case.program}, {case.text[:80].decode()!r}", wrong)
 print(f"{total} runs, {failed} wrong")
 sys.exit(1 if failed else 0)
