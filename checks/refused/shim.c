@@ -5,10 +5,10 @@
 // REFUSE_ALLOCATIONS=N   the Nth and each later one does
 // FAIL_READ=N, FAIL_WRITE=N     the Nth read or write fails with EIO
 // SHORT_READS=1, SHORT_WRITES=1 each read or write moves at most one byte
-// REPORT=FILE            at the end: 'ALLOCATIONS READS WRITES LEFT ASKED MOST', where LEFT counts the
-//                        blocks that were not freed, ASKED the bytes of all allocations, of a
-//                        realloc all of the new size, and MOST the bytes in use at the peak, each
-//                        block with what the C library rounded it up to
+// REPORT=FILE            at the end: 'ALLOCATIONS READS WRITES LEFT ASKED MOST'. LEFT counts the
+//                        blocks that were not freed; ASKED the bytes of all allocations, of a
+//                        realloc all of its new size; MOST the bytes in use at the peak, each block
+//                        with what the C library rounded it up to
 //
 // It declares what it uses of the C library itself, so that a compiler without headers builds it.
 typedef unsigned long size_t;
@@ -71,7 +71,8 @@ __attribute__((destructor)) static void end(void) {
 static int is_refused(size_t size) {
     allocations++;
     bytes_asked += size;
-    if (allocations != one_allocation && !(from_allocation && allocations >= from_allocation)) return 0;
+    int is_from = from_allocation && allocations >= from_allocation;
+    if (allocations != one_allocation && !is_from) return 0;
     *__errno_location() = ENOMEM;
     return 1;
 }

@@ -6,6 +6,7 @@ import os
 import re
 import subprocess
 import sys
+import tempfile
 from concurrent.futures import ThreadPoolExecutor
 from typing import NamedTuple
 
@@ -63,12 +64,16 @@ def run(program, text, **environment):
     report = f"{room}/report{next(reports)}"
     where = {"LD_PRELOAD": f"{room}/shim.so", "REPORT": report}
     where |= {name: str(value) for name, value in environment.items()}
-    try:
-        words = [path_of(program)]
-        ran = subprocess.run(words, input=text, capture_output=True, env=where, timeout=60)
-        answer = ran.stdout, ran.returncode
-    except subprocess.TimeoutExpired:
-        answer = b"", "none in 60 seconds"
+    # a file, of which each read gives as much as it asks for: of a pipe the reads would vary
+    with tempfile.TemporaryFile(dir=room) as file:
+        file.write(text)
+        file.seek(0)
+        how = {"stdin": file, "capture_output": True, "env": where, "timeout": 60}
+        try:
+            ran = subprocess.run([path_of(program)], **how)
+            answer = ran.stdout, ran.returncode
+        except subprocess.TimeoutExpired:
+            answer = b"", "none in 60 seconds"
     if not os.path.exists(report):
         return Ran(answer, 0, 0, 0, -1, 0, 0)
     with open(report, encoding="ascii") as file:
@@ -78,14 +83,15 @@ def run(program, text, **environment):
 
 
 def told(answer, start):
-    """An answer in a message, its text from this place on."""
+    """An answer in a message; a long text from this place on."""
     out, status = answer
-    return f"{out[start:][:300].decode(errors='replace')!r} with status {status}"
+    shown = out if len(out) <= 300 else out[start:][:300]
+    return f"{shown.decode(errors='replace')!r} with status {status}"
 
 
 def faults(how, ran, *wanted):
-    """What is wrong with a run, which may end in one of these answers: texts are told from a little
-    before the place where they differ."""
+    """What is wrong with a run, which may end in one of these answers. Long texts are told from a
+    little before the place where they differ."""
     if ran.answer not in wanted:
         same = os.path.commonprefix([ran.answer[0], wanted[0][0]])
         got, *rest = (told(answer, max(0, len(same) - 100)) for answer in (ran.answer, *wanted))
