@@ -1,10 +1,14 @@
 #!/usr/bin/env bash
-# checks/refused_memory.sh: runs the built programs once for each allocation, refused, and once for each from which on
-# all are refused; then once for each read and each write, failed, and with all reads or writes short. A run must end in
-# the answer that it gives with ample memory or in the one for out of memory (for a failed read or write in that for it),
-# and leave no block unfreed; so of memory_checks, which knows the right answers, none may tell a wrong one. It ends with
-# status 1 where a run ends otherwise. It stands on what `rt ci` leaves in
-# crates/*/out, needs a C compiler ($CC, cc, or the kit's clang) and python3, and takes a minute or two.
+# checks/refused_memory.sh [FOLDER]: runs the programs that `rt ci` leaves in crates/*/out, or those
+# of FOLDER, on small inputs whose answers are stored (checks/refused/lines, crates/*/stdin and
+# crates/memory_checks/stdout): with ample memory; once for each allocation, refused, and once for
+# each from which on all are; once for each read and each write, failed; and with all reads or
+# writes short. A run must end in the stored answer, one with a refusal in that or in `out of
+# memory`, one with a failure in the answer to that; and leave no block unfreed.
+# Then it holds the bytes that each sort of operation asks for, on inputs that grow, against a bound
+# (checks/refused/bounds); SHOW=1 prints them.
+# It names each run that ends otherwise, and ends with status 1 where one does. It needs a C
+# compiler ($CC, cc, or the kit's clang) and python3, and takes about a minute.
 set -eu
 top=$(cd "$(dirname "$0")/.." && pwd)
 room=$(mktemp -d)
@@ -16,4 +20,4 @@ if command -v "${CC:-cc}" > /dev/null; then
 else
     /opt/rattle/toolchain/bin/clang -fuse-ld=lld "${flags[@]}"
 fi
-python3 "$top/checks/refused/tries.py" "$top" "$room"
+python3 "$top/checks/refused/tries.py" "$top" "$room" "${1-}"

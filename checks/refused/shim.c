@@ -5,8 +5,10 @@
 // REFUSE_ALLOCATIONS=N   the Nth and each later one does
 // FAIL_READ=N, FAIL_WRITE=N     the Nth read or write fails with EIO
 // SHORT_READS=1, SHORT_WRITES=1 each read or write moves at most one byte
-// REPORT=FILE            at the end: 'ALLOCATIONS READS WRITES LEFT', where LEFT counts the blocks
-//                        that were not freed
+// REPORT=FILE            at the end: 'ALLOCATIONS READS WRITES LEFT ASKED MOST'. LEFT counts the
+//                        blocks that were not freed; ASKED the bytes of all allocations, of a
+//                        realloc all of its new size; MOST the bytes in use at the peak, each block
+//                        with what the C library rounded it up to
 //
 // It declares what it uses of the C library itself, so that a compiler without headers builds it.
 typedef unsigned long size_t;
@@ -21,10 +23,11 @@ extern void *__libc_calloc(size_t count, size_t size);
 extern void *__libc_realloc(void *block, size_t size);
 extern void *__libc_memalign(size_t alignment, size_t size);
 extern void __libc_free(void *block);
+extern size_t malloc_usable_size(void *block);
 
 enum { READ = 0, WRITE = 1, OPEN = 2, CREATE_EMPTY = 01 | 0100 | 01000, EIO = 5, ENOMEM = 12 };
 
-static long allocations, reads, writes, left;
+static long allocations, reads, writes, left, bytes_asked, bytes_held, bytes_most;
 static long one_allocation, from_allocation, one_read, one_write, short_reads, short_writes;
 static const char *report;
 
@@ -41,7 +44,7 @@ __attribute__((constructor)) static void begin(void) {
     short_reads = asked("SHORT_READS");
     short_writes = asked("SHORT_WRITES");
     report = getenv("REPORT");
-    allocations = reads = writes = left = 0;
+    allocations = reads = writes = left = bytes_asked = bytes_held = bytes_most = 0;
 }
 
 // Adds a count and what parts it from the next; gives the place after both.
@@ -57,30 +60,46 @@ static char *put(char *at, long count, char after) {
 
 __attribute__((destructor)) static void end(void) {
     if (!report) return;
-    char line[128];
-    char *at = put(put(put(put(line, allocations, ' '), reads, ' '), writes, ' '), left, '\n');
+    char line[192];
+    char *at = put(put(put(put(line, allocations, ' '), reads, ' '), writes, ' '), left, ' ');
+    at = put(put(at, bytes_asked, ' '), bytes_most, '\n');
     long file = syscall(OPEN, report, CREATE_EMPTY, 0600);
     if (file >= 0) syscall(WRITE, file, line, at - line);
 }
 
-static int is_refused(void) {
+// Whether an allocation of so many bytes is refused.
+static int is_refused(size_t size) {
     allocations++;
-    if (allocations != one_allocation && !(from_allocation && allocations >= from_allocation)) return 0;
+    bytes_asked += size;
+    int is_from = from_allocation && allocations >= from_allocation;
+    if (allocations != one_allocation && !is_from) return 0;
     *__errno_location() = ENOMEM;
     return 1;
 }
 
+// Counts a block in, where there is one.
 static void *kept(void *block) {
-    if (block) left++;
+    if (!block) return block;
+    left++;
+    bytes_held += malloc_usable_size(block);
+    if (bytes_held > bytes_most) bytes_most = bytes_held;
     return block;
 }
 
-void *malloc(size_t size) { return is_refused() ? 0 : kept(__libc_malloc(size)); }
+// Counts a block of this usable size out.
+static void gone(size_t size) {
+    left--;
+    bytes_held -= size;
+}
 
-void *calloc(size_t count, size_t size) { return is_refused() ? 0 : kept(__libc_calloc(count, size)); }
+void *malloc(size_t size) { return is_refused(size) ? 0 : kept(__libc_malloc(size)); }
+
+void *calloc(size_t count, size_t size) {
+    return is_refused(count * size) ? 0 : kept(__libc_calloc(count, size));
+}
 
 void *aligned_alloc(size_t alignment, size_t size) {
-    return is_refused() ? 0 : kept(__libc_memalign(alignment, size));
+    return is_refused(size) ? 0 : kept(__libc_memalign(alignment, size));
 }
 
 int posix_memalign(void **block, size_t alignment, size_t size) {
@@ -91,13 +110,15 @@ int posix_memalign(void **block, size_t alignment, size_t size) {
 }
 
 void *realloc(void *old, size_t size) {
-    if (is_refused()) return 0;
+    if (is_refused(size)) return 0;
+    size_t before = old ? malloc_usable_size(old) : 0;
     void *block = __libc_realloc(old, size);
-    return old ? block : kept(block);
+    if (old && block) gone(before);
+    return kept(block);
 }
 
 void free(void *block) {
-    if (block) left--;
+    if (block) gone(malloc_usable_size(block));
     __libc_free(block);
 }
 

@@ -1,120 +1,247 @@
-"""Runs programs with each allocation, read and write refused in turn: see checks/refused_memory.sh."""
+"""Runs programs with each allocation, read and write refused in turn, and counts the bytes that
+they ask for: see checks/refused_memory.sh."""
 
 import itertools
 import os
+import re
 import subprocess
 import sys
+import tempfile
 from concurrent.futures import ThreadPoolExecutor
+from typing import NamedTuple
 
-top, room = sys.argv[1:]
+top, room, folder = sys.argv[1:]
+here = f"{top}/checks/refused"
+PROGRAMS_OF_ROWS = ("content_rows", "reading_rows")
+PROGRAMS = ("content_cli", "memory_checks", *PROGRAMS_OF_ROWS)
+AGREES = (b"1 rows agree, 0 differ\n", 0)
 OUT_OF_MEMORY = (b"out of memory\n", 3)
 READ_FAILED = {"content_cli": (b"read failed\n", 4)}
 ROWS_FAILED = (b"a read or a write failed\n", 4)
-PROGRAMS_OF_ROWS = ("content_rows", "reading_rows")
+# of how many items an input is on which the bytes asked for are held against a bound
+COUNTS = (1, 30, 1000)
 reports = itertools.count()
 
 
+class Ran(NamedTuple):
+    """What a run printed and its status, and its counts, as the shim reports them."""
+
+    answer: tuple
+    allocations: int
+    reads: int
+    writes: int
+    left: int
+    asked: int
+    most: int
+
+
+class Case(NamedTuple):
+    """A program, an input, and the answer that is wanted with ample memory."""
+
+    program: str
+    text: bytes
+    wanted: tuple
+
+
+class Sort(NamedTuple):
+    """An operation on an input of any length, and how many bytes it may ask for: a constant, and
+    so many for each item."""
+
+    program: str
+    constant: str
+    each: str
+    text: str
+    answer: str
+
+
+def path_of(program):
+    """Where a program stands."""
+    return f"{folder}/{program}" if folder else f"{top}/crates/{program}/out/{program}"
+
+
 def run(program, text, **environment):
-    """What the program prints, its status, and its counts: allocations, reads, writes, blocks left."""
+    """A run of a program. Of one that was stopped the blocks left are -1: it left no report."""
     report = f"{room}/report{next(reports)}"
     where = {"LD_PRELOAD": f"{room}/shim.so", "REPORT": report}
     where |= {name: str(value) for name, value in environment.items()}
-    path = f"{top}/crates/{program}/out/{program}"
-    ran = subprocess.run([path], input=text, capture_output=True, env=where, timeout=60)
+    # a file, of which each read gives as much as it asks for: of a pipe the reads would vary
+    with tempfile.TemporaryFile(dir=room) as file:
+        file.write(text)
+        file.seek(0)
+        how = {"stdin": file, "capture_output": True, "env": where, "timeout": 60}
+        try:
+            ran = subprocess.run([path_of(program)], **how)
+            answer = ran.stdout, ran.returncode
+        except subprocess.TimeoutExpired:
+            answer = b"", "none in 60 seconds"
+    if not os.path.exists(report):
+        return Ran(answer, 0, 0, 0, -1, 0, 0)
     with open(report, encoding="ascii") as file:
         counts = [int(word) for word in file.read().split()]
     os.remove(report)
-    return (ran.stdout, ran.returncode), counts
+    return Ran(answer, *counts)
 
 
-def is_told(program, answer):
-    """Whether a program of rows tells that its operation answered out of memory."""
+def told(answer, start):
+    """An answer in a message; a long text from this place on."""
     out, status = answer
-    got = out.partition(b": got ")[2].partition(b", wanted ")[0]
-    return program in PROGRAMS_OF_ROWS and status == 1 and b"OutOfMemory" in got
+    shown = out if len(out) <= 300 else out[start:][:300]
+    return f"{shown.decode(errors='replace')!r} with status {status}"
 
 
-def faults(program, text):
-    """What is wrong with the runs of a program on one input."""
-    ample, (allocations, reads, writes, left) = run(program, text)
-    wrong = [] if left == 0 else [f"{left} blocks left with ample memory"]
-    runs = 1
-    for kind in ("REFUSE_ALLOCATION", "REFUSE_ALLOCATIONS"):
-        for at in range(1, allocations + 1):
-            answer, counts = run(program, text, **{kind: at})
-            runs += 1
-            if answer not in (ample, OUT_OF_MEMORY) and not is_told(program, answer):
-                wrong.append(f"{kind}={at}: {answer}")
-            if counts[3] != 0:
-                wrong.append(f"{kind}={at}: {counts[3]} blocks left")
-    for at in range(1, reads + 1):
-        answer, counts = run(program, text, FAIL_READ=at)
-        runs += 1
-        if answer != READ_FAILED.get(program, ROWS_FAILED) or counts[3] != 0:
-            wrong.append(f"FAIL_READ={at}: {answer}, {counts[3]} blocks left")
-    for at in range(1, writes + 1):
-        (_, status), counts = run(program, text, FAIL_WRITE=at)
-        runs += 1
-        if status != (5 if program == "content_cli" else 4) or counts[3] != 0:
-            wrong.append(f"FAIL_WRITE={at}: status {status}, {counts[3]} blocks left")
-    for kind in ("SHORT_READS", "SHORT_WRITES"):
-        answer, counts = run(program, text, **{kind: 1})
-        runs += 1
-        if answer != ample or counts[3] != 0:
-            wrong.append(f"{kind}: {answer}, {counts[3]} blocks left")
-    return program, text, ample, runs, wrong
+def faults(how, ran, *wanted):
+    """What is wrong with a run, which may end in one of these answers. Long texts are told from a
+    little before the place where they differ."""
+    if ran.answer not in wanted:
+        same = os.path.commonprefix([ran.answer[0], wanted[0][0]])
+        got, *rest = (told(answer, max(0, len(same) - 100)) for answer in (ran.answer, *wanted))
+        yield f"{how}: got {got}, wanted {' or '.join(rest)}"
+    if ran.left != 0:
+        yield f"{how}: {ran.left} blocks left"
 
 
-def spread(items, count):
-    """So many of the items, spread over them all."""
-    return [items[len(items) * place // count] for place in range(min(count, len(items)))]
+def tried(case):
+    """A case, how many runs it took, and what is wrong with them."""
+    program, text, wanted = case
+    ample = run(program, text)
+    wrong = [*faults("with ample memory", ample, wanted)]
+    if ample.allocations == 0:
+        wrong.append("asks for no memory")
+    tries = [({kind: 1}, [wanted]) for kind in ("SHORT_READS", "SHORT_WRITES")]
+    for at in range(1, ample.allocations + 1):
+        tries.append(({"REFUSE_ALLOCATION": at}, [wanted, OUT_OF_MEMORY]))
+        # with no memory at all there is no answer
+        tries.append(({"REFUSE_ALLOCATIONS": at}, [wanted, OUT_OF_MEMORY][at == 1 :]))
+    for at in range(1, ample.reads + 1):
+        tries.append(({"FAIL_READ": at}, [READ_FAILED.get(program, ROWS_FAILED)]))
+    for refused, answers in tries:
+        how = " ".join(f"{name}={at}" for name, at in refused.items())
+        wrong += faults(how, run(program, text, **refused), *answers)
+    for at in range(1, ample.writes + 1):
+        ran = run(program, text, FAIL_WRITE=at)
+        # nothing is said of what went out
+        answer = ran.answer[0], 5 if program == "content_cli" else 4
+        wrong += faults(f"FAIL_WRITE={at}", ran, answer)
+    return case, 1 + len(tries) + ample.writes, wrong
 
 
-def inputs():
-    """Each program with each small input: of a program of rows one row a run, some of each sort."""
-    with open(f"{top}/checks/refused/lines", "rb") as file:
-        for lines in file.read().split(b"\n\n"):
-            yield "content_cli", lines.rstrip(b"\n") + b"\n"
-    # no status 1 is right of its calls, whose right answers it knows
-    yield "memory_checks", b""
+def contents(path):
+    """The bytes of a file."""
+    with open(path, "rb") as file:
+        return file.read()
+
+
+def rows_of(program):
+    """Some rows of each sort of a program of rows, none of them long."""
+    sorts = {}
+    for row in contents(f"{top}/crates/{program}/stdin").splitlines():
+        fields = row.split(b"\t")
+        if len(row) < 300:
+            # of what is asked or read, the request or the type as well
+            is_read = program == "reading_rows" and len(fields) > 3
+            sort = (fields[0], fields[2] if is_read else b"")
+            sorts.setdefault(sort, []).append(row)
+    for sort, rows in sorts.items():
+        count = min(len(rows), 4 if sort[1] else 20)
+        yield from (rows[len(rows) * place // count] for place in range(count))
+
+
+def cases():
+    """Each program with each small input: a program of rows has one row a run, some of each sort
+    and one that differs."""
+    # an input, `-> STATUS ANSWER`, and an empty line where another input follows
+    lines = re.split(rb"(?m)^-> (\d) (.*\n)\n?", contents(f"{here}/lines"))
+    for text, status, answer in zip(lines[::3], lines[1::3], lines[2::3]):
+        yield Case("content_cli", text, (answer, int(status)))
+    if lines[-1]:
+        sys.exit(f"{here}/lines: no answer stands behind {lines[-1]!r}")
+    yield Case("memory_checks", b"", (contents(f"{top}/crates/memory_checks/stdout"), 0))
     for program in PROGRAMS_OF_ROWS:
-        sorts = {}
-        with open(f"{top}/crates/{program}/stdin", "rb") as file:
-            for row in file.read().splitlines():
-                fields = row.split(b"\t")
-                if len(row) < 300:
-                    # of what is asked or read, the request or the type as well
-                    sort = (fields[0], fields[2] if program == "reading_rows" and len(fields) > 3 else b"")
-                    sorts.setdefault(sort, []).append(row)
-        for sort, rows in sorts.items():
-            for row in spread(rows, 4 if sort[1] else 20):
-                yield program, row + b"\n"
+        for row in rows_of(program):
+            yield Case(program, row + b"\n", AGREES)
+    differs = b"line 1: copy: got None, wanted ()\n0 rows agree, 1 differ\n", 1
+    yield Case("content_rows", b"copy\tNone\t()\n", differs)
+    differs = b"line 1: plain: got ok None, wanted ok ()\n0 rows agree, 1 differ\n", 1
+    yield Case("reading_rows", b"plain\tNone\tok ()\n", differs)
 
 
-def large():
-    """Each program with a sequence of 10,000 units, and the answer that is wanted."""
-    count = 10_000
-    lines = b"seq\n" + b"element\nunit\n" * count + b"end\n"
-    yield "content_cli", lines, (b"ok [" + b", ".join([b"()"] * count) + b"]\n", 0)
-    calls = b"seq; " + b"element; unit; " * count + b"end"
-    row = b"calls\t" + calls + b"\tok Seq[" + b", ".join([b"()"] * count) + b"]\n"
-    yield "content_rows", row, (b"1 rows agree, 0 differ\n", 0)
+def table(name):
+    """The lines of a table, each as its fields."""
+    for line in contents(f"{here}/{name}").decode().splitlines():
+        if not line.startswith("#"):
+            yield line.split("\t")
 
 
+def forms():
+    """All kinds of node of the table of trees, in each of their forms; `lying` are the calls with a
+    million as each hint and length."""
+    trees, owned, printed, calls, plain = zip(*table("trees"))
+    joined = {"trees": trees, "owned": owned, "printed": printed, "plain": plain}
+    made = {name: ", ".join(items) for name, items in joined.items()}
+    elements = "; ".join(f"element; {call}" for call in calls)
+    lying = re.sub(r"(seq|map|tuple|struct Foo|variant Foo 7 Bar) \d+", r"\1 1000000", elements)
+    return made | {"elements": elements, "lying": lying}
+
+
+def written_out(pattern, count):
+    """The text that a pattern of the table of bounds stands for: `\\t` is a tab, `*(item|between)*`
+    so many items, `#` in one its number from 1000; `$count` is how many they are, `$trees` and the
+    like all kinds of node in that form, and `$length` how many kinds so many items have."""
+
+    def items(found):
+        item, between = found.groups()
+        return between.join(item.replace("#", str(1000 + place)) for place in range(count))
+
+    names = FORMS | {"count": str(count), "length": str(count * KINDS)}
+    text = re.sub(r"\$(\w+)", lambda found: names[found[1]], pattern.replace(r"\t", "\t"))
+    return re.sub(r"\*\((.*?)\|(.*?)\)\*", items, text)
+
+
+def sort_case(sort, count):
+    """An operation on an input of so many items."""
+    text = written_out(sort.text, count)
+    answer = written_out(sort.answer, count)
+    if sort.program in PROGRAMS_OF_ROWS:
+        return Case(sort.program, f"{text}\t{answer}\n".encode(), AGREES)
+    lines = text.replace("; ", "\n")
+    return Case(sort.program, f"{lines}\n".encode(), (f"{answer}\n".encode(), 0))
+
+
+def weighed(pair):
+    """An operation, a count of items, the run, and what is wrong with it."""
+    sort, count = pair
+    case = sort_case(sort, count)
+    ran = run(case.program, case.text)
+    wrong = [*faults("with ample memory", ran, case.wanted)]
+    bound = int(sort.constant) + int(sort.each) * count
+    if ran.asked > bound:
+        wrong.append(f"got {ran.asked} bytes asked for, wanted at most {bound}")
+    return sort, count, ran, wrong
+
+
+def tell(what, wrong):
+    """Tells what is wrong with the runs on an input; gives how much."""
+    for line in wrong[:5]:
+        print(f"{what}: {line}")
+    return len(wrong)
+
+
+missing = [path_of(program) for program in PROGRAMS if not os.access(path_of(program), os.X_OK)]
+if missing:
+    sys.exit(f"no program at {', '.join(missing)}: `rt ci` builds them")
+FORMS = forms()
+KINDS = len([*table("trees")])
+SORTS = [Sort(*fields) for fields in table("bounds")]
 total = failed = 0
-for program, text, wanted in large():
-    answer, counts = run(program, text)
-    total += 1
-    if answer != wanted or counts[3] != 0:
-        failed += 1
-        print(f"{program}, 10,000 units: {answer[0][:80]!r}, status {answer[1]}, {counts[3]} blocks left")
 with ThreadPoolExecutor(os.cpu_count()) as pool:
-    for program, text, ample, runs, wrong in pool.map(lambda pair: faults(*pair), inputs()):
+    for case, runs, wrong in pool.map(tried, cases()):
         total += runs
-        if program != "content_cli" and ample[1] != 0:
-            wrong.append(f"with ample memory: {ample}")
-        failed += len(wrong)
-        for line in wrong[:5]:
-            print(f"{program}, {text[:80]!r}: {line}")
+        failed += tell(f"{case.program}, {case.text[:80].decode()!r}", wrong)
+    for sort, count, ran, wrong in pool.map(weighed, itertools.product(SORTS, COUNTS)):
+        what = f"{sort.program}, {sort.text[:80]!r}, {count} items"
+        total += 1
+        failed += tell(what, wrong)
+        if "SHOW" in os.environ:
+            print(f"{what}: asks for {ran.asked} bytes, {ran.most} in use at the most")
 print(f"{total} runs, {failed} wrong")
 sys.exit(1 if failed else 0)
