@@ -1,7 +1,7 @@
 //! From the tape to the value.
 #![tactic(auto, using(crate::proofs::Pushes::pushes))]
 
-ghost use Rattle.std.specs.Prelude.{◌≡◌, ◌-◌, ◌∷◌, [], IfOk, MatchOption};
+ghost use Rattle.std.specs.Prelude.{◌≡◌, ◌-◌, ◌∷◌, [], IfOk, MatchOption, vec_len};
 ghost use Rattle.content_tree.specs.Values.Text.{static_name};
 ghost use Rattle.content_tree.specs.Values.Tree.{Tree};
 ghost use Rattle.content_tree.specs.Values.Value.{tree_of, tree_data_of, trees_view, pairs_view};
@@ -284,6 +284,32 @@ fn grow_one<'v>(alloc: Global, grown: &mut Vec<Grown<'v>>, next: Entry) -> Resul
     }
 }
 
+/// The same entries, without the room of those that are gone. It is seldom done, and so stands
+/// outside the loop.
+#[cold]
+#[inline(never)]
+fn shrunk(entries: Vec<Entry>) -> Vec<Entry>
+    ensures items { result.items ≡ entries.items }
+    ensures len { vec_len result ≡ vec_len entries }
+{
+    let mut entries = entries;
+    entries.shrink_to_fit();
+    entries
+}
+
+/// The same entries, without the room of those that are gone once these are the half.
+#[inline(always)]
+fn trimmed(entries: Vec<Entry>) -> Vec<Entry>
+    ensures items { result.items ≡ entries.items }
+    ensures len { vec_len result ≡ vec_len entries }
+{
+    if entries.len() < entries.capacity() / 2 {
+        shrunk(entries)
+    } else {
+        entries
+    }
+}
+
 /// The value of a whole tape.
 pub(crate) fn grow<'v>(alloc: Global, entries: Vec<Entry>) -> Result<Option<Value<'v>>, AllocError>
     ensures { (t : Tree) → row entries.items ≡ flat t
@@ -292,6 +318,7 @@ pub(crate) fn grow<'v>(alloc: Global, entries: Vec<Entry>) -> Result<Option<Valu
     let mut entries = entries;
     let mut grown = Vec::new(alloc);
     while let Some(next) = entries.pop() {
+        entries = trimmed(entries);
         grow_one(alloc, &mut grown, next)?;
     }
     match grown.pop() {

@@ -63,50 +63,50 @@ pub(crate) fn is_nothing<'de, 'n>(held: &NamedData<'de, 'n>) -> bool
     matches!(held, NamedData::Unit)
 }
 
-/// The one value, moved out, where there is one; else the data stays.
-pub(crate) fn take_value<'de, 'n>(data: &mut NamedData<'de, 'n>) -> Option<NamedValue<'de, 'n>>
+/// The one value, moved out, where there is one; else what is held stays.
+pub(crate) fn take_value<'de, 'n>(held: &mut NamedData<'de, 'n>) -> Option<NamedValue<'de, 'n>>
     ensures { MatchOption result
-        ((one_in (tree_data_of data.old) ≡ None) × (data.new ≡ data.old))
-        (λ v. one_in (tree_data_of data.old) ≡ Some (tree_of v)) }
+        ((one_in (tree_data_of held.old) ≡ None) × (held.new ≡ held.old))
+        (λ v. one_in (tree_data_of held.old) ≡ Some (tree_of v)) }
 {
-    match mem::replace(data, NamedData::Unit) {
+    match mem::replace(held, NamedData::Unit) {
         NamedData::NewType { value } => Some(value),
         other => {
-            *data = other;
+            *held = other;
             None
         }
     }
 }
 
-/// The values of a tuple, moved out, where it is one; else the data stays.
+/// The values of a tuple, moved out, where it is one; else what is held stays.
 pub(crate) fn take_values<'de, 'n>(
-    data: &mut NamedData<'de, 'n>,
+    held: &mut NamedData<'de, 'n>,
 ) -> Option<Vec<NamedValue<'de, 'n>>>
     ensures { MatchOption result
-        ((many_in (tree_data_of data.old) ≡ None) × (data.new ≡ data.old))
-        (λ vs. many_in (tree_data_of data.old) ≡ Some (trees_view vs.items)) }
+        ((many_in (tree_data_of held.old) ≡ None) × (held.new ≡ held.old))
+        (λ vs. many_in (tree_data_of held.old) ≡ Some (trees_view vs.items)) }
 {
-    match mem::replace(data, NamedData::Unit) {
+    match mem::replace(held, NamedData::Unit) {
         NamedData::Tuple { values } => Some(values),
         other => {
-            *data = other;
+            *held = other;
             None
         }
     }
 }
 
-/// The fields, moved out, where there are such; else the data stays.
+/// The fields, moved out, where there are such; else what is held stays.
 pub(crate) fn take_fields<'de, 'n>(
-    data: &mut NamedData<'de, 'n>,
+    held: &mut NamedData<'de, 'n>,
 ) -> Option<Vec<(CowStr<'n>, NamedValue<'de, 'n>)>>
     ensures { MatchOption result
-        ((named_in (tree_data_of data.old) ≡ None) × (data.new ≡ data.old))
-        (λ fs. named_in (tree_data_of data.old) ≡ Some (fields_view fs.items)) }
+        ((named_in (tree_data_of held.old) ≡ None) × (held.new ≡ held.old))
+        (λ fs. named_in (tree_data_of held.old) ≡ Some (fields_view fs.items)) }
 {
-    match mem::replace(data, NamedData::Unit) {
+    match mem::replace(held, NamedData::Unit) {
         NamedData::Struct { fields } => Some(fields),
         other => {
-            *data = other;
+            *held = other;
             None
         }
     }

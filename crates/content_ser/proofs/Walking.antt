@@ -78,8 +78,8 @@ sends_value {S} {step} {refuses} {old} {new} {r} f e same sent = subst (λ (d : 
 
 -- a field's value is less deep than the fields
 pub field_below : {depth : CowStr × NamedValue → ℕ} {t : ℕ} (fs : List (CowStr × NamedValue)) (i : ℕ) (x : CowStr × NamedValue)
-    → 3 * most depth fs + 1 ≡ t → ((f : CowStr × NamedValue) → size-NamedValue f.1 ≤ depth f) → i < length fs → x ≡ get_or fs i x
-    → 3 * size-NamedValue x.1 + 0 < t
+    → 4 * most depth fs + 1 ≡ t → ((f : CowStr × NamedValue) → size-NamedValue f.1 ≤ depth f) → i < length fs → x ≡ get_or fs i x
+    → 4 * size-NamedValue x.1 + 0 < t
 field_below {depth} fs i x measure deep below is =
     let within : depth x ≤ most depth fs = subst (λ (f : CowStr × NamedValue). depth f ≤ most depth fs) (sym is) (at_most depth fs i x below) in
     let under = deep x in

@@ -18,6 +18,17 @@ pub fn no_error() -> Error {
     Error::from(ErrorKind::OutOfMemory)
 }
 
+/// The answer of what is sent with its error put aside, in a place of this name.
+macro_rules! answered {
+    ($error:ident => $sent:expr) => {{
+        let mut $error = $crate::aside::no_error();
+        let sent = $sent;
+        $crate::aside::answer(sent, $error)
+    }};
+}
+
+pub(crate) use answered;
+
 /// Puts the error of an answer aside.
 #[inline(always)]
 pub fn put_aside(answer: Result<()>, error: &mut Error) -> Sent

@@ -9,7 +9,7 @@ ghost use Rattle.content_ser.specs.Scripts.Own.{end_script};
 ghost use Rattle.content_ser.specs.Scripts.Standard.{call_first, only};
 ghost use Rattle.content_ser.specs.Sending.Aside.{answer_of};
 
-use crate::aside::{Sent, answer, no_error, put_aside};
+use crate::aside::{Sent, answered, put_aside};
 use crate::call::Call;
 use crate::serialize::Serialize;
 use crate::serializer::Serializer;
@@ -77,9 +77,7 @@ pub trait Parts: Sized + Drop {
         ensures { Sends S.step S.refuses (S.seen serializer.old) (first self end_script) result
             (S.seen serializer.new) }
     {
-        let mut error = no_error();
-        let sent = send_all(&self, alloc, serializer, &mut error);
-        answer(sent, error)
+        answered!(error => send_all(&self, alloc, serializer, &mut error))
     }
 
     /// Makes these calls, and then those of the one value that a newtype stands around. Errors and
@@ -94,10 +92,23 @@ pub trait Parts: Sized + Drop {
         ensures { Sends S.step S.refuses (S.seen serializer.old) (first self (T.script value.now))
             result (S.seen serializer.new) }
     {
-        let mut error = no_error();
-        let sent = send_around(&self, value, alloc, serializer, &mut error);
-        answer(sent, error)
+        answered!(error => send_around(&self, value, alloc, serializer, &mut error))
     }
+}
+
+/// The parts. It stands between those of [`Announced`] and the parts that they begin with: the
+/// compiler folds no function into itself, and these are one function at smaller types.
+#[inline(always)]
+fn send_first<P: Parts, S: Serializer>(
+    parts: &P,
+    alloc: Global,
+    serializer: &mut S,
+    error: &mut Error,
+) -> Sent
+    ensures { Begins S.step S.refuses (S.seen serializer.old) (P.first parts.now)
+        (answer_of result error.new) (S.seen serializer.new) }
+{
+    parts.send_parts_aside(alloc, serializer, error)
 }
 
 /// The parts, and then the call that closes what they opened.
@@ -174,9 +185,7 @@ impl<'a, P: Parts, M: Parts, T: Serialize> Parts for Announced<'a, P, M, T> {
         (M.first p.item_call (value_first (T.script p.value.now) rest)) };
 
     fn send_parts<S: Serializer>(&self, alloc: Global, serializer: &mut S) -> Result<()> {
-        let mut error = no_error();
-        let sent = self.send_parts_aside(alloc, serializer, &mut error);
-        answer(sent, error)
+        answered!(error => self.send_parts_aside(alloc, serializer, &mut error))
     }
 
     #[inline(always)]
@@ -186,8 +195,8 @@ impl<'a, P: Parts, M: Parts, T: Serialize> Parts for Announced<'a, P, M, T> {
         serializer: &mut S,
         error: &mut Error,
     ) -> Sent {
-        self.before.send_parts_aside(alloc, serializer, error)?;
-        self.item_call.send_parts_aside(alloc, serializer, error)?;
+        send_first(&self.before, alloc, serializer, error)?;
+        send_first(&self.item_call, alloc, serializer, error)?;
         self.value.serialize_aside(alloc, serializer, error)
     }
 }

@@ -11,7 +11,7 @@ ghost use Rattle.content_ser.specs.Laws.TreeScripts.{tree_lawful};
 ghost use Rattle.content_ser.specs.Sending.TreeScript.{loose_script};
 ghost use Rattle.content_ser.specs.Sending.Loose.{loose};
 
-use crate::aside::{Sent, answer, no_error};
+use crate::aside::{Sent, answered};
 use crate::serialize::Serialize;
 use crate::serializer::Serializer;
 use content_tree::{Enum, Error, Result, Struct, Value};
@@ -26,9 +26,7 @@ impl<'a> Serialize for Value<'a> {
     ghost lawful = { λ v readable. tree_lawful (loose (tree_of v)) };
 
     fn serialize<S: Serializer>(&self, alloc: Global, serializer: &mut S) -> Result<()> {
-        let mut error = no_error();
-        let sent = walk::send(self, alloc, serializer, &mut error);
-        answer(sent, error)
+        answered!(error => walk::send(self, alloc, serializer, &mut error))
     }
 
     fn serialize_aside<S: Serializer>(
@@ -49,9 +47,7 @@ impl<'a> Serialize for Struct<'a> {
     ghost lawful = { λ v readable. tree_lawful (loose (struct_tree v)) };
 
     fn serialize<S: Serializer>(&self, alloc: Global, serializer: &mut S) -> Result<()> {
-        let mut error = no_error();
-        let sent = walk::send_struct(self, alloc, serializer, &mut error);
-        answer(sent, error)
+        answered!(error => walk::send_struct(self, alloc, serializer, &mut error))
     }
 
     fn serialize_aside<S: Serializer>(
@@ -73,9 +69,7 @@ impl<'a> Serialize for Enum<'a> {
     ghost lawful = { λ v readable. tree_lawful (loose (enum_tree v)) };
 
     fn serialize<S: Serializer>(&self, alloc: Global, serializer: &mut S) -> Result<()> {
-        let mut error = no_error();
-        let sent = walk::send_enum(self, alloc, serializer, &mut error);
-        answer(sent, error)
+        answered!(error => walk::send_enum(self, alloc, serializer, &mut error))
     }
 
     fn serialize_aside<S: Serializer>(

@@ -4,7 +4,7 @@
 ghost use Rattle.content_ser.specs.Scripts.Standard.{option_script};
 ghost use Rattle.content_ser.specs.Laws.StandardScripts.{option_lawful};
 
-use crate::aside::{Sent, answer, no_error};
+use crate::aside::{Sent, answered};
 use crate::send::calls::{serialize_none, serialize_some};
 use crate::serialize::Serialize;
 use crate::serializer::Serializer;
@@ -17,9 +17,7 @@ impl<T: Serialize> Serialize for Option<T> {
     ghost lawful = { option_lawful T.lawful };
 
     fn serialize<S: Serializer>(&self, alloc: Global, serializer: &mut S) -> Result<()> {
-        let mut error = no_error();
-        let sent = self.serialize_aside(alloc, serializer, &mut error);
-        answer(sent, error)
+        answered!(error => self.serialize_aside(alloc, serializer, &mut error))
     }
 
     fn serialize_aside<S: Serializer>(

@@ -4,7 +4,7 @@
 ghost use Rattle.content_ser.specs.Scripts.Standard.{map_script};
 ghost use Rattle.content_ser.specs.Laws.StandardScripts.{map_lawful};
 
-use crate::aside::{Sent, answer, no_error};
+use crate::aside::{Sent, answered};
 use crate::send::calls::{end, serialize_entry, serialize_map};
 use crate::serialize::Serialize;
 use crate::serializer::Serializer;
@@ -18,9 +18,7 @@ impl<K: Serialize + Ord, V: Serialize> Serialize for BTreeMap<K, V> {
     ghost lawful = { λ m. map_lawful K.lawful V.lawful m.entries };
 
     fn serialize<S: Serializer>(&self, alloc: Global, serializer: &mut S) -> Result<()> {
-        let mut error = no_error();
-        let sent = self.serialize_aside(alloc, serializer, &mut error);
-        answer(sent, error)
+        answered!(error => self.serialize_aside(alloc, serializer, &mut error))
     }
 
     fn serialize_aside<S: Serializer>(

@@ -5,7 +5,7 @@ ghost use Rattle.content_ser.specs.Calls.Event.{end};
 ghost use Rattle.content_ser.specs.Scripts.Standard.{element_first, only, tuple_script};
 ghost use Rattle.content_ser.specs.Laws.StandardScripts.{element_fits, end_fits, tuple_lawful};
 
-use crate::aside::{Sent, answer, no_error};
+use crate::aside::{Sent, answered};
 use crate::send::calls::{end, serialize_element, serialize_tuple};
 use crate::serialize::Serialize;
 use crate::serializer::Serializer;
@@ -18,9 +18,7 @@ impl<A: Serialize> Serialize for (A,) {
     ghost lawful = { λ t readable. tuple_lawful (element_fits (A.lawful t.0 readable) end_fits) };
 
     fn serialize<S: Serializer>(&self, alloc: Global, serializer: &mut S) -> Result<()> {
-        let mut error = no_error();
-        let sent = self.serialize_aside(alloc, serializer, &mut error);
-        answer(sent, error)
+        answered!(error => self.serialize_aside(alloc, serializer, &mut error))
     }
 
     fn serialize_aside<S: Serializer>(
@@ -44,9 +42,7 @@ impl<A: Serialize, B: Serialize> Serialize for (A, B) {
         (element_fits (A.lawful t.0 readable) (element_fits (B.lawful t.1 readable) end_fits)) };
 
     fn serialize<S: Serializer>(&self, alloc: Global, serializer: &mut S) -> Result<()> {
-        let mut error = no_error();
-        let sent = self.serialize_aside(alloc, serializer, &mut error);
-        answer(sent, error)
+        answered!(error => self.serialize_aside(alloc, serializer, &mut error))
     }
 
     fn serialize_aside<S: Serializer>(
@@ -73,9 +69,7 @@ impl<A: Serialize, B: Serialize, C: Serialize> Serialize for (A, B, C) {
         (element_fits (C.lawful t.2 readable) end_fits))) };
 
     fn serialize<S: Serializer>(&self, alloc: Global, serializer: &mut S) -> Result<()> {
-        let mut error = no_error();
-        let sent = self.serialize_aside(alloc, serializer, &mut error);
-        answer(sent, error)
+        answered!(error => self.serialize_aside(alloc, serializer, &mut error))
     }
 
     fn serialize_aside<S: Serializer>(
@@ -106,9 +100,7 @@ impl<A: Serialize, B: Serialize, C: Serialize, D: Serialize> Serialize for (A, B
         (element_fits (D.lawful t.3 readable) end_fits)))) };
 
     fn serialize<S: Serializer>(&self, alloc: Global, serializer: &mut S) -> Result<()> {
-        let mut error = no_error();
-        let sent = self.serialize_aside(alloc, serializer, &mut error);
-        answer(sent, error)
+        answered!(error => self.serialize_aside(alloc, serializer, &mut error))
     }
 
     fn serialize_aside<S: Serializer>(

@@ -4,7 +4,7 @@
 ghost use Rattle.content_ser.specs.Scripts.Standard.{seq_script};
 ghost use Rattle.content_ser.specs.Laws.StandardScripts.{seq_lawful};
 
-use crate::aside::{Sent, answer, no_error};
+use crate::aside::{Sent, answered};
 use crate::send::calls::{end, serialize_element, serialize_seq};
 use crate::serialize::Serialize;
 use crate::serializer::Serializer;
@@ -17,9 +17,7 @@ impl<T: Serialize> Serialize for Vec<T> {
     ghost lawful = { λ v. seq_lawful T.lawful v.items };
 
     fn serialize<S: Serializer>(&self, alloc: Global, serializer: &mut S) -> Result<()> {
-        let mut error = no_error();
-        let sent = self.serialize_aside(alloc, serializer, &mut error);
-        answer(sent, error)
+        answered!(error => self.serialize_aside(alloc, serializer, &mut error))
     }
 
     fn serialize_aside<S: Serializer>(

@@ -98,6 +98,24 @@ fn send_seq<S: Serializer>(
     send_items(items, alloc, serializer, error)
 }
 
+// A value of a sequence. A number, the commonest leaf, takes one call less.
+#[cycle(send)]
+#[inline(always)]
+fn send_item<S: Serializer>(
+    item: &Value<'_>,
+    alloc: Global,
+    serializer: &mut S,
+    error: &mut Error,
+) -> Sent
+    ensures { Sends S.step S.refuses (S.seen serializer.old) (loose_script (tree_of item.now))
+        (answer_of result error.new) (S.seen serializer.new) }
+{
+    match item {
+        Value::Number(number) => serialize_number(number, serializer, error),
+        other => send(other, alloc, serializer, error),
+    }
+}
+
 // The items of a sequence or a tuple, and its end.
 #[cycle(send)]
 fn send_items<S: Serializer>(
@@ -112,7 +130,7 @@ fn send_items<S: Serializer>(
 {
     for item in items {
         serialize_element(serializer, error)?;
-        send(item, alloc, serializer, error)?;
+        send_item(item, alloc, serializer, error)?;
     }
     end(serializer, error)
 }

@@ -14,7 +14,8 @@ use Rattle.content_build.proofs.grow.grow.Goals as goal
 
 pub loop-next-preserved : goal.loop-next-preserved
 loop-next-preserved c =
-    ap (read (row c.pop.new.self.items)) c.in_ok-grow_one.ensures
+    ap (λ es. read (row es) (grown_trees c.grow_one.new.grown.items)) c.trimmed-entries.ensures.items
+    ∙ ap (read (row c.pop.new.self.items)) c.in_ok-grow_one.ensures
     ∙ (sym (ap (λ l. read l (grown_trees c.loop-next.grown.items)) (ap row c.in-Some.ensures.items ∙ row-push c.pop.new.self.items c.in-Some.next) ∙ read-push (row c.pop.new.self.items) (entry_view c.in-Some.next) (grown_trees c.loop-next.grown.items))
     ∙ c.loop-next.invariant)
 

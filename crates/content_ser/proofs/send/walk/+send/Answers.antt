@@ -157,18 +157,18 @@ send_items-returns-in_err-serialize_element g t c =
     at_exit_aside _ _ c.from_residual.ensures.1 (rw (← xs.ensures.value) (c.loop-item.invariant _ _ (rw e
     (takes_err c.in_err-serialize_element.ensures))))
 
-pub send_items-returns-in_err-send : goal.send_items-returns-in_err-send
-send_items-returns-in_err-send g t c =
+pub send_items-returns-in_err-send_item : goal.send_items-returns-in_err-send_item
+send_items-returns-in_err-send_item g t c =
     let xs = c.deref-item-items in
     let e = drop_here xs.result.now c.loop-item.item-index c.item-item.result c.loop-item-test.true c.item-item.is in
-    at_exit_aside _ _ c.from_residual-in_err-send.ensures.1 (rw (← xs.ensures.value) (c.loop-item.invariant _ _ (rw e
-    (takes_then c.in_ok-serialize_element.ensures (sends_err _ c.in_err-send.ensures)))))
+    at_exit_aside _ _ c.from_residual-in_err-send_item.ensures.1 (rw (← xs.ensures.value) (c.loop-item.invariant _ _ (rw e
+    (takes_then c.in_ok-serialize_element.ensures (sends_err _ c.in_err-send_item.ensures)))))
 
 pub send_items-loop-item-preserved : goal.send_items-loop-item-preserved
 send_items-loop-item-preserved g t c = λ r new rest.
     let xs = c.deref-item-items in
     let e = drop_here xs.result.now c.loop-item.item-index c.item-item.result c.loop-item-test.true c.item-item.is in
-    c.loop-item.invariant r new (rw e (takes_then c.in_ok-serialize_element.ensures (sends_then c.in_ok-send.ensures rest)))
+    c.loop-item.invariant r new (rw e (takes_then c.in_ok-serialize_element.ensures (sends_then c.in_ok-send_item.ensures rest)))
 
 pub send_items-returns : goal.send_items-returns
 send_items-returns g t c =
