@@ -12,7 +12,7 @@ fn finding<O: Operations>(alloc: Global, line: &str) -> Result<Option<String>> {
     let operation = row.operation;
     let wanted = row.wanted;
     let got = answer_to::<O>(alloc, &row)?;
-    if got == unfold(alloc, wanted)? {
+    if got.as_str() == unfold(alloc, wanted)?.as_str() {
         Ok(None)
     } else {
         Ok(Some(format!(in alloc; "{operation}: got {got}, wanted {wanted}")?))

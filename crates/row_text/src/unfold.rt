@@ -2,10 +2,21 @@
 
 use crate::number::parse;
 use crate::stop::{Result, Stop};
+use content_tree::CowStr;
 use std::alloc::Global;
 
+/// The text with all that stands in double angles written out; one with nothing to write out takes
+/// no memory.
+pub fn unfold<'a>(alloc: Global, text: &'a str) -> Result<CowStr<'a>> {
+    if text.contains("<<") {
+        Ok(CowStr::Owned(written_out(alloc, text)?))
+    } else {
+        Ok(CowStr::Borrowed(text))
+    }
+}
+
 /// The text with all that stands in double angles written out.
-pub fn unfold(alloc: Global, text: &str) -> Result<String> {
+fn written_out(alloc: Global, text: &str) -> Result<String> {
     let mut out = String::new(alloc);
     for (place, piece) in text.split("<<").enumerate() {
         if place == 0 {
