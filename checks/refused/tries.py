@@ -136,7 +136,7 @@ def rows_of(program):
     sorts = {}
     for row in contents(f"{top}/crates/{program}/stdin").splitlines():
         fields = row.split(b"\t")
-        if len(row) < 300:
+        if len(row) < 300 and b"<<" not in row:
             # of what is asked or read, the request or the type as well
             is_read = program == "reading_rows" and len(fields) > 3
             sort = (fields[0], fields[2] if is_read else b"")

@@ -4,6 +4,7 @@ mod building;
 mod comparing;
 mod converting;
 mod copying;
+mod parts;
 mod printing;
 mod sending;
 
@@ -73,6 +74,11 @@ fn answer_tokens(alloc: Global, operation: &str, tokens: &mut Tokens<'_>) -> Res
         "unexpected_part" => printing::unexpected_part(alloc, tokens),
         "own" => copying::own(alloc, tokens),
         "copy" => copying::copy(alloc, tokens),
+        "own_parts" => parts::own(alloc, tokens),
+        "own_data" => parts::own_data(alloc, tokens),
+        "copy_parts" => parts::copy(alloc, tokens),
+        "copy_data" => parts::copy_data(alloc, tokens),
+        "copy_image_data" => parts::copy_image_data(alloc, tokens),
         "copy_image" => copying::image(alloc, tokens),
         "copy_expected" => copying::expected(alloc, tokens),
         "copy_kind" => copying::kind(alloc, tokens),

@@ -118,20 +118,21 @@ fn tree_here<'a>(alloc: Global, rest: &'a [Token]) -> Result<Option<Value<'a>>> 
     }
 }
 
-/// The first tree that stands in the source and is the one that is sought, if any.
+/// The last tree that stands in the source and is the one that is sought, if any: of many equal
+/// items the last is found at once.
 pub fn find_tree<'a>(
     source: &Source<'a>,
     flags: Flags,
     sought: &Sought,
 ) -> Result<Option<Value<'a>>> {
-    let mut rest: Tokens<'a> = Cursor::new(source.tokens);
-    for _ in source.tokens {
-        if let Some(tree) = tree_here(source.alloc, rest.rest())? {
+    let tokens: &'a [Token] = source.tokens;
+    for start in (0..tokens.len()).rev() {
+        let (_before, rest) = tokens.split_at(start);
+        if let Some(tree) = tree_here(source.alloc, rest)? {
             if is_sought(source.alloc, &tree, flags, sought)? {
                 return Ok(Some(tree));
             }
         }
-        rest.next()?;
     }
     Ok(None)
 }

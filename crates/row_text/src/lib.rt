@@ -16,3 +16,4 @@ pub mod show;
 pub mod stop;
 pub mod tokens;
 pub mod tree;
+pub mod unfold;

@@ -2,6 +2,7 @@
 
 use crate::plain::plain;
 use crate::stop::{Result, Stop};
+use crate::unfold::unfold;
 use std::alloc::Global;
 
 /// A worked case.
@@ -43,7 +44,8 @@ pub fn read_row(line: &str) -> Result<Row<'_>> {
 /// What the library answers to the row: where it refused for another cause than memory, `refused`
 /// and the text of that.
 pub fn answer_to<O: Operations>(alloc: Global, row: &Row<'_>) -> Result<String> {
-    match O::answer(alloc, row.operation, row.arguments) {
+    let arguments = unfold(alloc, row.arguments)?;
+    match O::answer(alloc, row.operation, arguments.as_str()) {
         Err(Stop::RefusesCall(kind)) => {
             let text = plain(alloc, &kind)?;
             Ok(format!(in alloc; "refused {text}")?)

@@ -2,6 +2,7 @@
 
 use crate::row::{Operations, answer_to, read_row};
 use crate::stop::{Result, Stop};
+use crate::unfold::unfold;
 use std::alloc::{AllocError, Global};
 use std::io;
 
@@ -11,7 +12,7 @@ fn finding<O: Operations>(alloc: Global, line: &str) -> Result<Option<String>> {
     let operation = row.operation;
     let wanted = row.wanted;
     let got = answer_to::<O>(alloc, &row)?;
-    if got.as_str() == wanted {
+    if got.as_str() == unfold(alloc, wanted)?.as_str() {
         Ok(None)
     } else {
         Ok(Some(format!(in alloc; "{operation}: got {got}, wanted {wanted}")?))

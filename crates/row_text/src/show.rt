@@ -47,7 +47,7 @@ pub fn write_text(out: &mut String, borrowed: char, text: &CowStr<'_>) -> Result
 }
 
 /// Adds bytes and their case.
-fn write_bytes(out: &mut String, bytes: &CowBytes<'_>) -> Result {
+pub fn write_bytes(out: &mut String, bytes: &CowBytes<'_>) -> Result {
     out.push_str(match bytes {
         CowBytes::Borrowed(_) => "b[",
         CowBytes::Owned(_) => "o[",
@@ -137,32 +137,36 @@ fn write_fields(out: &mut String, fields: &Vec<(CowStr<'static>, Value<'_>)>) ->
     out.push('}')
 }
 
+/// Adds a struct.
 #[cycle(show)]
-fn write_struct(out: &mut String, inner: &Struct<'_>) -> Result {
+pub fn write_struct(out: &mut String, inner: &Struct<'_>) -> Result {
     out.push_str("Struct(")?;
     write_text(out, 's', &inner.name)?;
-    write_data(out, &inner.data)
+    out.push_str(", ")?;
+    write_data(out, &inner.data)?;
+    out.push(')')
 }
 
+/// Adds a variant of an enum.
 #[cycle(show)]
-fn write_enum(out: &mut String, inner: &Enum<'_>) -> Result {
+pub fn write_enum(out: &mut String, inner: &Enum<'_>) -> Result {
     out.push_str("Enum(")?;
     write_text(out, 's', &inner.name)?;
     let index = inner.variant_index;
     write!(out, ", {index}, ")?;
     write_text(out, 's', &inner.variant)?;
-    write_data(out, &inner.data)
+    out.push_str(", ")?;
+    write_data(out, &inner.data)?;
+    out.push(')')
 }
 
-/// Adds what a struct or a variant holds, and the bracket that closes it.
+/// Adds what a struct or a variant holds.
 #[cycle(show)]
-fn write_data(out: &mut String, data: &Data<'_>) -> Result {
-    out.push_str(", ")?;
+pub fn write_data(out: &mut String, data: &Data<'_>) -> Result {
     match data {
-        Data::Unit => out.push_str("Unit")?,
-        Data::NewType { value } => write_held(out, "NewType(", value)?,
-        Data::Tuple { values } => write_items(out, "Tuple[", values)?,
-        Data::Struct { fields } => write_fields(out, fields)?,
+        Data::Unit => out.push_str("Unit"),
+        Data::NewType { value } => write_held(out, "NewType(", value),
+        Data::Tuple { values } => write_items(out, "Tuple[", values),
+        Data::Struct { fields } => write_fields(out, fields),
     }
-    out.push(')')
 }

@@ -74,15 +74,31 @@ fn read_holder<'de, 'n: 'de>(
         "Vec<()>" => read_as::<Vec<()>>(alloc, from),
         "Vec<bool>" => read_as::<Vec<bool>>(alloc, from),
         "Vec<u8>" => read_as::<Vec<u8>>(alloc, from),
+        "Vec<i16>" => read_as::<Vec<i16>>(alloc, from),
+        "BTreeMap<String, u8>" => read_map::<String, u8>(alloc, from),
+        "BTreeMap<String, Vec<u8>>" => read_map::<String, Vec<u8>>(alloc, from),
+        "BTreeMap<u8, bool>" => read_map::<u8, bool>(alloc, from),
+        "BTreeMap<u8, u8>" => read_map::<u8, u8>(alloc, from),
+        "BTreeMap<i8, i8>" => read_map::<i8, i8>(alloc, from),
+        _ => read_tuple(alloc, typ, from),
+    }
+}
+
+/// The value of a tuple's type.
+fn read_tuple<'de, 'n: 'de>(
+    alloc: Global,
+    typ: &str,
+    from: Deserializer<'de, 'n>,
+) -> Result<String> {
+    match typ {
         "(bool,)" => read_as::<(bool,)>(alloc, from),
+        "(u8,)" => read_as::<(u8,)>(alloc, from),
+        "(bool, bool)" => read_as::<(bool, bool)>(alloc, from),
+        "(bool, usize)" => read_as::<(bool, usize)>(alloc, from),
         "(u8, u8)" => read_as::<(u8, u8)>(alloc, from),
         "(u8, bool)" => read_as::<(u8, bool)>(alloc, from),
         "(bool, (), u8)" => read_as::<(bool, (), u8)>(alloc, from),
         "(u8, u8, u8, u8)" => read_as::<(u8, u8, u8, u8)>(alloc, from),
-        "BTreeMap<String, u8>" => read_map::<String, u8>(alloc, from),
-        "BTreeMap<String, Vec<u8>>" => read_map::<String, Vec<u8>>(alloc, from),
-        "BTreeMap<u8, bool>" => read_map::<u8, bool>(alloc, from),
-        "BTreeMap<i8, i8>" => read_map::<i8, i8>(alloc, from),
         _ => Err(Stop::NoRow),
     }
 }
