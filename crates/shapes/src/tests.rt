@@ -12,18 +12,14 @@ fn a_point_comes_back(rt: HostRuntime) -> Result<(), Fail> {
     let value = Serializer::new().serialize(alloc, &point)?;
     let text = format!(in alloc; "{}", value.display())?;
     assert!(rt; text.as_str() == "Point { x: 1i32, y: 2i32 }");
-    let read: Point = Deserializer::new(value).deserialize(alloc)?;
-    assert!(rt; read == point);
     assert!(rt; round_trip(alloc, &point, false, false)? == point);
     Ok(())
 }
 
 #[test]
-fn a_shape_comes_back(rt: HostRuntime) -> Result<(), Fail> {
+fn a_shape_is_read(rt: HostRuntime) -> Result<(), Fail> {
     let alloc = rt.alloc();
     let value = Serializer::new().serialize(alloc, &Shape::Ring(3))?;
-    let text = format!(in alloc; "{}", value.display())?;
-    assert!(rt; text.as_str() == "Shape::Ring(3u32)");
     let read: Shape = Deserializer::new(value).deserialize(alloc)?;
     assert!(rt; read == Shape::Ring(3));
     Ok(())
