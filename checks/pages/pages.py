@@ -210,9 +210,10 @@ def check_readme():
     """The first command of the readme writes what its comment says."""
     word, block, _ = next(it for it in blocks_of(read(f"{TOP}/README.md")) if it[0] == "sh")
     command, _, said = block.split("\n")[0].partition("#")
-    wrote, status, _ = run(["bash", "-c", command], f"{ROOM}/serde-content")
+    wrote, status, errors = run(["bash", "-c", command], f"{ROOM}/serde-content")
     if status or wrote.strip() != said.rpartition(": ")[2]:
-        fault("README.md", f"{command.strip()} writes {wrote.strip()} with status {status}")
+        ended = f"writes {wrote.strip()} and ends with status {status}: {errors.strip()[-300:]}"
+        fault("README.md", f"{command.strip()} {ended}")
     for path in re.findall(r"^sh (\S+)", block, re.M):
         if not os.path.isfile(f"{TOP}/{path}"):
             fault("README.md", f"{path} isn't there")
