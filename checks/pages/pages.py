@@ -132,6 +132,12 @@ def run(words, folder, given=b""):
     return ran.stdout.decode(), ran.returncode, ran.stderr.decode()
 
 
+def try_unproved(words, folder):
+    """A run of `rt try`; once more where it judged nothing, which is its status 2: it has a limit of time."""
+    wrote, status, errors = run(words, folder)
+    return run(words, folder) if status == 2 else (wrote, status, errors)
+
+
 def check_own_types():
     page, blocks = "docs/OWN_TYPES.md", blocks_of(read(f"{TOP}/docs/OWN_TYPES.md"))
     mine, made = f"{ROOM}/mine", f"{ROOM}/mine/crates/shapes"
@@ -166,7 +172,7 @@ def check_own_types():
     for line in read(f"{mine}/crates.txt").splitlines():
         if line not in read(f"{TOP}/crates.txt").splitlines():
             fault(page, f"crates.txt has no line: {line}")
-    _, status, said = run(["rt", "try", "--test"], made)
+    _, status, said = try_unproved(["rt", "try", "--test"], made)
     if status:
         fault(page, f"rt try --test ends with status {status} in the crate that it makes: {said[-300:]}")
     tests = len(re.findall(r"^#\[test\]$", read(f"{made}/src/tests.rt"), re.M))
@@ -210,7 +216,7 @@ def check_readme():
     """The first command of the readme writes what its comment says."""
     word, block, _ = next(it for it in blocks_of(read(f"{TOP}/README.md")) if it[0] == "sh")
     command, _, said = block.split("\n")[0].partition("#")
-    wrote, status, errors = run(["bash", "-c", command], f"{ROOM}/serde-content")
+    wrote, status, errors = try_unproved(["bash", "-c", command], f"{ROOM}/serde-content")
     if status or wrote.strip() != said.rpartition(": ")[2]:
         ended = f"writes {wrote.strip()} and ends with status {status}: {errors.strip()[-300:]}"
         fault("README.md", f"{command.strip()} {ended}")
