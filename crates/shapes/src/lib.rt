@@ -1,4 +1,4 @@
-//! A struct and an enum that go out as calls, are read, and come back.
+//! A struct and an enum that go out as calls and are read back.
 #![tactic(auto)]
 
 pub mod point;

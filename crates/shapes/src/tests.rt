@@ -1,4 +1,4 @@
-//! Both types as trees, and back.
+//! Both types as trees, and read back.
 
 use crate::point::Point;
 use crate::shape::Shape;
