@@ -4,6 +4,8 @@
 
 mod building;
 mod reading;
+#[cfg(test)]
+mod readme;
 mod returning;
 
 pub use building::{copied, two_bytes, unit_in_a_sequence};

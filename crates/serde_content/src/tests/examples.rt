@@ -1,4 +1,4 @@
-//! The examples of the readme.
+//! Lists of calls, trees and typed data, in a few lines each.
 
 use crate::ser::{Call, Recorder, Serialize, from_calls};
 use crate::{Deserializer, ErrorKind, Number, Serializer, Value};

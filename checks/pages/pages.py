@@ -1,0 +1,241 @@
+#!/usr/bin/env python3
+"""pages.py TOP ROOM: the comparisons of checks/pages.sh. TOP is the repository, as `rt ci` leaves it; ROOM an empty
+folder but for a fresh copy of it, serde-content."""
+
+import filecmp
+import glob
+import os
+import re
+import subprocess
+import sys
+import textwrap
+
+TOP, ROOM = map(os.path.abspath, sys.argv[1:3])
+CODE = ("rt", "antt", "md", "sh", "py", "txt", "edit")
+faults = []
+
+
+def fault(page, text):
+    faults.append(f"{page}: {text}")
+
+
+def read(path):
+    with open(path, encoding="utf-8") as it:
+        return it.read()
+
+
+def files_below(top):
+    """The files of the repository, by their paths in it."""
+    found = []
+    for at, folders, names in os.walk(top):
+        folders[:] = [it for it in folders if it not in ("out", ".git")]
+        found += [os.path.relpath(f"{at}/{it}", top) for it in names]
+    return found
+
+
+FILES = files_below(TOP)
+PAGES = [it for it in FILES if re.fullmatch(r"[A-Z]+\.md|docs/\w+\.md|(bench|crates/\w+)/README\.md", it)]
+CRATES = re.findall(r"^(\w+):", read(f"{TOP}/crates.txt"), re.M)
+
+
+def blocks_of(text):
+    """The fenced blocks: the words behind the fence, the text, and the text of the page before each, from the block above."""
+    found, after = [], 0
+    for it in re.finditer(r"^```(\w*)\n(.*?)^```$", text, re.M | re.S):
+        found.append((it[1], it[2], text[after : it.start()]))
+        after = it.end()
+    return found
+
+
+def prose_of(text):
+    return re.sub(r"^```.*?^```$", "", text, flags=re.M | re.S)
+
+
+def anchors_of(text):
+    """The anchors of a page's headings."""
+    heads = re.findall(r"^#+ (.*)$", prose_of(text), re.M)
+    return {re.sub(r"[^\w\- ]", "", it.lower()).replace(" ", "-") for it in heads}
+
+
+def check_links():
+    linked = {}
+    for page in PAGES:
+        linked[page] = set()
+        for to in re.findall(r"\]\(([^)\s]+)\)", prose_of(read(f"{TOP}/{page}"))):
+            if "://" in to:
+                continue
+            path, _, anchor = to.partition("#")
+            path = os.path.normpath(os.path.join(os.path.dirname(page), path)) if path else page
+            if not os.path.exists(f"{TOP}/{path}"):
+                fault(page, f"a link to {to}, which isn't there")
+            elif anchor and anchor not in anchors_of(read(f"{TOP}/{path}")):
+                fault(page, f"a link to {to}, a heading that isn't there")
+            linked[page].add(path)
+    reached, found = {"README.md"}, ["README.md"]
+    for page in found:
+        found += [it for it in linked[page] if it in linked and it not in reached]
+        reached |= linked[page]
+    for page in {*PAGES} - reached:
+        fault(page, "no way of links leads here from README.md")
+
+
+def check_names():
+    """A name in code type that is a file's, or a folder's with a slash at its end, is the end of some path."""
+    ends = {f"/{it}" for it in FILES} | {f"/{os.path.dirname(it)}/" for it in FILES}
+    for at in [*ends]:
+        while "/" in at[1:-1]:
+            at = at[: at.rstrip("/").rfind("/")] + "/"
+            ends.add(at)
+    for page in PAGES:
+        for name in re.findall(r"`([\w./+-]+)`", prose_of(read(f"{TOP}/{page}"))):
+            is_file = name.rpartition(".")[2] in CODE and "." in name
+            if not (is_file or name.endswith("/")) or re.search(r"\b[A-Z]{4,}\b(?!\.md)", name):
+                continue
+            if not any(it.endswith("/" + name) for it in ends):
+                fault(page, f"{name} is no file of the repository")
+
+
+def undented(lines):
+    return textwrap.dedent("\n".join(lines)).split("\n")
+
+
+def stands_in(block, lines):
+    """Whether the block's paragraphs stand in these lines, one after another."""
+    at = 0
+    for paragraph in [it.split("\n") for it in re.split(r"\n\n+", textwrap.dedent(block).strip("\n"))]:
+        size, paragraph = len(paragraph), undented(paragraph)
+        while at + size <= len(lines) and undented(lines[at : at + size]) != paragraph:
+            at += 1
+        if at + size > len(lines):
+            return False
+        at += size
+    return True
+
+
+def check_blocks():
+    texts = []
+    for crate in CRATES:
+        for file in FILES:
+            if file.startswith(f"crates/{crate}/") and file.endswith((".rt", ".antt")):
+                texts.append(read(f"{TOP}/{file}").split("\n"))
+    for page in PAGES:
+        for word, block, _ in blocks_of(read(f"{TOP}/{page}")):
+            if word in ("rust", "text") and not any(stands_in(block, it) for it in texts):
+                first = block.strip().split("\n")[0]
+                fault(page, f"no proved crate has the block that begins with: {first}")
+
+
+def run(words, folder, given=b""):
+    """What a command writes to its standard output, and its status."""
+    how = {"cwd": folder, "input": given, "stdout": subprocess.PIPE, "stderr": subprocess.PIPE}
+    ran = subprocess.run(words, check=False, timeout=600, **how)
+    return ran.stdout.decode(), ran.returncode, ran.stderr.decode()
+
+
+def try_unproved(words, folder):
+    """A run of `rt try`; once more where it judged nothing, which is its status 2: it has a limit of time."""
+    wrote, status, errors = run(words, folder)
+    return run(words, folder) if status == 2 else (wrote, status, errors)
+
+
+def check_own_types():
+    page, blocks = "docs/OWN_TYPES.md", blocks_of(read(f"{TOP}/docs/OWN_TYPES.md"))
+    mine, made = f"{ROOM}/mine", f"{ROOM}/mine/crates/shapes"
+    folder, file = ROOM, None
+    for word, block, before in blocks:
+        named = re.findall(r"`(crates\.txt|src/\w+\.rt)`", before)
+        if word == "sh":
+            _, status, said = run(["bash", "-euc", block], folder)
+            if status:
+                return fault(page, f"a block of commands fails: {said.strip()}")
+            folder, file = mine, None
+        elif word == "" and named:
+            with open(f"{mine}/{named[-1]}", "w", encoding="utf-8") as it:
+                it.write(block)
+        elif word == "rust":
+            is_part = re.search(r"^## (The parts|A serialiser)$", before, re.M)
+            file = None if is_part else named[-1] if named else file
+            if file:
+                path = f"{made}/{file}"
+                rest = ("\n" if named == [] else "") + block
+                with open(path, "a" if named == [] else "w", encoding="utf-8") as it:
+                    it.write(rest)
+    ours = {it for it in FILES if it.startswith("crates/shapes/")}
+    theirs = {f"crates/shapes/{it}" for it in files_below(made)}
+    for it in sorted(ours ^ theirs):
+        fault(page, f"{it} is in {'the repository' if it in ours else 'what the page makes'} alone")
+    for it in sorted(ours & theirs):
+        if not filecmp.cmp(f"{TOP}/{it}", f"{mine}/{it}", shallow=False):
+            fault(page, f"what the page makes isn't {it}")
+    if glob.glob(f"{mine}/BUILD.bazel"):
+        fault(page, "it leaves a BUILD.bazel at the top")
+    for line in read(f"{mine}/crates.txt").splitlines():
+        if line not in read(f"{TOP}/crates.txt").splitlines():
+            fault(page, f"crates.txt has no line: {line}")
+    _, status, said = try_unproved(["rt", "try", "--test"], made)
+    if status:
+        fault(page, f"rt try --test ends with status {status} in the crate that it makes: {said[-300:]}")
+    tests = len(re.findall(r"^#\[test\]$", read(f"{made}/src/tests.rt"), re.M))
+    return tests or fault(page, "the crate that it makes has no test")
+
+
+def check_program():
+    """The examples of lines: tables with a column 'Lines ..' and one 'Answer', and commands after a $."""
+    program, tried = f"{TOP}/crates/content_cli/out/content_cli", 0
+    for page in PAGES:
+        heads = None
+        for line in prose_of(read(f"{TOP}/{page}")).split("\n"):
+            cells = [it.strip() for it in line.strip("|").split("|")] if line.startswith("|") else None
+            if cells is None or heads is None:
+                heads = cells
+                continue
+            at = next((i for i, it in enumerate(heads) if it.startswith("Lines")), None)
+            if at is None or "Answer" not in heads or set("".join(cells)) <= {"-"}:
+                continue
+            lines = re.findall(r"`([^`]*)`", cells[at])
+            if "after `map`, before `end`" in heads[at]:
+                lines = ["map", *lines, "end"]
+            wanted = cells[heads.index("Answer")].strip("`")
+            wrote, _, _ = run([program], TOP, "".join(f"{it}\n" for it in lines).encode())
+            tried += 1
+            if wrote != f"{wanted}\n":
+                fault(page, f"{' '.join(lines)} gives {wrote.strip()}, and not {wanted}")
+        for word, block, _ in blocks_of(read(f"{TOP}/{page}")):
+            if word == "" and block.startswith("$ "):
+                command, _, wanted = block[2:].partition("\n")
+                wrote, _, _ = run(["bash", "-c", command], TOP)
+                tried += 1
+                if wrote != wanted:
+                    fault(page, f"{command} gives {wrote.strip()}, and not {wanted.strip()}")
+    if not tried:
+        fault("docs/CALLS.md", "no example of lines was found")
+    return tried
+
+
+def check_readme():
+    """The first command of the readme writes what its comment says."""
+    word, block, _ = next(it for it in blocks_of(read(f"{TOP}/README.md")) if it[0] == "sh")
+    command, _, said = block.split("\n")[0].partition("#")
+    wrote, status, errors = try_unproved(["bash", "-c", command], f"{ROOM}/serde-content")
+    if status or wrote.strip() != said.rpartition(": ")[2]:
+        ended = f"writes {wrote.strip()} and ends with status {status}: {errors.strip()[-300:]}"
+        fault("README.md", f"{command.strip()} {ended}")
+    for path in re.findall(r"^sh (\S+)", block, re.M):
+        if not os.path.isfile(f"{TOP}/{path}"):
+            fault("README.md", f"{path} isn't there")
+
+
+def main():
+    check_links()
+    check_names()
+    check_blocks()
+    tried = check_program()
+    check_readme()
+    check_own_types()
+    for it in faults:
+        print(it)
+    print(f"{len(PAGES)} pages, {tried} examples of lines: {len(faults)} faults")
+    sys.exit(1 if faults else 0)
+
+
+main()

@@ -1,0 +1,26 @@
+//! Both types as trees, and read back.
+
+use crate::point::Point;
+use crate::shape::Shape;
+use serde_content::{Deserializer, Serializer, round_trip};
+use std::test::Fail;
+
+#[test]
+fn a_point_comes_back(rt: HostRuntime) -> Result<(), Fail> {
+    let alloc = rt.alloc();
+    let point = Point { x: 1, y: 2 };
+    let value = Serializer::new().serialize(alloc, &point)?;
+    let text = format!(in alloc; "{}", value.display())?;
+    assert!(rt; text.as_str() == "Point { x: 1i32, y: 2i32 }");
+    assert!(rt; round_trip(alloc, &point, false, false)? == point);
+    Ok(())
+}
+
+#[test]
+fn a_shape_is_read(rt: HostRuntime) -> Result<(), Fail> {
+    let alloc = rt.alloc();
+    let value = Serializer::new().serialize(alloc, &Shape::Ring(3))?;
+    let read: Shape = Deserializer::new(value).deserialize(alloc)?;
+    assert!(rt; read == Shape::Ring(3));
+    Ok(())
+}
