@@ -1,7 +1,6 @@
 //! Calls on the entries and the open heads of a tape.
 
-ghost use Rattle.std.specs.Prelude.{◌≡◌, ◌↔◌, ◌<◌, ◌++◌, ◌∷◌, [], IsTrue, IfOk, IfErr, Some};
-ghost use Rattle.std.specs.Prelude.{vec_len, vec_capacity};
+ghost use Rattle.std.specs.Prelude.{◌≡◌, ◌↔◌, ◌∷◌, [], IsTrue, IfOk, Some};
 ghost use Rattle.content_ser.specs.Calls.Head.{head_of};
 ghost use Rattle.content_ser.specs.Grammar.Token as token;
 ghost use Rattle.content_build.specs.Partial.{step_token};
@@ -11,7 +10,6 @@ ghost use Rattle.content_build.specs.Inner.Sound.{meaning, IsSound};
 ghost use Rattle.content_build.specs.Inner.Steps.{IsDue, IsIdle, Opens};
 ghost use Rattle.content_build.specs.Inner.Taken.{TakenTo};
 ghost use Rattle.content_build.specs.Inner.Tokens.{announcement_view, leaf_tree, token_view};
-ghost use Rattle.content_build.specs.declared.refusal.Refusal.TheVariants as refusal;
 
 use crate::node::{Entry, Leaf, Node, OpenHead, Sort, Waits, headed, number_leaf};
 use crate::parts::{Row, Wrap};
@@ -63,32 +61,6 @@ fn whole_node(alloc: Global, whole: Whole<'_>) -> Result<Node, AllocError>
     }
 }
 
-/// Makes room for an entry. It is seldom done, and so stands outside the calls.
-#[cold]
-#[inline(never)]
-fn make_room(entries: &mut Vec<Entry>) -> Taken
-    ensures items { entries.new.items ≡ entries.old.items }
-    ensures room { IfOk result (λ _. vec_len entries.new < vec_capacity entries.new) }
-    ensures memory { IfErr result (λ refused. refused ≡ refusal.NoMemory) }
-{
-    entries.reserve(1)?;
-    Ok(())
-}
-
-/// An entry more.
-#[inline(always)]
-fn add(entries: &mut Vec<Entry>, node: Node, size: usize) -> Taken
-    ensures items { IfOk result (λ _. entries.new.items
-        ≡ entries.old.items ++ record { node = node; size = size } ∷ []) }
-    ensures memory { IfErr result (λ refused. refused ≡ refusal.NoMemory) }
-{
-    if entries.len() == entries.capacity() {
-        make_room(entries)?;
-    }
-    entries.push_reserved(Entry { node, size });
-    Ok(())
-}
-
 /// A call whose tree is whole.
 #[inline(always)]
 fn put(
@@ -107,7 +79,7 @@ fn put(
         return Err(Refusal::Misplaced);
     }
     let node = whole_node(alloc, whole)?;
-    add(entries, node, 1)?;
+    entries.push(Entry { node, size: 1 })?;
     settle(entries, heads)
 }
 
@@ -123,7 +95,7 @@ fn open(entries: &mut Vec<Entry>, heads: &mut Vec<OpenHead>, node: Node, waits: 
         return Err(Refusal::Misplaced);
     }
     let at = entries.len();
-    add(entries, node, 0)?;
+    entries.push(Entry { node, size: 0 })?;
     heads.push(OpenHead { at, last: 0, waits })?;
     Ok(())
 }
@@ -160,7 +132,7 @@ fn announce(entries: &mut Vec<Entry>, heads: &mut Vec<OpenHead>, item: Announcem
             Waits::InRecord => {
                 head.waits = Waits::Field;
                 let node = Node::Key(key);
-                add(entries, node, 1)?;
+                entries.push(Entry { node, size: 1 })?;
                 Ok(())
             }
             _ => Err(Refusal::Misplaced),

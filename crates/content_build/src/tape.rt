@@ -48,7 +48,6 @@ impl Tape {
     }
 
     /// Whether the call keeps the limit.
-    #[inline(always)]
     fn fits(&self, call: &Token<'_>) -> bool
         ensures { IfSome (partial_tree self.now) (λ partial.
             result ≡ limits.fits self.now.limit (partial_open_count partial)

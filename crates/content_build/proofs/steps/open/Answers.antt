@@ -16,19 +16,19 @@ returns-then-not-is_due c call o =
     let (next, begins, st) = o [] in
     subst (λ n. TakenTo n (Err refusal.Misplaced) es hs) (sym (late_head (meaning es hs) call next begins late)) refl
 
-pub returns-in_err-add : goal.returns-in_err-add
-returns-in_err-add c call o =
-    let (ps, e) = the_slots (meaning c.args.entries.now.items c.args.heads.now.items) (c.if-not-is_due.ensures.0 refl) in
-    let (next, begins, st) = o ps in
-    let step = ap (λ x. step_token x call) e ∙ begins in
-    subst (λ n. TakenTo n c.from_residual.result c.add.new.entries.items c.args.heads.now.items) (sym step) (search rules)
-
 pub returns-in_err-push : goal.returns-in_err-push
 returns-in_err-push c call o =
     let (ps, e) = the_slots (meaning c.args.entries.now.items c.args.heads.now.items) (c.if-not-is_due.ensures.0 refl) in
     let (next, begins, st) = o ps in
     let step = ap (λ x. step_token x call) e ∙ begins in
-    subst (λ n. TakenTo n c.from_residual-in_err-push.result c.add.new.entries.items c.push.new.self.items) (sym step) (search rules)
+    subst (λ n. TakenTo n c.from_residual.result c.push.new.self.items c.args.heads.now.items) (sym step) (search rules)
+
+pub returns-in_err-push-2 : goal.returns-in_err-push-2
+returns-in_err-push-2 c call o =
+    let (ps, e) = the_slots (meaning c.args.entries.now.items c.args.heads.now.items) (c.if-not-is_due.ensures.0 refl) in
+    let (next, begins, st) = o ps in
+    let step = ap (λ x. step_token x call) e ∙ begins in
+    subst (λ n. TakenTo n c.from_residual-in_err-push-2.result c.push.new.self.items c.push-2.new.self.items) (sym step) (search rules)
 
 pub returns : goal.returns
 returns c call o =
@@ -36,8 +36,8 @@ returns c call o =
     let hs = c.args.heads.now.items in
     let (ps, e) = the_slots (meaning es hs) (c.if-not-is_due.ensures.0 refl) in
     let (next, begins, st) = o ps in
-    took (meaning es hs) call c.add.new.entries.items c.push.new.self.items (
+    took (meaning es hs) call c.push.new.self.items c.push-2.new.self.items (
       next,
       ap (λ x. step_token x call) e ∙ begins,
-      stands_open ps es c.add.new.entries.items hs c.push.new.self.items _ _ next (subst (Stands es hs) e c.requires) st refl c.in_ok-add.ensures.items (c.len-at.ensures ∙ c.args.entries.now.ok.0) refl c.in_ok-push.ensures.items,
+      stands_open ps es c.push.new.self.items hs c.push-2.new.self.items _ _ next (subst (Stands es hs) e c.requires) st refl c.in_ok-push.ensures.items (c.len-at.ensures ∙ c.args.entries.now.ok.0) refl c.in_ok-push-2.ensures.items,
     )

@@ -13,7 +13,7 @@ settle-requires c =
     let hs = c.args.heads.now.items in
     let t = leaf_tree c.args.whole in
     let (ps, e) = the_slots (meaning es hs) (c.if-not-is_due.ensures.0 refl) in
-    (ps, t, waiting_whole ps es c.add.new.entries.items hs _ t (subst (Stands es hs) e c.requires) c.in_ok-node.ensures refl c.in_ok-add.ensures.items)
+    (ps, t, waiting_whole ps es c.push.new.self.items hs _ t (subst (Stands es hs) e c.requires) c.in_ok-node.ensures refl c.in_ok-push.ensures.items)
 
 pub returns : goal.returns
 returns c =
@@ -22,4 +22,4 @@ returns c =
     let t = leaf_tree c.args.whole in
     let (ps, e) = the_slots (meaning es hs) (c.if-not-is_due.ensures.0 refl) in
     subst (λ s. TakenTo (step_token s (token.leaf t)) c.settle.result c.settle.new.entries.items c.settle.new.heads.items) (sym e)
-    (c.settle.ensures ps t (waiting_whole ps es c.add.new.entries.items hs _ t (subst (Stands es hs) e c.requires) c.in_ok-node.ensures refl c.in_ok-add.ensures.items))
+    (c.settle.ensures ps t (waiting_whole ps es c.push.new.self.items hs _ t (subst (Stands es hs) e c.requires) c.in_ok-node.ensures refl c.in_ok-push.ensures.items))
