@@ -56,8 +56,8 @@ impl<'v> Builder<'v> {
         Builder::within(alloc, human_readable, None)
     }
 
-    /// A builder to which no call was made, within a limit on how deep trees nest, which is at least
-    /// 1. It takes no memory. (Ours.)
+    /// A builder to which no call was made, within a limit on how deep trees nest, which is at
+    /// least 1. It takes no memory. (Ours.)
     ///
     /// The tree of the whole list has depth 1, and a tree inside another that one's depth plus 1;
     /// the trees of values that are dropped count too. A call that would pass the limit answers

@@ -121,8 +121,8 @@ fn read_tuple_struct<'a>(text: &str) -> Option<Call<'a>>
 }
 
 fn read_tuple_variant<'a>(text: &str) -> Option<Call<'a>>
-    ensures { Spells result (option_map (λ p. event.tuple_variant p.0.name p.0.index p.0.variant p.1)
-        (variant_length_of text.now)) }
+    ensures { Spells result (option_map (λ p. event.tuple_variant p.0.name p.0.index p.0.variant
+        p.1) (variant_length_of text.now)) }
 {
     let (
         Variant {
