@@ -3,7 +3,8 @@ ghost use Rattle.std.specs.Prelude.{◌≡◌, true, IfOk, IfErr};
 ghost use Rattle.content_tree.specs.Errors.Kind.{IsOutOfMemory};
 ghost use Rattle.content_tree.specs.Values.Text.{text_of};
 ghost use Rattle.content_tree.specs.Values.Value.{tree_of};
-ghost use Rattle.content_de.specs.Sources.Origin.{of_identifier, plain_flags, tree_under};
+ghost use Rattle.content_de.specs.Sources.Origin.{of_tree, of_identifier, IsIdentifier};
+ghost use Rattle.content_de.specs.Sources.Origin.{plain_flags, tree_under};
 ghost use Rattle.content_de.specs.Sources.Origin.{subject_under};
 ghost use Rattle.content_de.specs.Sources.Deserializer.{flags_of, subject};
 
@@ -112,6 +113,28 @@ impl<'de, 'n> Deserializer<'de, 'n> {
             source,
             settings: self.settings,
         })
+    }
+
+    /// The value that is read, without the flags. Where a name is read, the deserializer comes
+    /// back as it was: no value is there. It takes no memory.
+    pub fn into_value(self) -> std::result::Result<NamedValue<'de, 'n>, Deserializer<'de, 'n>>
+        ensures value { IfOk result (λ v. (subject self.entry).origin ≡ of_tree (tree_of v)) }
+        ensures name { IfErr result (λ d. IsIdentifier (subject self.entry).origin) }
+        ensures rest { IfErr result (λ d. subject d ≡ subject self.entry) }
+    {
+        match self {
+            Deserializer {
+                source: Source::Tree(value),
+                settings: _,
+            } => Ok(value),
+            Deserializer {
+                source: Source::Identifier { name, index },
+                settings,
+            } => Err(Deserializer {
+                source: Source::Identifier { name, index },
+                settings,
+            }),
+        }
     }
 
     /// A value inside another, under its flags.

@@ -1,5 +1,5 @@
 -- What is read: a tree, or an identifier, which is the name of a field or a variant with its index.
-use Rattle.std.specs.Prelude.{ℕ, Bool, true, false}
+use Rattle.std.specs.Prelude.{ℕ, Bool, true, false, ⊤}
 use Rattle.content_tree.specs.Values.Text.{Text}
 use Rattle.content_tree.specs.Values.Tree.{Tree}
 use Rattle.content_tree.specs.Images.Image.{Image, image, identifier}
@@ -8,6 +8,11 @@ use Rattle.content_tree.specs.Images.Image.{Image, image, identifier}
 pub data Origin : Type 0 where
   of_tree : Tree → Origin
   of_identifier : Text → ℕ → Origin
+
+-- an identifier, and no tree
+abbrev pub IsIdentifier : Origin → Type 0
+IsIdentifier (of_tree t) = ⊥
+IsIdentifier (of_identifier n i) = ⊤
 
 -- the image of what is read
 abbrev pub origin_image : Origin → Image
