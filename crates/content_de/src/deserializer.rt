@@ -122,15 +122,10 @@ impl<'de, 'n> Deserializer<'de, 'n> {
         ensures name { IfErr result (λ d. IsIdentifier (subject self.entry).origin) }
         ensures rest { IfErr result (λ d. subject d ≡ subject self.entry) }
     {
-        match self {
-            Deserializer {
-                source: Source::Tree(value),
-                settings: _,
-            } => Ok(value),
-            Deserializer {
-                source: Source::Identifier { name, index },
-                settings,
-            } => Err(Deserializer {
+        let Deserializer { source, settings } = self;
+        match source {
+            Source::Tree(value) => Ok(value),
+            Source::Identifier { name, index } => Err(Deserializer {
                 source: Source::Identifier { name, index },
                 settings,
             }),
