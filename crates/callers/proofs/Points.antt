@@ -13,7 +13,7 @@ use Rattle.content_ser.specs.Calls.Event.{Event}
 use Rattle.content_ser.specs.Calls.Head.{of_struct}
 use Rattle.content_ser.specs.Grammar.Spells.{SpellsWhole, spells_record, spells_leaf, fields_more}
 use Rattle.content_ser.specs.Grammar.Spells.{fields_end}
-use Rattle.content_de.specs.Sources.Origin.{Subject, plain_flags, tree_under}
+use Rattle.content_de.specs.Sources.Origin.{Subject, no_flags, tree_under}
 use Rattle.content_de.specs.Outcomes.{taken}
 use Rattle.content_de.specs.Requests.Numbers.{number_from}
 use Rattle.content_de.specs.Reads.Read.{Gives, Reads}
@@ -54,11 +54,11 @@ abbrev make_point : (x y : ℤ) → Point
 make_point x y = record { x = x; y = y }
 
 -- what is read of the tree of a point
-pub read_back : (x y : ℤ) (refusal : Option Cause) (r : Result Point Error) (s : Subject) (t : Tree) → s ≡ tree_under plain_flags t → t ≡ point_tree x y
+pub read_back : (x y : ℤ) (refusal : Option Cause) (r : Result Point Error) (s : Subject) (t : Tree) → s ≡ tree_under no_flags t → t ≡ point_tree x y
     → Reads refusal (PointGives s) r → IfOk r (λ p. p ≡ make_point x y)
 read_back x y refusal r s t same spelled reads =
-    read r (subst (λ u. Reads refusal (PointGives u) r) (same ∙ ap (tree_under plain_flags) spelled) reads)
+    read r (subst (λ u. Reads refusal (PointGives u) r) (same ∙ ap (tree_under no_flags) spelled) reads)
   where
-    read : (q : Result Point Error) → Reads refusal (PointGives (tree_under plain_flags (point_tree x y))) q → IfOk q (λ p. p ≡ make_point x y)
+    read : (q : Result Point Error) → Reads refusal (PointGives (tree_under no_flags (point_tree x y))) q → IfOk q (λ p. p ≡ make_point x y)
     read (Ok p) h = ap₂ make_point (taken_same x p.x h.1.0) (taken_same y p.y h.1.1.0)
     read (Err e) h = tt

@@ -1,9 +1,9 @@
 -- A unit where a sequence waits for an element can be followed by nothing.
 use Rattle.std.proofs.Common.{◌≡◌, List, ◌∷◌}
 use Rattle.content_tree.specs.Values.Tree.{Tree, Trees}
-use Rattle.content_ser.specs.Grammar.Token.{Token, ItemCall, Row, leaf, open_row}
+use Rattle.content_ser.specs.Grammar.Token.{Token, ItemCall, Series, leaf, open_series}
 use Rattle.content_ser.specs.Grammar.Spells.{Spells, SpellsElements}
-use Rattle.content_ser.specs.Grammar.Spells.{spells_leaf, spells_wrap, spells_row, spells_map}
+use Rattle.content_ser.specs.Grammar.Spells.{spells_leaf, spells_wrap, spells_series, spells_map}
 use Rattle.content_ser.specs.Grammar.Spells.{spells_record}
 use Rattle.content_ser.specs.Grammar.Spells.{elements_end, elements_more}
 
@@ -13,9 +13,9 @@ no_element t more elements_end e = absurd (cc e)
 no_element t more (elements_more s es) e = absurd (cc e)
 
 -- no sequence
-pub no_sequence : {calls rest : List Token} {u : Tree} (r : Row) (t : Tree) (more : List Token) → Spells calls u rest → calls ≡ open_row r ∷ leaf t ∷ more → ⊥
+pub no_sequence : {calls rest : List Token} {u : Tree} (r : Series) (t : Tree) (more : List Token) → Spells calls u rest → calls ≡ open_series r ∷ leaf t ∷ more → ⊥
 no_sequence r t more spells_leaf e = absurd (cc e)
 no_sequence r t more (spells_wrap s) e = absurd (cc e)
-no_sequence r t more (spells_row s) e = no_element t more s (cc e)
+no_sequence r t more (spells_series s) e = no_element t more s (cc e)
 no_sequence r t more (spells_map s) e = absurd (cc e)
 no_sequence r t more (spells_record s) e = absurd (cc e)

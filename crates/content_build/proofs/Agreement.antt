@@ -8,7 +8,7 @@ use Rattle.content_ser.specs.Calls.Event as event
 use Rattle.content_ser.specs.Calls.Event.{Event}
 use Rattle.content_ser.specs.Grammar.Token.{wrapped}
 use Rattle.content_ser.specs.Grammar.Spells.{SpellsWhole, IsWhole, IsViable}
-use Rattle.content_build.specs.Partial.{Partial, Slot, Compound, due, between, done, in_row, in_map}
+use Rattle.content_build.specs.Partial.{Partial, Slot, Compound, due, between, done, in_series, in_map}
 use Rattle.content_build.specs.Partial.{in_record, child, element, key, value, entry_key}
 use Rattle.content_build.specs.Partial.{entry_value, field_value, fill, closed, step, run, fresh}
 use Rattle.content_build.proofs.Forward.{run-spells}
@@ -46,7 +46,7 @@ closing (between c ps) = event.end ∷ closing_places ps
 closing (done t) = []
 
 follow-end : (c : Compound) (ps : List Slot) → step (between c ps) event.end ≡ Some (fill ps (closed c))
-follow-end (in_row r ts) ps = refl
+follow-end (in_series r ts) ps = refl
 follow-end (in_map prs) ps = refl
 follow-end (in_record r fs) ps = refl
 
@@ -62,7 +62,7 @@ closes (field_value r fs k ∷ ps) u = closes ps _
 
 pub completable : (s : Partial) → (t : Tree) × (run s (closing s) ≡ Some (done t))
 completable (due ps) = closes ps tree.unit
-completable (between (in_row r ts) ps) = closes ps _
+completable (between (in_series r ts) ps) = closes ps _
 completable (between (in_map prs) ps) = closes ps _
 completable (between (in_record r fs) ps) = closes ps _
 completable (done t) = (t, refl)

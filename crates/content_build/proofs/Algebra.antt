@@ -11,40 +11,40 @@ use Rattle.content_tree.specs.Values.Tree.{no_pairs, pair_then, Fields, no_field
 use Rattle.content_ser.specs.Calls.Head as calls
 use Rattle.content_ser.specs.Calls.Head.{Head}
 use Rattle.content_ser.specs.Grammar.Token as token
-use Rattle.content_ser.specs.Grammar.Token.{Wrap, wrapped, Row, row_tree, record_tree, ItemCall}
+use Rattle.content_ser.specs.Grammar.Token.{Wrap, wrapped, Series, series_tree, record_tree, ItemCall}
 use Rattle.content_build.specs.Partial as partial
 use Rattle.content_build.specs.Partial.{Partial, Slot, Compound, fill, push_tree, push_pair}
 use Rattle.content_build.specs.Partial.{push_field, set_last, closed}
 use Rattle.content_build.specs.Inner.Cells.{Node, leaf, unit, map, key, Cell, cell, cell_size}
-use Rattle.content_build.specs.Inner.Cells.{under}
+use Rattle.content_build.specs.Inner.Cells.{enclose}
 use Rattle.content_build.specs.Inner.Cells.{flat, flat_trees, flat_pairs, flat_fields, Wait, child}
 use Rattle.content_build.specs.Inner.Cells.{item, a_key, a_value, entry_key, entry_value, field}
-use Rattle.content_build.specs.Inner.Cells.{in_row, in_map, in_record, Open, opened, wrap_node}
-use Rattle.content_build.specs.Inner.Cells.{row_node, record_node, compound_node, compound_cells}
+use Rattle.content_build.specs.Inner.Cells.{in_series, in_map, in_record, Open, opened, wrap_node}
+use Rattle.content_build.specs.Inner.Cells.{series_node, record_node, compound_node, compound_cells}
 use Rattle.content_build.specs.Inner.Cells.{slot_node, slot_cells, slot_wait}
 use Rattle.content_build.specs.Inner.Cells.{last_value, slots_cells}
 use Rattle.content_build.specs.Inner.Cells.{with_size, Waiting, Stood}
 use Rattle.content_build.specs.Inner.Steps.{IsIdle}
 use Rattle.content_build.proofs.Forward.{set_last-push}
 
--- the tree of a wrap, of a row and of a record begins with its node
-pub flat-wrapped : (w : Wrap) (t : Tree) → flat (wrapped w t) ≡ under (wrap_node w) (flat t)
+-- the tree of a wrap, of a series and of a record begins with its node
+pub flat-wrapped : (w : Wrap) (t : Tree) → flat (wrapped w t) ≡ enclose (wrap_node w) (flat t)
 flat-wrapped token.in_some t = refl
 flat-wrapped (token.in_head (calls.of_struct n)) t = refl
 flat-wrapped (token.in_head (calls.of_variant n i v)) t = refl
 
-pub flat-row_tree : (r : Row) (ts : Trees) → flat (row_tree r ts) ≡ under (row_node r) (flat_trees ts)
-flat-row_tree token.row_seq ts = refl
-flat-row_tree token.row_tuple ts = refl
-flat-row_tree (token.row_head (calls.of_struct n)) ts = refl
-flat-row_tree (token.row_head (calls.of_variant n i v)) ts = refl
+pub flat-series_tree : (r : Series) (ts : Trees) → flat (series_tree r ts) ≡ enclose (series_node r) (flat_trees ts)
+flat-series_tree token.series_seq ts = refl
+flat-series_tree token.series_tuple ts = refl
+flat-series_tree (token.series_head (calls.of_struct n)) ts = refl
+flat-series_tree (token.series_head (calls.of_variant n i v)) ts = refl
 
-pub flat-record_tree : (h : Head) (fs : Fields) → flat (record_tree h fs) ≡ under (record_node h) (flat_fields fs)
+pub flat-record_tree : (h : Head) (fs : Fields) → flat (record_tree h fs) ≡ enclose (record_node h) (flat_fields fs)
 flat-record_tree (calls.of_struct n) fs = refl
 flat-record_tree (calls.of_variant n i v) fs = refl
 
-pub flat-closed : (c : Compound) → flat (closed c) ≡ under (compound_node c) (compound_cells c)
-flat-closed (partial.in_row r ts) = flat-row_tree r ts
+pub flat-closed : (c : Compound) → flat (closed c) ≡ enclose (compound_node c) (compound_cells c)
+flat-closed (partial.in_series r ts) = flat-series_tree r ts
 flat-closed (partial.in_map prs) = refl
 flat-closed (partial.in_record h fs) = flat-record_tree h fs
 
@@ -101,9 +101,9 @@ pub with_size-seam : (xs : List Cell) (node : Node) (m n : ℕ) (ys : List Cell)
 with_size-seam [] node m n ys = refl
 with_size-seam (cell a c ∷ xs) node m n ys = ap (λ l. cell a c ∷ l) (with_size-seam xs node m n ys)
 
-pub arm-item : (ps : List Slot) (t : Tree) (cs : List Cell) (at last : ℕ) (m : ItemCall) (os : List Open) → Waiting cs (opened at last (item m) ∷ os) ps t → Stood cs (opened at last (in_row m) ∷ os) (fill ps t)
+pub arm-item : (ps : List Slot) (t : Tree) (cs : List Cell) (at last : ℕ) (m : ItemCall) (os : List Open) → Waiting cs (opened at last (item m) ∷ os) ps t → Stood cs (opened at last (in_series m) ∷ os) (fill ps t)
 arm-item (partial.element r ts ∷ ps) t cs at last m os (c, o) =
-    (c ∙ (append_assoc (slots_cells ps) _ (flat t) ∙ ap (λ l. slots_cells ps ++ (cell (row_node r) 0 ∷ l)) (sym (flat_trees-push ts t))), cc)
+    (c ∙ (append_assoc (slots_cells ps) _ (flat t) ∙ ap (λ l. slots_cells ps ++ (cell (series_node r) 0 ∷ l)) (sym (flat_trees-push ts t))), cc)
 arm-item _ t cs at last m os (c, o) = absurd (cc)
 
 pub arm-field : (ps : List Slot) (t : Tree) (cs : List Cell) (at last : ℕ) (os : List Open) → Waiting cs (opened at last field ∷ os) ps t → Stood cs (opened at last in_record ∷ os) (fill ps t)

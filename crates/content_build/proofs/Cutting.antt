@@ -15,7 +15,7 @@ use Rattle.content_tree.specs.declared.error.ErrorKind.TheVariants.{Misplaced, F
 use Rattle.content_tree.specs.declared.value.NamedValue.{NamedValue}
 use Rattle.content_ser.specs.Calls.Event.{Event}
 use Rattle.content_ser.specs.Grammar.Token as token
-use Rattle.content_ser.specs.Grammar.Token.{Token, leaf, wrap, open_row, open_map, open_record}
+use Rattle.content_ser.specs.Grammar.Token.{Token, leaf, wrap, open_series, open_map, open_record}
 use Rattle.content_ser.specs.Grammar.Token.{finish, wrapped, item_call, ItemCall}
 use Rattle.content_ser.specs.Grammar.Spells.{SpellsWhole, IsWhole, IsViable}
 use Rattle.content_ser.specs.Serializers.Step.{Seen, Takes}
@@ -24,7 +24,7 @@ use Rattle.content_build.specs.Builder.{refuses, Finishes}
 use Rattle.content_build.specs.Cuts.{SpellsFirst, OnlyCut, NoCut, IsCutRefusal, IsCut, IfCut}
 use Rattle.content_build.specs.Limit.{Limited, fresh_within, step, run}
 use Rattle.content_build.specs.Partial as partial
-use Rattle.content_build.specs.Partial.{Partial, Slot, due, between, done, in_row, in_map}
+use Rattle.content_build.specs.Partial.{Partial, Slot, due, between, done, in_series, in_map}
 use Rattle.content_build.specs.Partial.{in_record, child, element, key, value, entry_key}
 use Rattle.content_build.specs.Partial.{entry_value, field_value, fill, next_item, step_token}
 use Rattle.content_build.specs.Partial.{fresh, open_count}
@@ -60,15 +60,15 @@ begun-item _ _ s h = tt
 begun : (s : Partial) (call : Token) → IfSome (step_token s call) IsBegun
 begun (due ps) (leaf t) = begun-fill ps t
 begun (due ps) (wrap w) = tt
-begun (due ps) (open_row r) = tt
+begun (due ps) (open_series r) = tt
 begun (due ps) open_map = tt
 begun (due ps) (open_record r) = tt
-begun (between (in_row r ts) ps) (token.item m) = begun-item (item_call r) m (due (element r ts ∷ ps)) tt
+begun (between (in_series r ts) ps) (token.item m) = begun-item (item_call r) m (due (element r ts ∷ ps)) tt
 begun (between (in_map prs) ps) token.key = tt
 begun (between (in_map prs) ps) token.value = tt
 begun (between (in_map prs) ps) token.entry = tt
 begun (between (in_record r fs) ps) (token.field k) = tt
-begun (between (in_row r ts) ps) finish = begun-fill ps _
+begun (between (in_series r ts) ps) finish = begun-fill ps _
 begun (between (in_map prs) ps) finish = begun-fill ps _
 begun (between (in_record r fs) ps) finish = begun-fill ps _
 begun _ _ = tt

@@ -8,18 +8,18 @@ use Rattle.content_tree.specs.Values.Tree.{pair_then, Fields, no_fields, field_t
 use Rattle.content_ser.specs.Calls.Head as calls
 use Rattle.content_ser.specs.Calls.Head.{Head}
 use Rattle.content_ser.specs.Grammar.Token as token
-use Rattle.content_ser.specs.Grammar.Token.{Wrap, Row}
+use Rattle.content_ser.specs.Grammar.Token.{Wrap, Series}
 use Rattle.content_build.specs.Partial as partial
 use Rattle.content_build.specs.Partial.{Partial, Slot, Compound}
 use Rattle.content_build.specs.Inner.Cells.{key, Cell, cell, Wait, Open, opened, flat, flat_trees}
-use Rattle.content_build.specs.Inner.Cells.{flat_pairs, flat_fields, names_of, wrap_node, row_node}
+use Rattle.content_build.specs.Inner.Cells.{flat_pairs, flat_fields, names_of, wrap_node, series_node}
 use Rattle.content_build.specs.Inner.Cells.{slot_node, slot_cells, slot_wait, slot_last}
 use Rattle.content_build.specs.Inner.Cells.{compound_node, compound_cells, compound_wait}
 use Rattle.content_build.specs.Inner.Cells.{compound_last}
 use Rattle.content_build.specs.Inner.Cells.{slots_cells, slots_opens, cells, opens, Stood}
 use Rattle.content_build.specs.Inner.Forest.{Grown, grown, no_key, read}
 use Rattle.content_build.specs.Inner.Decoding.{all_trees, all_fields, all_pairs, odd_one, last_key}
-use Rattle.content_build.specs.Inner.Decoding.{head_from, wrap_at, row_at, slot_of, nowhere}
+use Rattle.content_build.specs.Inner.Decoding.{head_from, wrap_at, series_at, slot_of, nowhere}
 use Rattle.content_build.specs.Inner.Decoding.{slots_of, standing, outermost, decode}
 use Rattle.content_build.proofs.Reading.{of_trees, of_pairs, of_fields, read-trees, read-pairs}
 use Rattle.content_build.proofs.Reading.{read-fields, read-whole}
@@ -73,14 +73,14 @@ wrap-back : (w : Wrap) → wrap_at (cell (wrap_node w) 0) ≡ w
 wrap-back token.in_some = refl
 wrap-back (token.in_head h) = ap token.in_head (head-back h)
 
-row-back : (r : Row) → row_at (cell (row_node r) 0) ≡ r
-row-back token.row_seq = refl
-row-back token.row_tuple = refl
-row-back (token.row_head h) = ap token.row_head (head-back h)
+series-back : (r : Series) → series_at (cell (series_node r) 0) ≡ r
+series-back token.series_seq = refl
+series-back token.series_tuple = refl
+series-back (token.series_head h) = ap token.series_head (head-back h)
 
 one_slot : (p : Slot) → slot_of (slot_wait p) (cell (slot_node p) 0) (slot_cells p) ≡ p
 one_slot (partial.child w) = ap partial.child (wrap-back w)
-one_slot (partial.element r ts) = ap (λ x. partial.element x (all_trees (read (flat_trees ts) []))) (row-back r) ∙ ap (partial.element r) (only_trees ts)
+one_slot (partial.element r ts) = ap (λ x. partial.element x (all_trees (read (flat_trees ts) []))) (series-back r) ∙ ap (partial.element r) (only_trees ts)
 one_slot (partial.key ps) = ap Slot.key (only_pairs ps)
 one_slot (partial.value ps) = ap Slot.value (only_pairs ps)
 one_slot (partial.entry_key ps) = ap Slot.entry_key (only_pairs ps)
@@ -131,7 +131,7 @@ waits_on (partial.entry_value prs k) c inside ps = refl
 waits_on (partial.field_value h fs k) c inside ps = refl
 
 one_compound : (c : Compound) (ps : List Slot) → standing (compound_wait c) (cell (compound_node c) 0) (compound_cells c) ps ≡ partial.between c ps
-one_compound (partial.in_row r ts) ps = ap (λ x. partial.between (partial.in_row x (all_trees (read (flat_trees ts) []))) ps) (row-back r) ∙ ap (λ x. partial.between (partial.in_row r x) ps) (only_trees ts)
+one_compound (partial.in_series r ts) ps = ap (λ x. partial.between (partial.in_series x (all_trees (read (flat_trees ts) []))) ps) (series-back r) ∙ ap (λ x. partial.between (partial.in_series r x) ps) (only_trees ts)
 one_compound (partial.in_map prs) ps = ap (λ x. partial.between (partial.in_map x) ps) (only_pairs prs)
 one_compound (partial.in_record h fs) ps = ap (λ x. partial.between (partial.in_record x (all_fields (read (flat_fields fs) []))) ps) (head-back h) ∙ ap (λ x. partial.between (partial.in_record h x) ps) (only_fields fs)
 

@@ -6,16 +6,16 @@ use Rattle.content_tree.specs.Values.Tree.{pair_then, Fields, no_fields, field_t
 use Rattle.content_tree.specs.Values.Text.{Text, static_name}
 use Rattle.content_ser.specs.Grammar.Token as token
 use Rattle.content_ser.specs.Grammar.Token.{Token}
-use Rattle.content_ser.specs.Grammar.Token.{Row, item_call}
-use Rattle.content_ser.specs.Grammar.Token.{row_tree, record_tree, ItemCall}
+use Rattle.content_ser.specs.Grammar.Token.{Series, item_call}
+use Rattle.content_ser.specs.Grammar.Token.{series_tree, record_tree, ItemCall}
 use Rattle.content_ser.specs.Calls.Head.{Head}
 use Rattle.content_ser.specs.Grammar.Spells as spells
 use Rattle.content_ser.specs.Grammar.Spells.{Spells, SpellsElements, SpellsMapItems, SpellsFields}
 use Rattle.content_ser.specs.Grammar.Spells.{MapItem, pairs, value_among, spells_leaf, spells_wrap}
-use Rattle.content_ser.specs.Grammar.Spells.{spells_row, spells_map, spells_record, elements_end}
+use Rattle.content_ser.specs.Grammar.Spells.{spells_series, spells_map, spells_record, elements_end}
 use Rattle.content_ser.specs.Grammar.Spells.{elements_more, items_end, items_key, items_value}
 use Rattle.content_ser.specs.Grammar.Spells.{items_entry, fields_end, fields_more}
-use Rattle.content_build.specs.Partial.{Partial, Slot, due, between, in_row, in_map, in_record}
+use Rattle.content_build.specs.Partial.{Partial, Slot, due, between, in_series, in_map, in_record}
 use Rattle.content_build.specs.Partial.{child, element, entry_key, entry_value, field_value, fill}
 use Rattle.content_build.specs.Partial.{step_token, next_item, push_tree, push_pair, push_field}
 use Rattle.content_build.specs.Partial.{set_last}
@@ -89,22 +89,22 @@ pub next-same : (m : ItemCall) (s : Partial) → next_item m m s ≡ Some s
 next-same token.element s = refl
 next-same token.tuple_field s = refl
 
-item-taken : (r : Row) (m : ItemCall) (s : Partial) (calls : List Token) → m ≡ item_call r → option_and_then (λ n. run_tokens n calls) (next_item (item_call r) m s) ≡ run_tokens s calls
+item-taken : (r : Series) (m : ItemCall) (s : Partial) (calls : List Token) → m ≡ item_call r → option_and_then (λ n. run_tokens n calls) (next_item (item_call r) m s) ≡ run_tokens s calls
 item-taken r m s calls e = ap (λ x. option_and_then (λ n. run_tokens n calls) (next_item (item_call r) x s)) e ∙ ap (λ o. option_and_then (λ n. run_tokens n calls) o) (next-same (item_call r) s)
 
 mutual
   pub run-spells : {calls rest : List Token} {t : Tree} → Spells calls t rest → (ps : List Slot) → run_tokens (due ps) calls ≡ run_tokens (fill ps t) rest
   run-spells spells_leaf ps = refl
   run-spells (spells_wrap {w = w} s) ps = run-spells s (child w ∷ ps)
-  run-spells (spells_row {r = r} es) ps = run-elements es r refl no_trees ps
+  run-spells (spells_series {r = r} es) ps = run-elements es r refl no_trees ps
   run-spells {rest = rest} (spells_map {items = items} is) ps = run-items is no_pairs ps ∙ ap (λ prs. run_tokens (fill ps (tree.map prs)) rest) (after-none items)
   run-spells (spells_record {h = h} fs) ps = run-fields fs h no_fields ps
 
-  pub run-elements : {m : ItemCall} {calls rest : List Token} {ts : Trees} → SpellsElements m calls ts rest → (r : Row) → m ≡ item_call r → (front : Trees) (ps : List Slot) → run_tokens (between (in_row r front) ps) calls ≡ run_tokens (fill ps (row_tree r (append_trees front ts))) rest
-  run-elements {rest = rest} elements_end r e front ps = ap (λ us. run_tokens (fill ps (row_tree r us)) rest) (sym (append_trees-nil front))
+  pub run-elements : {m : ItemCall} {calls rest : List Token} {ts : Trees} → SpellsElements m calls ts rest → (r : Series) → m ≡ item_call r → (front : Trees) (ps : List Slot) → run_tokens (between (in_series r front) ps) calls ≡ run_tokens (fill ps (series_tree r (append_trees front ts))) rest
+  run-elements {rest = rest} elements_end r e front ps = ap (λ us. run_tokens (fill ps (series_tree r us)) rest) (sym (append_trees-nil front))
   run-elements {m = m} {rest = rest} (elements_more {calls = calls} {t = t} {ts = ts} s es) r e front ps =
       item-taken r m (due (element r front ∷ ps)) calls e
-      ∙ (run-spells s (element r front ∷ ps) ∙ (run-elements es r e (push_tree front t) ps ∙ ap (λ us. run_tokens (fill ps (row_tree r us)) rest) (append_trees-push front t ts)))
+      ∙ (run-spells s (element r front ∷ ps) ∙ (run-elements es r e (push_tree front t) ps ∙ ap (λ us. run_tokens (fill ps (series_tree r us)) rest) (append_trees-push front t ts)))
 
   pub run-items : {calls rest : List Token} {items : List MapItem} → SpellsMapItems calls items rest → (front : Pairs) (ps : List Slot) → run_tokens (between (in_map front) ps) calls ≡ run_tokens (fill ps (tree.map (after front items))) rest
   run-items items_end front ps = refl

@@ -9,11 +9,11 @@ use Rattle.content_ser.specs.Calls.Event.{Event}
 use Rattle.content_ser.specs.Grammar.Depth.{IsLimit, SpellsWithin, IsViableWithin}
 use Rattle.content_ser.specs.Grammar.Spells.{SpellsWhole}
 use Rattle.content_ser.specs.Grammar.Token as token
-use Rattle.content_ser.specs.Grammar.Token.{Token, leaf, wrap, open_row, open_map, open_record}
+use Rattle.content_ser.specs.Grammar.Token.{Token, leaf, wrap, open_series, open_map, open_record}
 use Rattle.content_ser.specs.Grammar.Token.{finish, wrapped, tokens, item_call, ItemCall}
 use Rattle.content_build.specs.Limit.{Limited, fits, step_within, step, fresh_within, run}
 use Rattle.content_build.specs.Partial as partial
-use Rattle.content_build.specs.Partial.{Partial, Slot, due, between, done, in_row, in_map}
+use Rattle.content_build.specs.Partial.{Partial, Slot, due, between, done, in_series, in_map}
 use Rattle.content_build.specs.Partial.{in_record}
 use Rattle.content_build.specs.Partial.{child, element, key, value, entry_key, entry_value}
 use Rattle.content_build.specs.Partial.{field_value, fill, next_item, step_token}
@@ -48,15 +48,15 @@ room-after : (limit : Option ℕ) (s : Partial) (call : Token) → has_room limi
 room-after None s call r = room-any (step_token s call)
 room-after (Some limit) (due ps) (leaf t) r = sym (room-fill (Some limit) ps t r)
 room-after (Some limit) (due ps) (wrap w) r = refl
-room-after (Some limit) (due ps) (open_row a) r = sym r
+room-after (Some limit) (due ps) (open_series a) r = sym r
 room-after (Some limit) (due ps) open_map r = sym r
 room-after (Some limit) (due ps) (open_record a) r = sym r
-room-after (Some limit) (between (in_row a ts) ps) (token.item m) r = room-item limit ps (element a ts) (item_call a) m
+room-after (Some limit) (between (in_series a ts) ps) (token.item m) r = room-item limit ps (element a ts) (item_call a) m
 room-after (Some limit) (between (in_map prs) ps) token.key r = ap (λ c. nat_lt c limit) (add-one (length ps))
 room-after (Some limit) (between (in_map prs) ps) token.value r = ap (λ c. nat_lt c limit) (add-one (length ps))
 room-after (Some limit) (between (in_map prs) ps) token.entry r = ap (λ c. nat_lt c limit) (add-one (length ps))
 room-after (Some limit) (between (in_record a fs) ps) (token.field k) r = ap (λ c. nat_lt c limit) (add-one (length ps))
-room-after (Some limit) (between (in_row a ts) ps) finish r = sym (room-fill (Some limit) ps _ r)
+room-after (Some limit) (between (in_series a ts) ps) finish r = sym (room-fill (Some limit) ps _ r)
 room-after (Some limit) (between (in_map prs) ps) finish r = sym (room-fill (Some limit) ps _ r)
 room-after (Some limit) (between (in_record a fs) ps) finish r = sym (room-fill (Some limit) ps _ r)
 room-after (Some limit) _ _ r = tt
@@ -170,7 +170,7 @@ closes limit (entry_key prs ∷ ps) u h =
 
 completable : (limit : Option ℕ) (s : Partial) → has_room limit s ≡ true → (t : Tree) × (run_roomy limit s (tokens (closing s)) ≡ Some (done t))
 completable limit (due ps) h = let c = closes limit ps tree.unit h in (c.0, pass limit (tokens (closing_places ps)) (fill ps tree.unit) (room-fill limit ps tree.unit h) ∙ c.1)
-completable limit (between (in_row r ts) ps) h = let c = closes limit ps _ h in (c.0, pass limit (tokens (closing_places ps)) (fill ps _) (room-fill limit ps _ h) ∙ c.1)
+completable limit (between (in_series r ts) ps) h = let c = closes limit ps _ h in (c.0, pass limit (tokens (closing_places ps)) (fill ps _) (room-fill limit ps _ h) ∙ c.1)
 completable limit (between (in_map prs) ps) h = let c = closes limit ps _ h in (c.0, pass limit (tokens (closing_places ps)) (fill ps _) (room-fill limit ps _ h) ∙ c.1)
 completable limit (between (in_record r fs) ps) h = let c = closes limit ps _ h in (c.0, pass limit (tokens (closing_places ps)) (fill ps _) (room-fill limit ps _ h) ∙ c.1)
 completable limit (done t) h = (t, refl)

@@ -8,7 +8,7 @@ use Rattle.content_tree.specs.Values.Tree.{Tree, TreeData, Trees, no_trees, tree
 use Rattle.content_tree.specs.Values.Tree.{no_pairs, pair_then, Fields, no_fields, field_then}
 use Rattle.content_build.specs.Inner.Cells as cells
 use Rattle.content_build.specs.Inner.Cells.{Names, of_struct, of_variant, Cell}
-use Rattle.content_build.specs.Inner.Cells.{under}
+use Rattle.content_build.specs.Inner.Cells.{enclose}
 use Rattle.content_build.specs.Inner.Cells.{flat, flat_data, flat_trees, flat_pairs, flat_fields}
 use Rattle.content_build.specs.Inner.Cells.{headed, sort_of}
 use Rattle.content_build.specs.Inner.Forest.{Grown, grown, no_key, named_tree, trees_near}
@@ -143,7 +143,7 @@ module _ (f : List Grown) where
 -- what stands inside a head is read as what it holds
 abbrev pub ReadsData : Names → TreeData → List Cell → List Grown → Type 0
 ReadsData names d cs f =
-    read (under (headed (sort_of d) names) (flat_data d) ++ cs) f ≡ grown no_key (named_tree names d) (suc (length (flat_data d))) ∷ read cs f
+    read (enclose (headed (sort_of d) names) (flat_data d) ++ cs) f ≡ grown no_key (named_tree names d) (suc (length (flat_data d))) ∷ read cs f
 
 mutual
   pub read-flat : (t : Tree) (cs : List Cell) (f : List Grown) → read (flat t ++ cs) f ≡ grown no_key t (length (flat t)) ∷ read cs f

@@ -46,7 +46,7 @@ refused limit l sc e failed new sent =
     k.1)
     sent
 
--- a whole list that is viable within a limit is whole under it
+-- a whole list that is viable within a limit is whole within it
 whole_within : (limit : Option ℕ) (calls : List Event) → IsWhole calls → IsViableWithin limit calls → IsWholeWithin limit calls
 whole_within limit calls whole (more, (t, w)) =
     let none = unique_cut calls more whole (t, spelled limit (calls ++ more) t w) in

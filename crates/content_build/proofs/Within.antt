@@ -10,14 +10,14 @@ use Rattle.content_tree.specs.Values.Tree.{no_fields}
 use Rattle.content_ser.specs.Calls.Head.{Head}
 use Rattle.content_ser.specs.Grammar.Depth.{Keeps, ElementsKeep, MapItemsKeep, FieldsKeep}
 use Rattle.content_ser.specs.Grammar.Spells.{Spells, SpellsElements, SpellsMapItems, SpellsFields}
-use Rattle.content_ser.specs.Grammar.Spells.{MapItem, spells_leaf, spells_wrap, spells_row}
+use Rattle.content_ser.specs.Grammar.Spells.{MapItem, spells_leaf, spells_wrap, spells_series}
 use Rattle.content_ser.specs.Grammar.Spells.{spells_map}
 use Rattle.content_ser.specs.Grammar.Spells.{spells_record, elements_end, elements_more, items_end}
 use Rattle.content_ser.specs.Grammar.Spells.{items_key, items_value, items_entry, fields_end}
 use Rattle.content_ser.specs.Grammar.Spells.{fields_more}
-use Rattle.content_ser.specs.Grammar.Token.{Token, Row, ItemCall, item_call, wrapped, row_tree}
+use Rattle.content_ser.specs.Grammar.Token.{Token, Series, ItemCall, item_call, wrapped, series_tree}
 use Rattle.content_ser.specs.Grammar.Token.{record_tree}
-use Rattle.content_build.specs.Partial.{Partial, Slot, due, between, done, in_row, in_map}
+use Rattle.content_build.specs.Partial.{Partial, Slot, due, between, done, in_series, in_map}
 use Rattle.content_build.specs.Partial.{in_record}
 use Rattle.content_build.specs.Partial.{child, element, entry_key, entry_value, field_value, fill}
 use Rattle.content_build.specs.Partial.{next_item, step_token, push_tree, push_pair, push_field}
@@ -60,7 +60,7 @@ one-less limit ps h = allows-less limit (length ps) (suc (length ps)) (omega ari
 pub keeps-depth : {calls rest : List Token} {t : Tree} (s : Spells calls t rest) (limit depth : ℕ) → Keeps s limit depth → depth ≤ limit
 keeps-depth spells_leaf limit depth k = k
 keeps-depth (spells_wrap s) limit depth k = k.0
-keeps-depth (spells_row es) limit depth k = k.0
+keeps-depth (spells_series es) limit depth k = k.0
 keeps-depth (spells_map is) limit depth k = k.0
 keeps-depth (spells_record fs) limit depth k = k.0
 
@@ -78,7 +78,7 @@ room-fill limit (field_value r fs k ∷ ps) u h = one-less limit ps h
 pub pass : (limit : Option ℕ) (calls : List Token) (n : Partial) → has_room limit n ≡ true → option_and_then (λ m. run_roomy limit m calls) (roomy limit n) ≡ run_roomy limit n calls
 pass limit calls n e = rw e refl
 
-pass-item : (limit : Option ℕ) (r : Row) (m : ItemCall) (n : Partial) (calls : List Token) → m ≡ item_call r → has_room limit n ≡ true
+pass-item : (limit : Option ℕ) (r : Series) (m : ItemCall) (n : Partial) (calls : List Token) → m ≡ item_call r → has_room limit n ≡ true
     → option_and_then (λ k. run_roomy limit k calls) (option_and_then (roomy limit) (next_item (item_call r) m n)) ≡ run_roomy limit n calls
 pass-item limit r m n calls e room =
     let go : Option Partial → Option Partial = λ o. option_and_then (λ k. run_roomy limit k calls) (option_and_then (roomy limit) o) in
@@ -93,20 +93,20 @@ mutual
   within-spells {rest = rest} (spells_leaf {t = t}) limit ps k = pass (Some limit) rest (fill ps t) (room-fill (Some limit) ps t (fits limit (length ps) k))
   within-spells (spells_wrap {w = w} {calls = calls} s) limit ps k =
       pass (Some limit) calls (due (child w ∷ ps)) (fits limit (suc (length ps)) (keeps-depth s limit (suc (suc (length ps))) k.1)) ∙ within-spells s limit (child w ∷ ps) k.1
-  within-spells (spells_row {r = r} {calls = calls} es) limit ps k =
-      pass (Some limit) calls (between (in_row r no_trees) ps) (fits limit (length ps) k.0) ∙ within-elements es limit r refl no_trees ps k.0 k.1
+  within-spells (spells_series {r = r} {calls = calls} es) limit ps k =
+      pass (Some limit) calls (between (in_series r no_trees) ps) (fits limit (length ps) k.0) ∙ within-elements es limit r refl no_trees ps k.0 k.1
   within-spells {rest = rest} (spells_map {calls = calls} {items = items} is) limit ps k =
       pass (Some limit) calls (between (in_map no_pairs) ps) (fits limit (length ps) k.0) ∙ (within-items is limit no_pairs ps k.0 k.1 ∙ ap (λ prs. run_roomy (Some limit) (fill ps (tree.map prs)) rest) (after-none items))
   within-spells (spells_record {h = h} {calls = calls} fs) limit ps k =
       pass (Some limit) calls (between (in_record h no_fields) ps) (fits limit (length ps) k.0) ∙ within-fields fs limit h no_fields ps k.0 k.1
 
-  pub within-elements : {m : ItemCall} {calls rest : List Token} {ts : Trees} (es : SpellsElements m calls ts rest) (limit : ℕ) (r : Row) → m ≡ item_call r → (front : Trees) (ps : List Slot) → suc (length ps) ≤ limit → ElementsKeep es limit (suc (suc (length ps)))
-      → run_roomy (Some limit) (between (in_row r front) ps) calls ≡ run_roomy (Some limit) (fill ps (row_tree r (append_trees front ts))) rest
+  pub within-elements : {m : ItemCall} {calls rest : List Token} {ts : Trees} (es : SpellsElements m calls ts rest) (limit : ℕ) (r : Series) → m ≡ item_call r → (front : Trees) (ps : List Slot) → suc (length ps) ≤ limit → ElementsKeep es limit (suc (suc (length ps)))
+      → run_roomy (Some limit) (between (in_series r front) ps) calls ≡ run_roomy (Some limit) (fill ps (series_tree r (append_trees front ts))) rest
   within-elements {rest = rest} elements_end limit r e front ps h k =
-      pass (Some limit) rest (fill ps (row_tree r front)) (room-fill (Some limit) ps (row_tree r front) (fits limit (length ps) h)) ∙ ap (λ us. run_roomy (Some limit) (fill ps (row_tree r us)) rest) (sym (append_trees-nil front))
+      pass (Some limit) rest (fill ps (series_tree r front)) (room-fill (Some limit) ps (series_tree r front) (fits limit (length ps) h)) ∙ ap (λ us. run_roomy (Some limit) (fill ps (series_tree r us)) rest) (sym (append_trees-nil front))
   within-elements {m = m} {rest = rest} (elements_more {calls = calls} {t = t} {ts = ts} s es) limit r e front ps h k =
       pass-item (Some limit) r m (due (element r front ∷ ps)) calls e (fits limit (suc (length ps)) (keeps-depth s limit (suc (suc (length ps))) k.0))
-      ∙ (within-spells s limit (element r front ∷ ps) k.0 ∙ (within-elements es limit r e (push_tree front t) ps h k.1 ∙ ap (λ us. run_roomy (Some limit) (fill ps (row_tree r us)) rest) (append_trees-push front t ts)))
+      ∙ (within-spells s limit (element r front ∷ ps) k.0 ∙ (within-elements es limit r e (push_tree front t) ps h k.1 ∙ ap (λ us. run_roomy (Some limit) (fill ps (series_tree r us)) rest) (append_trees-push front t ts)))
 
   pub within-items : {calls rest : List Token} {items : List MapItem} (is : SpellsMapItems calls items rest) (limit : ℕ) (front : Pairs) (ps : List Slot) → suc (length ps) ≤ limit → MapItemsKeep is limit (suc (suc (length ps)))
       → run_roomy (Some limit) (between (in_map front) ps) calls ≡ run_roomy (Some limit) (fill ps (tree.map (after front items))) rest

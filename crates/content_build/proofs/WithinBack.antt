@@ -10,16 +10,16 @@ use Rattle.content_tree.specs.Values.Tree.{field_then}
 use Rattle.content_ser.specs.Grammar.Depth.{Keeps, ElementsKeep, MapItemsKeep, FieldsKeep}
 use Rattle.content_ser.specs.Grammar.Spells as spells
 use Rattle.content_ser.specs.Grammar.Spells.{Spells, SpellsElements, SpellsMapItems, SpellsFields}
-use Rattle.content_ser.specs.Grammar.Spells.{MapItem, spells_leaf, spells_wrap, spells_row}
+use Rattle.content_ser.specs.Grammar.Spells.{MapItem, spells_leaf, spells_wrap, spells_series}
 use Rattle.content_ser.specs.Grammar.Spells.{spells_map}
 use Rattle.content_ser.specs.Grammar.Spells.{spells_record, elements_end, elements_more, items_end}
 use Rattle.content_ser.specs.Grammar.Spells.{items_key, items_value, items_entry, fields_end}
 use Rattle.content_ser.specs.Grammar.Spells.{fields_more}
 use Rattle.content_ser.specs.Grammar.Token as token
-use Rattle.content_ser.specs.Grammar.Token.{Token, leaf, wrap, open_row, open_map, open_record}
-use Rattle.content_ser.specs.Grammar.Token.{finish, wrapped, item_call, row_tree, record_tree}
+use Rattle.content_ser.specs.Grammar.Token.{Token, leaf, wrap, open_series, open_map, open_record}
+use Rattle.content_ser.specs.Grammar.Token.{finish, wrapped, item_call, series_tree, record_tree}
 use Rattle.content_ser.specs.Grammar.Token.{ItemCall}
-use Rattle.content_build.specs.Partial.{Partial, Slot, Compound, due, between, done, in_row, in_map}
+use Rattle.content_build.specs.Partial.{Partial, Slot, Compound, due, between, done, in_series, in_map}
 use Rattle.content_build.specs.Partial.{in_record, child, element, entry_key, entry_value}
 use Rattle.content_build.specs.Partial.{field_value, fill, step_token, next_item, push_tree}
 use Rattle.content_build.specs.Partial.{push_pair, push_field, set_last}
@@ -34,7 +34,7 @@ SpellsKept limit depth calls t rest = (s : Spells calls t rest) × Keeps s limit
 
 -- the calls before the rest finish the compound as the tree, the items at this depth
 abbrev pub Ends : ℕ → ℕ → Compound → List Token → Tree → List Token → Type 0
-Ends limit depth (in_row r front) calls u rest = (ts : Trees) × (es : SpellsElements (item_call r) calls ts rest) × ElementsKeep es limit depth × (row_tree r (append_trees front ts) ≡ u)
+Ends limit depth (in_series r front) calls u rest = (ts : Trees) × (es : SpellsElements (item_call r) calls ts rest) × ElementsKeep es limit depth × (series_tree r (append_trees front ts) ≡ u)
 Ends limit depth (in_map front) calls u rest = (items : List MapItem) × (is : SpellsMapItems calls items rest) × MapItemsKeep is limit depth × (tree.map (after front items) ≡ u)
 Ends limit depth (in_record r front) calls u rest = (fs : Fields) × (more : SpellsFields calls fs rest) × FieldsKeep more limit depth × (record_tree r (append_fields front fs) ≡ u)
 
@@ -46,7 +46,7 @@ EndsIn limit ps c calls u rest = Ends limit (suc (suc (length ps))) c calls u re
 abbrev pub Fills : ℕ → List Slot → Tree → List Token → Tree → Type 0
 Fills limit [] u calls t = (calls ≡ []) × (u ≡ t)
 Fills limit (child w ∷ ps) u calls t = Fills limit ps (wrapped w u) calls t
-Fills limit (element r ts ∷ ps) u calls t = (w : Tree) × (rest : List Token) × EndsIn limit ps (in_row r (push_tree ts u)) calls w rest × Fills limit ps w rest t
+Fills limit (element r ts ∷ ps) u calls t = (w : Tree) × (rest : List Token) × EndsIn limit ps (in_series r (push_tree ts u)) calls w rest × Fills limit ps w rest t
 Fills limit (Slot.key prs ∷ ps) u calls t = (w : Tree) × (rest : List Token) × EndsIn limit ps (in_map (push_pair prs u tree.unit)) calls w rest × Fills limit ps w rest t
 Fills limit (Slot.value prs ∷ ps) u calls t = (w : Tree) × (rest : List Token) × EndsIn limit ps (in_map (set_last prs u)) calls w rest × Fills limit ps w rest t
 Fills limit (entry_key prs ∷ ps) u calls t = (v : Tree) × (mid : List Token) × SpellsKept limit (suc (suc (length ps))) calls v mid × ((w : Tree) × (rest : List Token) × EndsIn limit ps (in_map (push_pair prs u v)) mid w rest × Fills limit ps w rest t)
@@ -85,19 +85,19 @@ back : (limit : ℕ) (s : Partial) (call : Token) (calls : List Token) (t : Tree
 back limit (done u) call calls t r h = absurd h
 back limit (due ps) (leaf u) calls t r h = (u, calls, (spells_leaf, room limit ps r), fills limit ps u calls t h)
 back limit (due ps) (wrap w) calls t r h = (wrapped w h.0, h.1, (spells_wrap h.2.0, (room limit ps r, h.2.1)), h.3)
-back limit (due ps) (open_row a) calls t r h =
-    (h.0, h.1, subst (λ u. SpellsKept limit (suc (length ps)) (open_row a ∷ calls) u h.1) h.2.3 (spells_row h.2.1, (room limit ps r, h.2.2)), h.3)
+back limit (due ps) (open_series a) calls t r h =
+    (h.0, h.1, subst (λ u. SpellsKept limit (suc (length ps)) (open_series a ∷ calls) u h.1) h.2.3 (spells_series h.2.1, (room limit ps r, h.2.2)), h.3)
 back limit (due ps) open_map calls t r h =
     (h.0, h.1, subst (λ u. SpellsKept limit (suc (length ps)) (open_map ∷ calls) u h.1) (ap tree.map (sym (after-none h.2.0)) ∙ h.2.3) (spells_map h.2.1, (room limit ps r, h.2.2)), h.3)
 back limit (due ps) (open_record a) calls t r h =
     (h.0, h.1, subst (λ u. SpellsKept limit (suc (length ps)) (open_record a ∷ calls) u h.1) h.2.3 (spells_record h.2.1, (room limit ps r, h.2.2)), h.3)
-back limit (between (in_row a front) ps) (token.item m) calls t r h =
+back limit (between (in_series a front) ps) (token.item m) calls t r h =
     let n = item-next limit (item_call a) m (due (element a front ∷ ps)) calls t h in
     let g = n.1 in
     let f = g.3 in
     let more : (es : SpellsElements (item_call a) (token.item (item_call a) ∷ calls) (tree_then g.0 f.2.0) f.1) × ElementsKeep es limit (suc (suc (length ps))) = (elements_more g.2.0 f.2.1, (g.2.1, f.2.2)) in
     let named = subst (λ x. (es : SpellsElements (item_call a) (token.item x ∷ calls) (tree_then g.0 f.2.0) f.1) × ElementsKeep es limit (suc (suc (length ps)))) n.0 more in
-    (f.0, f.1, (tree_then g.0 f.2.0, named.0, named.1, ap (row_tree a) (sym (append_trees-push front g.0 f.2.0)) ∙ f.2.3), f.3)
+    (f.0, f.1, (tree_then g.0 f.2.0, named.0, named.1, ap (series_tree a) (sym (append_trees-push front g.0 f.2.0)) ∙ f.2.3), f.3)
 back limit (between (in_map front) ps) token.key calls t r h =
     let f = h.3 in (f.0, f.1, (spells.key h.0 ∷ f.2.0, items_key h.2.0 f.2.1, (h.2.1, f.2.2), f.2.3), f.3)
 back limit (between (in_map front) ps) token.value calls t r h =
@@ -107,7 +107,7 @@ back limit (between (in_map front) ps) token.entry calls t r h =
 back limit (between (in_record a front) ps) (token.field k) calls t r h =
     let f = h.3 in
     (f.0, f.1, (field_then (static_name k) h.0 f.2.0, fields_more h.2.0 f.2.1, (h.2.1, f.2.2), ap (record_tree a) (sym (append_fields-push front (static_name k) h.0 f.2.0)) ∙ f.2.3), f.3)
-back limit (between (in_row a front) ps) finish calls t r h = (row_tree a front, calls, (no_trees, elements_end, tt, ap (row_tree a) (append_trees-nil front)), fills limit ps _ calls t h)
+back limit (between (in_series a front) ps) finish calls t r h = (series_tree a front, calls, (no_trees, elements_end, tt, ap (series_tree a) (append_trees-nil front)), fills limit ps _ calls t h)
 back limit (between (in_map front) ps) finish calls t r h = (tree.map front, calls, ([], items_end, tt, refl), fills limit ps _ calls t h)
 back limit (between (in_record a front) ps) finish calls t r h =
     (record_tree a front, calls, (no_fields, fields_end, tt, ap (record_tree a) (append_fields-nil front)), fills limit ps _ calls t h)

@@ -3,7 +3,7 @@ pub mod Tokens
 pub mod Cells
 pub mod Forest
 pub mod Decoding
-pub mod Entries
+pub mod Frames
 pub mod Sound
 pub mod Tape
 pub mod Values

@@ -7,8 +7,8 @@ use Rattle.content_tree.specs.Values.Tree.{pair_then, Fields, no_fields, field_t
 use Rattle.content_ser.specs.Calls.Event.{Event}
 use Rattle.content_ser.specs.Calls.Head.{Head}
 use Rattle.content_ser.specs.Grammar.Token as token
-use Rattle.content_ser.specs.Grammar.Token.{Token, leaf, wrap, open_row, open_map, open_record}
-use Rattle.content_ser.specs.Grammar.Token.{finish, Wrap, wrapped, Row, item_call, row_tree}
+use Rattle.content_ser.specs.Grammar.Token.{Token, leaf, wrap, open_series, open_map, open_record}
+use Rattle.content_ser.specs.Grammar.Token.{finish, Wrap, wrapped, Series, item_call, series_tree}
 use Rattle.content_ser.specs.Grammar.Token.{record_tree, ItemCall}
 use Rattle.content_ser.specs.Serializers.Step as serializer
 
@@ -36,7 +36,7 @@ push_field (field_then l t fs) k u = field_then l t (push_field fs k u)
 -- a slot that waits for a tree, with what is finished around it
 pub data Slot : Type 0 where
   child : Wrap → Slot
-  element : Row → Trees → Slot
+  element : Series → Trees → Slot
   key : Pairs → Slot
   value : Pairs → Slot
   entry_key : Pairs → Slot
@@ -45,7 +45,7 @@ pub data Slot : Type 0 where
 
 -- an opened compound in which no slot waits
 pub data Compound : Type 0 where
-  in_row : Row → Trees → Compound
+  in_series : Series → Trees → Compound
   in_map : Pairs → Compound
   in_record : Head → Fields → Compound
 
@@ -69,7 +69,7 @@ open_count (done t) = 0
 abbrev pub fill : List Slot → Tree → Partial
 fill [] t = done t
 fill (child w ∷ ps) t = fill ps (wrapped w t)
-fill (element r ts ∷ ps) t = between (in_row r (push_tree ts t)) ps
+fill (element r ts ∷ ps) t = between (in_series r (push_tree ts t)) ps
 fill (key prs ∷ ps) t = between (in_map (push_pair prs t tree.unit)) ps
 fill (value prs ∷ ps) t = between (in_map (set_last prs t)) ps
 fill (entry_key prs ∷ ps) t = due (entry_value prs t ∷ ps)
@@ -78,7 +78,7 @@ fill (field_value r fs k ∷ ps) t = between (in_record r (push_field fs (static
 
 -- the tree of a closed compound
 abbrev pub closed : Compound → Tree
-closed (in_row r ts) = row_tree r ts
+closed (in_series r ts) = series_tree r ts
 closed (in_map prs) = tree.map prs
 closed (in_record r fs) = record_tree r fs
 
@@ -86,12 +86,12 @@ closed (in_record r fs) = record_tree r fs
 abbrev pub begin : List Slot → Token → Option Partial
 begin ps (leaf t) = Some (fill ps t)
 begin ps (wrap w) = Some (due (child w ∷ ps))
-begin ps (open_row r) = Some (between (in_row r no_trees) ps)
+begin ps (open_series r) = Some (between (in_series r no_trees) ps)
 begin ps open_map = Some (between (in_map no_pairs) ps)
 begin ps (open_record r) = Some (between (in_record r no_fields) ps)
 begin ps _ = None
 
--- an item call in a row, where the row's items are announced by it
+-- an item call in a series, where the series' items are announced by it
 abbrev pub next_item : ItemCall → ItemCall → Partial → Option Partial
 next_item token.element token.element s = Some s
 next_item token.tuple_field token.tuple_field s = Some s
@@ -99,7 +99,7 @@ next_item _ _ s = None
 
 -- a call where no slot waits
 abbrev pub follow : Compound → List Slot → Token → Option Partial
-follow (in_row r ts) ps (token.item m) = next_item (item_call r) m (due (element r ts ∷ ps))
+follow (in_series r ts) ps (token.item m) = next_item (item_call r) m (due (element r ts ∷ ps))
 follow (in_map prs) ps token.key = Some (due (key prs ∷ ps))
 follow (in_map prs) ps token.value = Some (due (value prs ∷ ps))
 follow (in_map prs) ps token.entry = Some (due (entry_key prs ∷ ps))

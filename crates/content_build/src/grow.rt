@@ -1,4 +1,5 @@
 //! From the tape to the value.
+
 #![tactic(auto, using(crate::proofs::Pushes::pushes))]
 
 ghost use Rattle.std.specs.Prelude.{◌≡◌, ◌-◌, ◌∷◌, [], IfOk, MatchOption, vec_len};
@@ -9,7 +10,7 @@ ghost use Rattle.content_tree.specs.Values.Value.{fields_view};
 ghost use Rattle.content_ser.specs.Calls.Head.{head_of};
 ghost use Rattle.content_build.specs.Inner.Cells as cells;
 ghost use Rattle.content_build.specs.Inner.Cells.{cell, flat, names_of};
-ghost use Rattle.content_build.specs.Inner.Entries.{row, entry_view, sort_view};
+ghost use Rattle.content_build.specs.Inner.Frames.{cells_of, frame_view, sort_view};
 ghost use Rattle.content_build.specs.Inner.Forest as forest;
 ghost use Rattle.content_build.specs.Inner.Forest.{data_near, fields_near, no_key, pairs_near};
 ghost use Rattle.content_build.specs.Inner.Forest.{past};
@@ -17,13 +18,13 @@ ghost use Rattle.content_build.specs.Inner.Forest.{past_data, past_fields, plant
 ghost use Rattle.content_build.specs.Inner.Forest.{trees_near};
 ghost use Rattle.content_build.specs.Inner.Values.{grown_trees};
 
-use crate::node::{Entry, Node, Sort, leaf_value};
-use crate::parts::under;
+use crate::node::{Frame, Node, Sort, leaf_value};
+use crate::parts::with_head;
 use content_ser::Head;
 use content_tree::{CowStr, Data, NamedData, NamedValue, Value};
 use std::alloc::{AllocError, Global};
 
-/// A value with its key, which is empty where it is no field, and the number of its entries.
+/// A value with its key, which is empty where it is no field, and the number of its frames.
 #[derive(Drop)]
 pub(crate) struct Grown<'v> {
     value: Value<'v>,
@@ -31,7 +32,7 @@ pub(crate) struct Grown<'v> {
     size: usize,
 }
 
-/// How many of the last values have this many entries together, each with this many for its key.
+/// How many of the last values have this many frames together, each with this many for its key.
 #[inline(always)]
 fn count<'v>(grown: &Vec<Grown<'v>>, size: usize, keys: usize) -> usize {
     let mut left = size;
@@ -43,7 +44,7 @@ fn count<'v>(grown: &Vec<Grown<'v>>, size: usize, keys: usize) -> usize {
     grown.len() - at
 }
 
-/// The last values, the last first, that have this many entries.
+/// The last values, the last first, that have this many frames.
 fn take_items<'v>(
     alloc: Global,
     grown: &mut Vec<Grown<'v>>,
@@ -67,7 +68,7 @@ fn take_items<'v>(
     Ok(items)
 }
 
-/// The last values, the last first, that have this many entries with their keys.
+/// The last values, the last first, that have this many frames with their keys.
 fn take_fields<'v>(
     alloc: Global,
     grown: &mut Vec<Grown<'v>>,
@@ -91,7 +92,7 @@ fn take_fields<'v>(
     Ok(fields)
 }
 
-/// The last values, the last first, in pairs that have this many entries.
+/// The last values, the last first, in pairs that have this many frames.
 fn take_pairs<'v>(
     alloc: Global,
     grown: &mut Vec<Grown<'v>>,
@@ -144,7 +145,7 @@ fn add<'v>(grown: &mut Vec<Grown<'v>>, value: Value<'v>, size: usize) -> Result<
     Ok(())
 }
 
-/// What a struct or a variant of this sort holds, in this many entries.
+/// What a struct or a variant of this sort holds, in this many frames.
 #[inline(always)]
 fn held<'v>(
     alloc: Global,
@@ -237,7 +238,7 @@ fn grow_headed<'v>(
         (grown_trees grown.old.items)) }
 {
     let data = held(alloc, grown, sort, size.saturating_sub(1))?;
-    let value = under(alloc, head, data)?;
+    let value = with_head(alloc, head, data)?;
     add(grown, value, size)
 }
 
@@ -256,11 +257,11 @@ fn give_key<'v>(grown: &mut Vec<Grown<'v>>, key: &'static str)
 
 /// One entry more, whose children are the last values.
 #[inline(always)]
-fn grow_one<'v>(alloc: Global, grown: &mut Vec<Grown<'v>>, next: Entry) -> Result<(), AllocError>
+fn grow_one<'v>(alloc: Global, grown: &mut Vec<Grown<'v>>, next: Frame) -> Result<(), AllocError>
     ensures { IfOk result (λ _. grown_trees grown.new.items
-        ≡ plant (entry_view next) (grown_trees grown.old.items)) }
+        ≡ plant (frame_view next) (grown_trees grown.old.items)) }
 {
-    let Entry { node, size } = next;
+    let Frame { node, size } = next;
     match node {
         Node::Leaf(leaf) => add(grown, leaf_value(leaf), size),
         Node::Present => grow_present(alloc, grown, size),
@@ -284,41 +285,41 @@ fn grow_one<'v>(alloc: Global, grown: &mut Vec<Grown<'v>>, next: Entry) -> Resul
     }
 }
 
-/// The same entries, without the room of those that are gone. It is seldom done, and so stands
+/// The same frames, without the room of those that are gone. It is seldom done, and so stands
 /// outside the loop.
 #[cold]
 #[inline(never)]
-fn shrunk(entries: Vec<Entry>) -> Vec<Entry>
-    ensures items { result.items ≡ entries.items }
-    ensures len { vec_len result ≡ vec_len entries }
+fn shrunk(frames: Vec<Frame>) -> Vec<Frame>
+    ensures items { result.items ≡ frames.items }
+    ensures len { vec_len result ≡ vec_len frames }
 {
-    let mut entries = entries;
-    entries.shrink_to_fit();
-    entries
+    let mut frames = frames;
+    frames.shrink_to_fit();
+    frames
 }
 
-/// The same entries, without the room of those that are gone once these are the half.
+/// The same frames, without the room of those that are gone once these are the half.
 #[inline(always)]
-fn trimmed(entries: Vec<Entry>) -> Vec<Entry>
-    ensures items { result.items ≡ entries.items }
-    ensures len { vec_len result ≡ vec_len entries }
+fn trimmed(frames: Vec<Frame>) -> Vec<Frame>
+    ensures items { result.items ≡ frames.items }
+    ensures len { vec_len result ≡ vec_len frames }
 {
-    if entries.len() < entries.capacity() / 2 {
-        shrunk(entries)
+    if frames.len() < frames.capacity() / 2 {
+        shrunk(frames)
     } else {
-        entries
+        frames
     }
 }
 
 /// The value of a whole tape.
-pub(crate) fn grow<'v>(alloc: Global, entries: Vec<Entry>) -> Result<Option<Value<'v>>, AllocError>
-    ensures { (t : Tree) → row entries.items ≡ flat t
+pub(crate) fn grow<'v>(alloc: Global, frames: Vec<Frame>) -> Result<Option<Value<'v>>, AllocError>
+    ensures { (t : Tree) → cells_of frames.items ≡ flat t
         → IfOk result (λ value. MatchOption value ⊥ (λ v. tree_of v ≡ t)) }
 {
-    let mut entries = entries;
+    let mut frames = frames;
     let mut grown = Vec::new(alloc);
-    while let Some(next) = entries.pop() {
-        entries = trimmed(entries);
+    while let Some(next) = frames.pop() {
+        frames = trimmed(frames);
         grow_one(alloc, &mut grown, next)?;
     }
     match grown.pop() {

@@ -1,4 +1,5 @@
 //! Builds trees from serialiser calls.
+
 #![tactic(auto)]
 
 mod builder;

@@ -16,7 +16,7 @@ pub(crate) fn fits(limit: usize, count: usize, call: &Token<'_>) -> bool
         Token::Wrap(_) => limit > 0 && count < limit - 1,
         Token::Item(_) => count < limit,
         Token::Leaf(_) => true,
-        Token::Row(_) => true,
+        Token::Series(_) => true,
         Token::Map => true,
         Token::Record(_) => true,
         Token::End => true,

@@ -1,11 +1,11 @@
-//! Entries of the tape: nodes without their children.
+//! Frames of the tape: nodes without their children.
 
 ghost use Rattle.std.specs.Prelude.{◌≡◌, IfOk};
 ghost use Rattle.content_tree.specs.Values.Value.{tree_of};
 ghost use Rattle.content_ser.specs.Calls.Head.{head_of};
 ghost use Rattle.content_build.specs.Inner.Cells as cells;
 ghost use Rattle.content_build.specs.Inner.Cells.{names_of};
-ghost use Rattle.content_build.specs.Inner.Entries.{leaf_view, node_view, sort_view};
+ghost use Rattle.content_build.specs.Inner.Frames.{leaf_view, node_view, sort_view};
 ghost use Rattle.content_build.specs.Inner.Forest.{leaf_tree};
 
 use content_ser::Head;
@@ -55,9 +55,9 @@ pub(crate) enum Node {
     Key(&'static str),
 }
 
-/// A node, with the number of entries of its whole tree, or 0 while it is open.
+/// A node, with the number of frames of its whole tree, or 0 while it is open.
 #[derive(Drop)]
-pub(crate) struct Entry {
+pub(crate) struct Frame {
     pub(crate) node: Node,
     pub(crate) size: usize,
 }
@@ -82,7 +82,7 @@ pub(crate) enum Waits {
 /// An open head: its place on the tape, where the last value of a map begins, or 0, and what it
 /// waits for.
 #[derive(Drop)]
-pub(crate) struct OpenHead {
+pub(crate) struct Opening {
     pub(crate) at: usize,
     pub(crate) last: usize,
     pub(crate) waits: Waits,

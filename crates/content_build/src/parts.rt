@@ -1,4 +1,4 @@
-//! What stands around trees, and the trees of heads.
+//! What stands around trees, and the trees of openings.
 
 ghost use Rattle.std.specs.Prelude.{◌≡◌, IfOk};
 ghost use Rattle.content_tree.specs.Values.Value.{tree_of, tree_data_of};
@@ -17,21 +17,25 @@ pub(crate) enum Wrap {
 
 /// What holds items by place.
 #[derive(Drop)]
-pub(crate) enum Row {
+pub(crate) enum Series {
     Seq,
     Tuple,
     Head(Head),
 }
 
 /// The struct or the variant of this head that holds this.
-pub(crate) fn under<'v>(alloc: Global, head: Head, held: Data<'v>) -> Result<Value<'v>, AllocError>
-    ensures { IfOk result (λ v. tree_of v ≡ headed (head_of head) (tree_data_of held.entry)) }
+pub(crate) fn with_head<'v>(
+    alloc: Global,
+    head: Head,
+    inside: Data<'v>,
+) -> Result<Value<'v>, AllocError>
+    ensures { IfOk result (λ v. tree_of v ≡ headed (head_of head) (tree_data_of inside.entry)) }
 {
     match head {
         Head::Struct(name) => {
             let inner = NamedStruct {
                 name: CowStr::Borrowed(name),
-                data: held,
+                data: inside,
             };
             Ok(NamedValue::Struct(Box::new(alloc, inner)?))
         }
@@ -40,7 +44,7 @@ pub(crate) fn under<'v>(alloc: Global, head: Head, held: Data<'v>) -> Result<Val
                 name: CowStr::Borrowed(name),
                 variant_index,
                 variant: CowStr::Borrowed(variant),
-                data: held,
+                data: inside,
             };
             Ok(NamedValue::Enum(Box::new(alloc, inner)?))
         }

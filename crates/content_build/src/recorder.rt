@@ -75,7 +75,7 @@ impl Recorder {
         self.calls
     }
 
-    // Puts the call at the list's end.
+    /// Puts the call at the list's end.
     fn take(&mut self, call: Call<'static>) -> Result<()>
         requires { IsOwned call }
         ensures { Takes recorded refuses self.old (event_of call.entry) result self.new }
@@ -89,7 +89,7 @@ impl Recorder {
         }
     }
 
-    // From now on it has failed; the error is handed back.
+    /// From now on it has failed; the error is handed back.
     fn fail(&mut self, error: Error) -> Error
         ensures state { self.new
             ≡ record { state = self.old.state; failed = true; readable = self.old.readable } }

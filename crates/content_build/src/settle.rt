@@ -6,105 +6,105 @@ ghost use Rattle.content_tree.specs.Values.Tree.{Tree};
 ghost use Rattle.content_build.specs.Partial.{Slot, fill};
 ghost use Rattle.content_build.specs.Inner.Cells as cells;
 ghost use Rattle.content_build.specs.Inner.Cells.{Open, opened, with_size, Waiting, Stood};
-ghost use Rattle.content_build.specs.Inner.Entries.{row};
+ghost use Rattle.content_build.specs.Inner.Frames.{cells_of};
 ghost use Rattle.content_build.specs.Inner.Sound.{IsWaiting};
 ghost use Rattle.content_build.specs.Inner.Taken.{TakenTo};
 
-use crate::node::{Entry, Leaf, Node, OpenHead, Waits};
+use crate::node::{Frame, Leaf, Node, Opening, Waits};
 use crate::refusal::Taken;
 
-/// The node at this place has all its entries.
+/// The node at this place has all its frames.
 #[inline(always)]
-pub(crate) fn close(entries: &mut Vec<Entry>, at: usize)
-    requires { at < vec_len entries.old }
-    ensures { row entries.new.items
-        ≡ with_size (row entries.old.items) at (length (row entries.old.items) - at) }
+pub(crate) fn close(frames: &mut Vec<Frame>, at: usize)
+    requires { at < vec_len frames.old }
+    ensures { cells_of frames.new.items
+        ≡ with_size (cells_of frames.old.items) at (length (cells_of frames.old.items) - at) }
 {
-    let size = entries.len() - at;
-    let entry = &mut entries[at];
-    entry.size = size;
+    let size = frames.len() - at;
+    let frame = &mut frames[at];
+    frame.size = size;
 }
 
-/// Takes these entries out.
-fn cut(entries: &mut Vec<Entry>, from: usize, to: usize)
+/// Takes these frames out.
+fn take_out(frames: &mut Vec<Frame>, from: usize, to: usize)
     requires order { from ≤ to }
-    requires inside { to ≤ vec_len entries.old }
-    ensures { entries.new.items ≡ take from entries.old.items ++ drop to entries.old.items }
+    requires inside { to ≤ vec_len frames.old }
+    ensures { frames.new.items ≡ take from frames.old.items ++ drop to frames.old.items }
 {
-    drop(entries.drain(from..to));
+    drop(frames.drain(from..to));
 }
 
 /// The tree at the end takes the place of the last value, where there is one.
 #[inline(never)]
-fn replace(entries: &mut Vec<Entry>, at: usize, last: usize)
+fn replace(frames: &mut Vec<Frame>, at: usize, last: usize)
     requires { (ps : List Slot) × (t : Tree) × (os : List Open)
-        × Waiting (row entries.old.items) (opened at last cells.a_value ∷ os) ps t }
+        × Waiting (cells_of frames.old.items) (opened at last cells.a_value ∷ os) ps t }
     ensures { (ps : List Slot) (t : Tree) (os : List Open)
-        → Waiting (row entries.old.items) (opened at last cells.a_value ∷ os) ps t
-        → Stood (row entries.new.items) (opened at last cells.in_map ∷ os) (fill ps t) }
+        → Waiting (cells_of frames.old.items) (opened at last cells.a_value ∷ os) ps t
+        → Stood (cells_of frames.new.items) (opened at last cells.in_map ∷ os) (fill ps t) }
 {
     if last == 0 {
-        entries.truncate(at + 1);
+        frames.truncate(at + 1);
     } else {
-        let size = entries[last].size;
-        cut(entries, last, last + size);
+        let size = frames[last].size;
+        take_out(frames, last, last + size);
     }
 }
 
 /// Fills the innermost slot with the finished tree at the end of the tape.
 #[inline(always)]
-pub(crate) fn settle(entries: &mut Vec<Entry>, heads: &mut Vec<OpenHead>) -> Taken
+pub(crate) fn settle(frames: &mut Vec<Frame>, openings: &mut Vec<Opening>) -> Taken
     requires { (ps : List Slot) × (t : Tree)
-        × IsWaiting entries.old.items heads.old.items ps t }
+        × IsWaiting frames.old.items openings.old.items ps t }
     ensures { (ps : List Slot) (t : Tree)
-        → IsWaiting entries.old.items heads.old.items ps t
-        → TakenTo (Some (fill ps t)) result entries.new.items heads.new.items }
+        → IsWaiting frames.old.items openings.old.items ps t
+        → TakenTo (Some (fill ps t)) result frames.new.items openings.new.items }
 {
-    let mut count = heads.len();
+    let mut count = openings.len();
     while count > 0 {
         count -= 1;
-        let head = &mut heads[count];
-        match head.waits {
+        let opening = &mut openings[count];
+        match opening.waits {
             Waits::Child => {
-                let at = head.at;
-                heads.truncate(count);
-                close(entries, at);
+                let at = opening.at;
+                openings.truncate(count);
+                close(frames, at);
             }
             Waits::Element => {
-                head.waits = Waits::InElements;
+                opening.waits = Waits::InElements;
                 return Ok(());
             }
             Waits::TupleField => {
-                head.waits = Waits::InTupleFields;
+                opening.waits = Waits::InTupleFields;
                 return Ok(());
             }
             Waits::Key => {
-                head.last = entries.len();
-                head.waits = Waits::InMap;
-                entries.push(Entry {
+                opening.last = frames.len();
+                opening.waits = Waits::InMap;
+                frames.push(Frame {
                     node: Node::Leaf(Leaf::Unit),
                     size: 1,
                 })?;
                 return Ok(());
             }
             Waits::Value => {
-                head.waits = Waits::InMap;
-                let at = head.at;
-                let last = head.last;
-                replace(entries, at, last);
+                opening.waits = Waits::InMap;
+                let at = opening.at;
+                let last = opening.last;
+                replace(frames, at, last);
                 return Ok(());
             }
             Waits::EntryKey => {
-                head.last = entries.len();
-                head.waits = Waits::EntryValue;
+                opening.last = frames.len();
+                opening.waits = Waits::EntryValue;
                 return Ok(());
             }
             Waits::EntryValue => {
-                head.waits = Waits::InMap;
+                opening.waits = Waits::InMap;
                 return Ok(());
             }
             Waits::Field => {
-                head.waits = Waits::InRecord;
+                opening.waits = Waits::InRecord;
                 return Ok(());
             }
             Waits::InElements => return Ok(()),

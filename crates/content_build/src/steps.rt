@@ -1,34 +1,34 @@
-//! Calls on the entries and the open heads of a tape.
+//! Calls on the frames and the openings of a tape.
 
 ghost use Rattle.std.specs.Prelude.{◌≡◌, ◌↔◌, ◌∷◌, [], IsTrue, IfOk, Some};
 ghost use Rattle.content_ser.specs.Calls.Head.{head_of};
 ghost use Rattle.content_ser.specs.Grammar.Token as token;
 ghost use Rattle.content_build.specs.Partial.{step_token};
 ghost use Rattle.content_build.specs.Inner.Cells.{cell, flat};
-ghost use Rattle.content_build.specs.Inner.Entries.{node_view, wait_view};
+ghost use Rattle.content_build.specs.Inner.Frames.{node_view, wait_view};
 ghost use Rattle.content_build.specs.Inner.Sound.{meaning, IsSound};
 ghost use Rattle.content_build.specs.Inner.Steps.{IsDue, IsIdle, Opens};
 ghost use Rattle.content_build.specs.Inner.Taken.{TakenTo};
-ghost use Rattle.content_build.specs.Inner.Tokens.{announcement_view, leaf_tree, token_view};
+ghost use Rattle.content_build.specs.Inner.Tokens.{item_call_view, leaf_tree, token_view};
 
-use crate::node::{Entry, Leaf, Node, OpenHead, Sort, Waits, headed, number_leaf};
-use crate::parts::{Row, Wrap};
+use crate::node::{Frame, Leaf, Node, Opening, Sort, Waits, headed, number_leaf};
+use crate::parts::{Series, Wrap};
 use crate::refusal::{Refusal, Taken};
 use crate::settle::{close, settle};
-use crate::token::{Announcement, Leaf as Whole, Token};
+use crate::token::{ItemCall, LeafCall, Token};
 use std::alloc::{AllocError, Global};
 
 /// Whether a tree is due.
 #[inline(always)]
-fn is_due(entries: &Vec<Entry>, heads: &Vec<OpenHead>) -> bool
-    requires { IsSound entries.now.items heads.now.items }
-    ensures { IsTrue result ↔ IsDue (meaning entries.now.items heads.now.items) }
+fn is_due(frames: &Vec<Frame>, openings: &Vec<Opening>) -> bool
+    requires { IsSound frames.now.items openings.now.items }
+    ensures { IsTrue result ↔ IsDue (meaning frames.now.items openings.now.items) }
 {
-    let count = heads.len();
+    let count = openings.len();
     if count == 0 {
-        return entries.len() == 0;
+        return frames.len() == 0;
     }
-    match heads[count - 1].waits {
+    match openings[count - 1].waits {
         Waits::Child => true,
         Waits::Element => true,
         Waits::TupleField => true,
@@ -46,18 +46,18 @@ fn is_due(entries: &Vec<Entry>, heads: &Vec<OpenHead>) -> bool
 
 /// The node of a call whose tree is whole: its text and bytes are copied, its names are not.
 #[inline(always)]
-fn whole_node(alloc: Global, whole: Whole<'_>) -> Result<Node, AllocError>
-    ensures { IfOk result (λ node. cell (node_view node) 1 ∷ [] ≡ flat (leaf_tree whole.entry)) }
+fn whole_node(alloc: Global, leaf: LeafCall<'_>) -> Result<Node, AllocError>
+    ensures { IfOk result (λ node. cell (node_view node) 1 ∷ [] ≡ flat (leaf_tree leaf.entry)) }
 {
-    match whole {
-        Whole::Unit => Ok(Node::Leaf(Leaf::Unit)),
-        Whole::Bool(v) => Ok(Node::Leaf(Leaf::Bool(v))),
-        Whole::Number(v) => Ok(Node::Leaf(number_leaf(alloc, v)?)),
-        Whole::Char(v) => Ok(Node::Leaf(Leaf::Char(v))),
-        Whole::Text(text) => Ok(Node::Leaf(Leaf::Text(String::from_str(alloc, text)?))),
-        Whole::Bytes(bytes) => Ok(Node::Leaf(Leaf::Bytes(bytes.to_vec(alloc)?))),
-        Whole::Absent => Ok(Node::Leaf(Leaf::Absent)),
-        Whole::Head(head) => Ok(headed(Sort::Nothing, head)),
+    match leaf {
+        LeafCall::Unit => Ok(Node::Leaf(Leaf::Unit)),
+        LeafCall::Bool(v) => Ok(Node::Leaf(Leaf::Bool(v))),
+        LeafCall::Number(v) => Ok(Node::Leaf(number_leaf(alloc, v)?)),
+        LeafCall::Char(v) => Ok(Node::Leaf(Leaf::Char(v))),
+        LeafCall::Text(text) => Ok(Node::Leaf(Leaf::Text(String::from_str(alloc, text)?))),
+        LeafCall::Bytes(bytes) => Ok(Node::Leaf(Leaf::Bytes(bytes.to_vec(alloc)?))),
+        LeafCall::Absent => Ok(Node::Leaf(Leaf::Absent)),
+        LeafCall::Head(head) => Ok(headed(Sort::Nothing, head)),
     }
 }
 
@@ -65,95 +65,95 @@ fn whole_node(alloc: Global, whole: Whole<'_>) -> Result<Node, AllocError>
 #[inline(always)]
 fn put(
     alloc: Global,
-    entries: &mut Vec<Entry>,
-    heads: &mut Vec<OpenHead>,
-    whole: Whole<'_>,
+    frames: &mut Vec<Frame>,
+    openings: &mut Vec<Opening>,
+    leaf: LeafCall<'_>,
 ) -> Taken
-    requires { IsSound entries.old.items heads.old.items }
+    requires { IsSound frames.old.items openings.old.items }
     ensures { TakenTo
-        (step_token (meaning entries.old.items heads.old.items)
-        (token.leaf (leaf_tree whole.entry)))
-        result entries.new.items heads.new.items }
+        (step_token (meaning frames.old.items openings.old.items)
+        (token.leaf (leaf_tree leaf.entry)))
+        result frames.new.items openings.new.items }
 {
-    if !is_due(entries, heads) {
+    if !is_due(frames, openings) {
         return Err(Refusal::Misplaced);
     }
-    let node = whole_node(alloc, whole)?;
-    entries.push(Entry { node, size: 1 })?;
-    settle(entries, heads)
+    let node = whole_node(alloc, leaf)?;
+    frames.push(Frame { node, size: 1 })?;
+    settle(frames, openings)
 }
 
 /// A call that opens a head.
 #[inline(always)]
-fn open(entries: &mut Vec<Entry>, heads: &mut Vec<OpenHead>, node: Node, waits: Waits) -> Taken
-    requires { IsSound entries.old.items heads.old.items }
+fn open(frames: &mut Vec<Frame>, openings: &mut Vec<Opening>, node: Node, waits: Waits) -> Taken
+    requires { IsSound frames.old.items openings.old.items }
     ensures { (call : token.Token) → Opens call (node_view node) (wait_view waits)
-        → TakenTo (step_token (meaning entries.old.items heads.old.items) call)
-        result entries.new.items heads.new.items }
+        → TakenTo (step_token (meaning frames.old.items openings.old.items) call)
+        result frames.new.items openings.new.items }
 {
-    if !is_due(entries, heads) {
+    if !is_due(frames, openings) {
         return Err(Refusal::Misplaced);
     }
-    let at = entries.len();
-    entries.push(Entry { node, size: 0 })?;
-    heads.push(OpenHead { at, last: 0, waits })?;
+    let at = frames.len();
+    frames.push(Frame { node, size: 0 })?;
+    openings.push(Opening { at, last: 0, waits })?;
     Ok(())
 }
 
 /// A call that announces an item.
 #[inline(always)]
-fn announce(entries: &mut Vec<Entry>, heads: &mut Vec<OpenHead>, item: Announcement) -> Taken
-    requires { IsSound entries.old.items heads.old.items }
+fn announce(frames: &mut Vec<Frame>, openings: &mut Vec<Opening>, item: ItemCall) -> Taken
+    requires { IsSound frames.old.items openings.old.items }
     ensures { TakenTo
-        (step_token (meaning entries.old.items heads.old.items) (announcement_view item))
-        result entries.new.items heads.new.items }
+        (step_token (meaning frames.old.items openings.old.items) (item_call_view item))
+        result frames.new.items openings.new.items }
 {
-    let count = heads.len();
+    let count = openings.len();
     if count == 0 {
         return Err(Refusal::Misplaced);
     }
-    let head = &mut heads[count - 1];
+    let opening = &mut openings[count - 1];
     match item {
-        Announcement::Element => match head.waits {
+        ItemCall::Element => match opening.waits {
             Waits::InElements => {
-                head.waits = Waits::Element;
+                opening.waits = Waits::Element;
                 Ok(())
             }
             _ => Err(Refusal::Misplaced),
         },
-        Announcement::TupleField => match head.waits {
+        ItemCall::TupleField => match opening.waits {
             Waits::InTupleFields => {
-                head.waits = Waits::TupleField;
+                opening.waits = Waits::TupleField;
                 Ok(())
             }
             _ => Err(Refusal::Misplaced),
         },
-        Announcement::Field(key) => match head.waits {
+        ItemCall::Field(key) => match opening.waits {
             Waits::InRecord => {
-                head.waits = Waits::Field;
+                opening.waits = Waits::Field;
                 let node = Node::Key(key);
-                entries.push(Entry { node, size: 1 })?;
+                frames.push(Frame { node, size: 1 })?;
                 Ok(())
             }
             _ => Err(Refusal::Misplaced),
         },
-        Announcement::Key => match head.waits {
+        ItemCall::Key => match opening.waits {
             Waits::InMap => {
-                head.waits = Waits::Key;
+                opening.waits = Waits::Key;
                 Ok(())
             }
             _ => Err(Refusal::Misplaced),
         },
-        Announcement::Value => match head.waits {
+        ItemCall::Value => match opening.waits {
             Waits::InMap => {
-                head.waits = Waits::Value;
+                opening.waits = Waits::Value;
                 Ok(())
             }
             _ => Err(Refusal::Misplaced),
         },
-        Announcement::Entry => match head.waits {
+        ItemCall::Entry => match opening.waits {
             Waits::InMap => {
-                head.waits = Waits::EntryKey;
+                opening.waits = Waits::EntryKey;
                 Ok(())
             }
             _ => Err(Refusal::Misplaced),
@@ -184,59 +184,66 @@ fn is_idle(waits: Waits) -> bool
 
 /// The end of the innermost compound.
 #[inline(always)]
-fn end(entries: &mut Vec<Entry>, heads: &mut Vec<OpenHead>) -> Taken
-    requires { IsSound entries.old.items heads.old.items }
-    ensures { TakenTo (step_token (meaning entries.old.items heads.old.items) token.finish)
-        result entries.new.items heads.new.items }
+fn end(frames: &mut Vec<Frame>, openings: &mut Vec<Opening>) -> Taken
+    requires { IsSound frames.old.items openings.old.items }
+    ensures { TakenTo (step_token (meaning frames.old.items openings.old.items) token.finish)
+        result frames.new.items openings.new.items }
 {
-    let count = heads.len();
+    let count = openings.len();
     if count == 0 {
         return Err(Refusal::Misplaced);
     }
-    let head = &heads[count - 1];
-    if !is_idle(head.waits) {
+    let opening = &openings[count - 1];
+    if !is_idle(opening.waits) {
         return Err(Refusal::Misplaced);
     }
-    let at = head.at;
-    heads.truncate(count - 1);
-    close(entries, at);
-    settle(entries, heads)
+    let at = opening.at;
+    openings.truncate(count - 1);
+    close(frames, at);
+    settle(frames, openings)
 }
 
 /// A call.
 #[inline(always)]
 pub(crate) fn step(
     alloc: Global,
-    entries: &mut Vec<Entry>,
-    heads: &mut Vec<OpenHead>,
+    frames: &mut Vec<Frame>,
+    openings: &mut Vec<Opening>,
     call: Token<'_>,
 ) -> Taken
-    requires { IsSound entries.old.items heads.old.items }
+    requires { IsSound frames.old.items openings.old.items }
     ensures { TakenTo
-        (step_token (meaning entries.old.items heads.old.items) (token_view call.entry))
-        result entries.new.items heads.new.items }
+        (step_token (meaning frames.old.items openings.old.items) (token_view call.entry))
+        result frames.new.items openings.new.items }
 {
     match call {
-        Token::Leaf(whole) => put(alloc, entries, heads, whole),
+        Token::Leaf(leaf) => put(alloc, frames, openings, leaf),
         Token::Wrap(wrap) => match wrap {
-            Wrap::Present => open(entries, heads, Node::Present, Waits::Child),
-            Wrap::Head(head) => open(entries, heads, headed(Sort::One, head), Waits::Child),
+            Wrap::Present => open(frames, openings, Node::Present, Waits::Child),
+            Wrap::Head(head) => open(frames, openings, headed(Sort::One, head), Waits::Child),
         },
-        Token::Row(row) => match row {
-            Row::Seq => open(entries, heads, Node::Seq, Waits::InElements),
-            Row::Tuple => open(entries, heads, Node::Tuple, Waits::InElements),
-            Row::Head(head) => {
+        Token::Series(series) => match series {
+            Series::Seq => open(frames, openings, Node::Seq, Waits::InElements),
+            Series::Tuple => open(frames, openings, Node::Tuple, Waits::InElements),
+            Series::Head(head) => {
                 open(
-                    entries,
-                    heads,
+                    frames,
+                    openings,
                     headed(Sort::Many, head),
                     Waits::InTupleFields,
                 )
             }
         },
-        Token::Map => open(entries, heads, Node::Map, Waits::InMap),
-        Token::Record(head) => { open(entries, heads, headed(Sort::Fields, head), Waits::InRecord) }
-        Token::Item(item) => announce(entries, heads, item),
-        Token::End => end(entries, heads),
+        Token::Map => open(frames, openings, Node::Map, Waits::InMap),
+        Token::Record(head) => {
+            open(
+                frames,
+                openings,
+                headed(Sort::Fields, head),
+                Waits::InRecord,
+            )
+        }
+        Token::Item(item) => announce(frames, openings, item),
+        Token::End => end(frames, openings),
     }
 }

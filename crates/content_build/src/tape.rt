@@ -4,24 +4,24 @@ ghost use Rattle.content_build.specs.Inner.Sound.{IsKept, IsKept-prop};
 
 use crate::grow::grow;
 use crate::limit::fits;
-use crate::node::{Entry, OpenHead};
+use crate::node::{Frame, Opening};
 use crate::refusal::{Refusal, Taken};
 use crate::steps::step;
 use crate::token::Token;
 use content_tree::{ErrorKind, Result, Value};
 use std::alloc::Global;
 
-/// A partial tree: an entry for each node, in the order in which nodes begin, and the heads that
+/// A partial tree: a frame for each node, in the order in which nodes begin, and the openings that
 /// are open, from the outermost to the innermost; and the limit on how many they may be, if there
 /// is one.
 #[derive(Drop)]
 pub(crate) struct Tape {
     alloc: Global,
-    entries: Vec<Entry>,
-    heads: Vec<OpenHead>,
+    frames: Vec<Frame>,
+    openings: Vec<Opening>,
     limit: Option<usize>,
     failed: bool,
-    ghost kept: { IsKept failed entries.items heads.items } by { IsKept-prop failed entries.items heads.items },
+    ghost kept: { IsKept failed frames.items openings.items } by { IsKept-prop failed frames.items openings.items },
 }
 
 impl Tape {
@@ -40,8 +40,8 @@ impl Tape {
     {
         Tape {
             alloc,
-            entries: Vec::new(alloc),
-            heads: Vec::new(alloc),
+            frames: Vec::new(alloc),
+            openings: Vec::new(alloc),
             limit,
             failed: false,
         }
@@ -73,7 +73,7 @@ impl Tape {
             self.failed = true;
             return Err(Refusal::Misplaced);
         }
-        match step(self.alloc, &mut self.entries, &mut self.heads, call) {
+        match step(self.alloc, &mut self.frames, &mut self.openings, call) {
             Ok(()) => Ok(()),
             Err(refusal) => {
                 self.failed = true;
@@ -89,11 +89,11 @@ impl Tape {
         self.failed
     }
 
-    /// How many heads are open, unless a call was refused.
+    /// How many openings there are, unless a call was refused.
     pub(crate) fn open_count(&self) -> usize
         ensures { IfSome (partial_tree self.now) (λ partial. result ≡ partial_open_count partial) }
     {
-        self.heads.len()
+        self.openings.len()
     }
 
     /// The whole tree.
@@ -103,21 +103,21 @@ impl Tape {
     {
         let Tape {
             alloc,
-            entries,
-            heads,
+            frames,
+            openings,
             limit: _,
             failed,
         } = self;
         if failed {
             return Err(ErrorKind::Failed.into());
         }
-        if heads.len() > 0 {
+        if openings.len() > 0 {
             return Err(ErrorKind::Unfinished.into());
         }
-        if entries.len() == 0 {
+        if frames.len() == 0 {
             return Err(ErrorKind::Unfinished.into());
         }
-        match grow(alloc, entries)? {
+        match grow(alloc, frames)? {
             Some(value) => Ok(value),
             None => Err(ErrorKind::Unfinished.into()),
         }

@@ -10,10 +10,10 @@ use denote.Ref.{Bor}
 use Rattle.serde_content.specs.Names.Words.{Event, seen_of, HasTaken, Builder, AnswersNext, Error}
 use Rattle.serde_content.specs.Names.Words.{kind_of, CallsError, IsRefusalWithin}
 use Rattle.content_cli.specs.Lines.{is_bad, is_blank, lines_of, first_bad, calls_of}
-use Rattle.content_cli.specs.Outcomes.{AnswersLine, IsOutcome, IsRefusedWithin}
+use Rattle.content_cli.specs.Verdicts.{AnswersLine, IsVerdict, IsRefusedWithin}
 use Rattle.content_cli.specs.Words.{event_in}
-use Rattle.content_cli.specs.declared.calls.Outcome.{Outcome}
-use Rattle.content_cli.specs.declared.calls.Outcome.TheVariants.{BadLine, Taken, Refused}
+use Rattle.content_cli.specs.declared.calls.Verdict.{Verdict}
+use Rattle.content_cli.specs.declared.calls.Verdict.TheVariants.{BadLine, Taken, Refused}
 
 -- the calls of a list of lines
 abbrev pub calls_in : List (List ℕ) → List Event
@@ -146,7 +146,7 @@ to_next limit body builder count place text line o after is h within bytes = rec
 }
 
 -- the last line was read
-pub to_end : (limit : Option ℕ) (body : List ℕ) (builder : Builder) (count place bytes : ℕ) (o : Option (Bor (List ℕ))) → o ≡ None → HasReadTo limit body builder count place (lines_in o) bytes → IsOutcome limit body (Taken builder count)
+pub to_end : (limit : Option ℕ) (body : List ℕ) (builder : Builder) (count place bytes : ℕ) (o : Option (Bor (List ℕ))) → o ≡ None → HasReadTo limit body builder count place (lines_in o) bytes → IsVerdict limit body (Taken builder count)
 to_end limit body builder count place bytes o is h =
     let all : calls_of body ≡ h.calls = h.spelled ∙ (ap (λ r. h.calls ++ calls_in (lines_in r)) is ∙ append-nil h.calls) in
     (h.bad ∙ ap (λ r. bad_from (place + 1) (lines_in r)) is, subst (λ l. HasTaken limit l (seen_of builder)) (sym all) h.taken, h.counted ∙ ap length (sym all))
@@ -172,13 +172,13 @@ bad_after text place b e =
     ap (λ n. bad_from n (lines_of text)) (none_more place) ∙ (shifted (lines_of text) place 0 ∙ ap (option_map (λ n. place + n)) (sym (position_from-zero is_bad (lines_of text)) ∙ e))
 
 -- a refusal, or a bad line after it
-pub refused_or_bad : (limit : Option ℕ) (body text : List ℕ) (place : ℕ) (e : CallsError) (r : Outcome) → first_bad body ≡ bad_from place (lines_of text) → IsRefusedWithin limit (calls_of body) e
-    → MatchOption (first_bad text) (r ≡ Refused e) (λ further. r ≡ BadLine (place + further)) → IsOutcome limit body r
+pub refused_or_bad : (limit : Option ℕ) (body text : List ℕ) (place : ℕ) (e : CallsError) (r : Verdict) → first_bad body ≡ bad_from place (lines_of text) → IsRefusedWithin limit (calls_of body) e
+    → MatchOption (first_bad text) (r ≡ Refused e) (λ further. r ≡ BadLine (place + further)) → IsVerdict limit body r
 refused_or_bad limit body text place e r same refused = by_found (first_bad text) refl
   where
-    by_found : (b : Option ℕ) → first_bad text ≡ b → MatchOption b (r ≡ Refused e) (λ further. r ≡ BadLine (place + further)) → IsOutcome limit body r
-    by_found None found is = subst (IsOutcome limit body) (sym is) (same ∙ bad_after text place None found, refused)
-    by_found (Some n) found is = subst (IsOutcome limit body) (sym is) (same ∙ bad_after text place (Some n) found)
+    by_found : (b : Option ℕ) → first_bad text ≡ b → MatchOption b (r ≡ Refused e) (λ further. r ≡ BadLine (place + further)) → IsVerdict limit body r
+    by_found None found is = subst (IsVerdict limit body) (sym is) (same ∙ bad_after text place None found, refused)
+    by_found (Some n) found is = subst (IsVerdict limit body) (sym is) (same ∙ bad_after text place (Some n) found)
 
 -- what a line's call is answered
 pub answers_line : (limit : Option ℕ) (calls : List Event) (c : Event) (r : Result (Unit {0}) Error) (new : Builder) → AnswersNext limit calls c r (seen_of new) → AnswersLine limit calls c r new

@@ -3,6 +3,6 @@ pub mod Forms
 pub mod Words
 pub mod Lines
 pub mod Views
-pub mod Plain
-pub mod Outcomes
+pub mod Port
+pub mod Verdicts
 pub mod Answers

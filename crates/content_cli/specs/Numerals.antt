@@ -8,18 +8,18 @@ use Rattle.std.specs.Option.{option_map}
 use Rattle.std.specs.List.{list_all}
 
 -- `0`, or a digit 1 to 9 followed by digits
-abbrev pub is_plain : List ℕ → Bool
-is_plain ds = all_ascii_digits ds && (nat_lt 0 (length ds) && (not (slice_index ds 0 == 48) || (length ds == 1)))
+abbrev pub is_numeral : List ℕ → Bool
+is_numeral ds = all_ascii_digits ds && (nat_lt 0 (length ds) && (not (slice_index ds 0 == 48) || (length ds == 1)))
 
--- the number of so many bits that is written plainly
+-- the number of a numeral, where it has so many bits
 abbrev pub natural_of : ℕ → List ℕ → Option ℕ
-natural_of bits ds = cond (is_plain ds && nat_lt (digits_value 10 ds) (2 ^ bits)) (Some (digits_value 10 ds)) None
+natural_of bits ds = cond (is_numeral ds && nat_lt (digits_value 10 ds) (2 ^ bits)) (Some (digits_value 10 ds)) None
 
 -- a `-` and a plain number other than 0
 abbrev pub is_negative : List ℕ → Bool
-is_negative t = (slice_index t 0 == 45) && (is_plain (drop 1 t) && not (slice_index t 1 == 48))
+is_negative t = (slice_index t 0 == 45) && (is_numeral (drop 1 t) && not (slice_index t 1 == 48))
 
--- the number of a sign and so many bits that is written plainly, with a `-` only before other than 0
+-- the same with a sign: a `-` only before other than 0
 abbrev pub integer_of : ℕ → List ℕ → Option ℤ
 integer_of bits t = cond (is_negative t) (cond (nat_le (digits_value 10 (drop 1 t)) (2 ^ bits)) (Some (neg_ℤ (pos (digits_value 10 (drop 1 t))))) None) (option_map pos (natural_of bits t))
 

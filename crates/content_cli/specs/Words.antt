@@ -84,7 +84,7 @@ of_parts w (Some t) = of_phrase w t
 abbrev pub event_in : List ℕ → Option Event
 event_in line = cond (list_all is_printable line) (of_parts (word_of line) (rest_of line)) None
 
--- a number that is written plainly, from 1 to 2 ^ 64 - 1
+-- a numeral, from 1 to 2 ^ 64 - 1
 abbrev pub positive_of : List ℕ → Option ℕ
 positive_of t = option_and_then (λ n. cond (nat_lt 0 n) (Some n) None) (natural_of 64 t)
 

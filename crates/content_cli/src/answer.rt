@@ -9,9 +9,9 @@ ghost use Rattle.serde_content.specs.Names.Words.{seen_of, HasTaken};
 ghost use Rattle.serde_content.specs.Names.ErrorKind.{OutOfMemory};
 ghost use Rattle.content_cli.specs.Answers.{Earns, EarnsStatus};
 ghost use Rattle.content_cli.specs.Lines.{limit_of, body_of, first_bad, calls_of};
-ghost use Rattle.content_cli.specs.Outcomes.{IsOutcome};
+ghost use Rattle.content_cli.specs.Verdicts.{IsVerdict};
 
-use crate::calls::{Outcome, read_calls};
+use crate::calls::{Verdict, read_calls};
 use crate::limit::split_limit;
 use serde_content::ser::{Builder, CallsError};
 use serde_content::{ErrorKind, Value};
@@ -69,8 +69,8 @@ fn refused(alloc: Global, refusal: &CallsError) -> Result<Answer, AllocError>
 }
 
 /// What the input comes to, which is freed.
-fn read_input<'v>(alloc: Global, input: Vec<u8>) -> Outcome<'v>
-    ensures { IsOutcome (limit_of input.items) (body_of input.items) result }
+fn read_input<'v>(alloc: Global, input: Vec<u8>) -> Verdict<'v>
+    ensures { IsVerdict (limit_of input.items) (body_of input.items) result }
 {
     let (limit, body) = split_limit(input.as_slice());
     read_calls(alloc, body, limit)
@@ -97,8 +97,8 @@ pub fn make_answer(alloc: Global, input: Vec<u8>) -> Result<Answer, AllocError>
     ensures low { IfOk result (λ a. a.status ≤ 2) }
 {
     match read_input(alloc, input) {
-        Outcome::BadLine(place) => bad_line(alloc, place),
-        Outcome::Taken(builder, count) => finished(alloc, builder, count),
-        Outcome::Refused(refusal) => refused(alloc, &refusal),
+        Verdict::BadLine(place) => bad_line(alloc, place),
+        Verdict::Taken(builder, count) => finished(alloc, builder, count),
+        Verdict::Refused(refusal) => refused(alloc, &refusal),
     }
 }

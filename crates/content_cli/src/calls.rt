@@ -4,19 +4,19 @@ ghost use Rattle.std.specs.Prelude.{ℕ, ◌≡◌, ◌≤◌, ◌+◌, ◌^◌,
 ghost use Rattle.std.specs.Prelude.{MatchOption, IfOk};
 ghost use Rattle.serde_content.specs.Names.Words.{event_of, Event, seen_of, HasTaken, IsLimit};
 ghost use Rattle.content_cli.specs.Lines.{first_bad};
-ghost use Rattle.content_cli.specs.Outcomes.{AnswersLine, IsOutcome};
+ghost use Rattle.content_cli.specs.Verdicts.{AnswersLine, IsVerdict};
 ghost use Rattle.content_cli.specs.Views.{line_event};
-ghost use Rattle.content_cli.specs.declared.calls.Outcome.TheVariants.{BadLine, Refused};
+ghost use Rattle.content_cli.specs.declared.calls.Verdict.TheVariants.{BadLine, Refused};
 
 use crate::hex;
-use crate::line::{Line, cut_line, first_bad_line, read_line};
+use crate::line::{Line, first_bad_line, read_line, split_line};
 use serde_content::CowBytes;
 use serde_content::ser::{Builder, Call, CallsError, Serializer};
 use std::alloc::{AllocError, Global};
 
 /// What lines of calls come to.
 #[derive(Drop)]
-pub enum Outcome<'v> {
+pub enum Verdict<'v> {
     /// A line is neither empty nor a call: the place of the first, counted from 0 with the empty
     /// lines.
     BadLine(usize),
@@ -58,44 +58,44 @@ fn take_line(alloc: Global, builder: &mut Builder<'_>, line: Line<'_>) -> serde_
 
 /// What lines come to of which one was refused, where these stand after it, the first of them at
 /// this place: a bad line goes before a refusal.
-fn after_refusal<'v>(refusal: CallsError, place: usize, lines: &[u8]) -> Outcome<'v>
+fn after_refusal<'v>(refusal: CallsError, place: usize, lines: &[u8]) -> Verdict<'v>
     requires { place + length lines.now ≤ 2 ^ 64 - 1 }
     ensures { MatchOption (first_bad lines.now) (result ≡ Refused refusal)
         (λ further. result ≡ BadLine (place + further)) }
 {
     match first_bad_line(lines) {
-        Some(further) => Outcome::BadLine(place + further),
-        None => Outcome::Refused(refusal),
+        Some(further) => Verdict::BadLine(place + further),
+        None => Verdict::Refused(refusal),
     }
 }
 
 /// What the lines of calls come to within the limit. Each line is read once and its call made at
 /// once; after a refusal lines are only read. No call is kept.
-pub fn read_calls<'v>(alloc: Global, body: &[u8], limit: Option<usize>) -> Outcome<'v>
+pub fn read_calls<'v>(alloc: Global, body: &[u8], limit: Option<usize>) -> Verdict<'v>
     requires { IsLimit limit }
-    ensures { IsOutcome limit body.now result }
+    ensures { IsVerdict limit body.now result }
 {
     let mut builder = start(alloc, limit);
     let mut count = 0;
     let mut place = 0;
     let mut text = body;
     'lines: loop {
-        let (line, rest) = cut_line(text);
+        let (line, rest) = split_line(text);
         if !line.is_empty() {
             let Some(said) = read_line(line) else {
-                return Outcome::BadLine(place);
+                return Verdict::BadLine(place);
             };
             if let Err(error) = take_line(alloc, &mut builder, said) {
                 let refusal = CallsError { at: count, error };
                 return match rest {
                     Some(after) => after_refusal(refusal, place + 1, after),
-                    None => Outcome::Refused(refusal),
+                    None => Verdict::Refused(refusal),
                 };
             }
             count += 1;
         }
         let Some(after) = rest else {
-            return Outcome::Taken(builder, count);
+            return Verdict::Taken(builder, count);
         };
         place += 1;
         text = after;

@@ -65,7 +65,7 @@ pub fn read_name(text: &str) -> Option<&'static str>
 }
 
 /// What stands before and after the first space.
-fn cut_pair(text: &str) -> Option<(&str, &str)>
+fn split_pair(text: &str) -> Option<(&str, &str)>
     ensures { MatchOption result (pair_of text.now ≡ None)
         (λ p. pair_of text.now ≡ Some (p.0.now, p.1.now)) }
 {
@@ -77,7 +77,7 @@ pub fn read_named_length(text: &str) -> Option<(&'static str, usize)>
     ensures { MatchOption result (named_length_of text.now ≡ None)
         (λ p. named_length_of text.now ≡ Some (p.0.now, p.1)) }
 {
-    let (name, len) = cut_pair(text)?;
+    let (name, len) = split_pair(text)?;
     Some((read_name(name)?, numbers::read_usize(len)?))
 }
 
@@ -87,8 +87,8 @@ fn read_head(text: &str) -> Option<(&'static str, u32, &str)>
         (λ h. variant_start_of text.now ≡ Some
         (record { name = h.0.now; index = h.1; rest = h.2.now })) }
 {
-    let (name, rest) = cut_pair(text)?;
-    let (index, rest) = cut_pair(rest)?;
+    let (name, rest) = split_pair(text)?;
+    let (index, rest) = split_pair(rest)?;
     Some((read_name(name)?, numbers::read_u32(index)?, rest))
 }
 

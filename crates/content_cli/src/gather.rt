@@ -4,7 +4,7 @@ ghost use Rattle.std.specs.Prelude.{◌≡◌, ◌≤◌, ◌<◌, IfOk, OnOk, I
 ghost use Rattle.std.specs.Io.KnownBytes.{Consumes, IsAtEnd};
 ghost use Rattle.content_cli.specs.declared.gather.NoInput.TheVariants.{OutOfMemory, ReadFailed};
 
-use crate::ports::{Fault, Source};
+use crate::ports::{Fault, Input};
 use std::alloc::{AllocError, Global};
 
 /// How many bytes a read asks for at most.
@@ -39,7 +39,7 @@ impl From<AllocError> for NoInput {
 ///
 /// Each read that is neither the end nor a fault adds at least one byte to the vector, so a source
 /// that never ends brings it to `OutOfMemory`.
-pub fn gather<R: Source>(alloc: Global, reader: &mut R) -> Result<Vec<u8>, NoInput>
+pub fn gather<R: Input>(alloc: Global, reader: &mut R) -> Result<Vec<u8>, NoInput>
     ensures all { IfOk result (λ input. Consumes (R.left reader.old) (R.left reader.new)
         input.items) }
     ensures ended { OnOk result (IsAtEnd (R.left reader.new)) }

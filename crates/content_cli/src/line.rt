@@ -88,7 +88,7 @@ pub fn first_line_feed(text: &[u8]) -> Option<usize>
 }
 
 /// The first line, without its line feed, and what stands after that, where there is one.
-pub fn cut_line(text: &[u8]) -> (&[u8], Option<&[u8]>)
+pub fn split_line(text: &[u8]) -> (&[u8], Option<&[u8]>)
     ensures lines { MatchOption result.1 (lines_of text.now ≡ result.0.now ∷ [])
         (λ rest. lines_of text.now ≡ result.0.now ∷ lines_of rest.now) }
     ensures bytes { MatchOption result.1 (length text.now ≡ length result.0.now)

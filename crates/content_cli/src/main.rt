@@ -1,4 +1,5 @@
 //! Reads lines that spell serialiser calls, and prints what they build.
+
 #![tactic(auto)]
 
 mod answer;
@@ -9,20 +10,20 @@ mod hex;
 mod limit;
 mod line;
 mod numbers;
-mod plain;
+mod port;
 mod ports;
 mod run;
-mod send;
 #[cfg(test)]
 mod tests;
 mod words;
+mod write;
 
-use plain::Plain;
+use port::Port;
 use run::run;
 use std::process::ExitCode;
 
 fn main(rt: HostRuntime) -> ExitCode {
-    let mut input = Plain::new(rt.stdin());
-    let mut output = Plain::new(rt.stdout());
+    let mut input = Port::new(rt.stdin());
+    let mut output = Port::new(rt.stdout());
     ExitCode::from(run(rt.alloc(), &mut input, &mut output))
 }

@@ -2,7 +2,7 @@
 
 ghost use Rattle.std.specs.Prelude.{◌≡◌, ◌||◌};
 ghost use Rattle.std.specs.Str.{all_ascii_digits};
-ghost use Rattle.content_cli.specs.Numerals.{is_plain, is_negative, natural_of, integer_of};
+ghost use Rattle.content_cli.specs.Numerals.{is_numeral, is_negative, natural_of, integer_of};
 
 fn are_digits(bytes: &[u8]) -> bool
     ensures { result ≡ all_ascii_digits bytes.now }
@@ -11,34 +11,34 @@ fn are_digits(bytes: &[u8]) -> bool
 }
 
 /// Whether it is `0`, or a digit 1 to 9 followed by digits.
-fn is_plain_natural(digits: &[u8]) -> bool
-    ensures { result ≡ is_plain digits.now }
+fn is_numeral(digits: &[u8]) -> bool
+    ensures { result ≡ is_numeral digits.now }
 {
     are_digits(digits) && !digits.is_empty() && (digits[0] != b'0' || digits.len() == 1)
 }
 
 /// Whether it is a `-` and a plain number other than `0`.
-fn is_plain_negative(text: &[u8]) -> bool
+fn is_negative_numeral(text: &[u8]) -> bool
     ensures { result ≡ is_negative text.now }
 {
     match text {
-        [b'-', digits @ ..] => is_plain_natural(digits) && digits[0] != b'0',
+        [b'-', digits @ ..] => is_numeral(digits) && digits[0] != b'0',
         _ => false,
     }
 }
 
-/// Whether a number of a signed kind is written plainly.
-fn is_plain_integer(text: &[u8]) -> bool
-    ensures { result ≡ (is_negative text.now || is_plain text.now) }
+/// Whether a number of a signed kind is a numeral.
+fn is_integer_numeral(text: &[u8]) -> bool
+    ensures { result ≡ (is_negative text.now || is_numeral text.now) }
 {
-    is_plain_negative(text) || is_plain_natural(text)
+    is_negative_numeral(text) || is_numeral(text)
 }
 
 /// An unsigned number of 8 bits.
 pub fn read_u8(text: &str) -> Option<u8>
     ensures { result ≡ natural_of 8 text.now }
 {
-    if is_plain_natural(text.as_bytes()) {
+    if is_numeral(text.as_bytes()) {
         text.parse::<u8>().ok()
     } else {
         None
@@ -49,7 +49,7 @@ pub fn read_u8(text: &str) -> Option<u8>
 pub fn read_u16(text: &str) -> Option<u16>
     ensures { result ≡ natural_of 16 text.now }
 {
-    if is_plain_natural(text.as_bytes()) {
+    if is_numeral(text.as_bytes()) {
         text.parse::<u16>().ok()
     } else {
         None
@@ -60,7 +60,7 @@ pub fn read_u16(text: &str) -> Option<u16>
 pub fn read_u32(text: &str) -> Option<u32>
     ensures { result ≡ natural_of 32 text.now }
 {
-    if is_plain_natural(text.as_bytes()) {
+    if is_numeral(text.as_bytes()) {
         text.parse::<u32>().ok()
     } else {
         None
@@ -71,7 +71,7 @@ pub fn read_u32(text: &str) -> Option<u32>
 pub fn read_u64(text: &str) -> Option<u64>
     ensures { result ≡ natural_of 64 text.now }
 {
-    if is_plain_natural(text.as_bytes()) {
+    if is_numeral(text.as_bytes()) {
         text.parse::<u64>().ok()
     } else {
         None
@@ -82,7 +82,7 @@ pub fn read_u64(text: &str) -> Option<u64>
 pub fn read_u128(text: &str) -> Option<u128>
     ensures { result ≡ natural_of 128 text.now }
 {
-    if is_plain_natural(text.as_bytes()) {
+    if is_numeral(text.as_bytes()) {
         text.parse::<u128>().ok()
     } else {
         None
@@ -93,7 +93,7 @@ pub fn read_u128(text: &str) -> Option<u128>
 pub fn read_usize(text: &str) -> Option<usize>
     ensures { result ≡ natural_of 64 text.now }
 {
-    if is_plain_natural(text.as_bytes()) {
+    if is_numeral(text.as_bytes()) {
         text.parse::<usize>().ok()
     } else {
         None
@@ -104,7 +104,7 @@ pub fn read_usize(text: &str) -> Option<usize>
 pub fn read_i8(text: &str) -> Option<i8>
     ensures { result ≡ integer_of 7 text.now }
 {
-    if is_plain_integer(text.as_bytes()) {
+    if is_integer_numeral(text.as_bytes()) {
         text.parse::<i8>().ok()
     } else {
         None
@@ -115,7 +115,7 @@ pub fn read_i8(text: &str) -> Option<i8>
 pub fn read_i16(text: &str) -> Option<i16>
     ensures { result ≡ integer_of 15 text.now }
 {
-    if is_plain_integer(text.as_bytes()) {
+    if is_integer_numeral(text.as_bytes()) {
         text.parse::<i16>().ok()
     } else {
         None
@@ -126,7 +126,7 @@ pub fn read_i16(text: &str) -> Option<i16>
 pub fn read_i32(text: &str) -> Option<i32>
     ensures { result ≡ integer_of 31 text.now }
 {
-    if is_plain_integer(text.as_bytes()) {
+    if is_integer_numeral(text.as_bytes()) {
         text.parse::<i32>().ok()
     } else {
         None
@@ -137,7 +137,7 @@ pub fn read_i32(text: &str) -> Option<i32>
 pub fn read_i64(text: &str) -> Option<i64>
     ensures { result ≡ integer_of 63 text.now }
 {
-    if is_plain_integer(text.as_bytes()) {
+    if is_integer_numeral(text.as_bytes()) {
         text.parse::<i64>().ok()
     } else {
         None
@@ -148,7 +148,7 @@ pub fn read_i64(text: &str) -> Option<i64>
 pub fn read_i128(text: &str) -> Option<i128>
     ensures { result ≡ integer_of 127 text.now }
 {
-    if is_plain_integer(text.as_bytes()) {
+    if is_integer_numeral(text.as_bytes()) {
         text.parse::<i128>().ok()
     } else {
         None

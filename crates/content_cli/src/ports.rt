@@ -9,7 +9,7 @@ ghost use Rattle.std.specs.Io.KnownBytes.{Consumes, Appends, IsAtEnd};
 pub struct Fault;
 
 /// Where bytes come from.
-pub trait Source {
+pub trait Input {
     /// The bytes still to come, where they are known.
     ghost left: { Self → Option (List ℕ) };
 
@@ -33,7 +33,7 @@ pub trait Source {
 }
 
 /// Where bytes go.
-pub trait Sink {
+pub trait Output {
     /// The bytes written so far, where they are known.
     ghost written: { Self → Option (List ℕ) };
 

@@ -6,18 +6,18 @@ ghost use Rattle.content_cli.specs.Answers.{Tells, EarnsStatus};
 
 use crate::answer::make_answer;
 use crate::gather::{NoInput, gather};
-use crate::ports::{Sink, Source};
-use crate::send::send;
+use crate::ports::{Input, Output};
+use crate::write::write_out;
 use std::alloc::Global;
 
 /// Writes the line, and answers the status, or 5 where the writer failed.
-fn finish<W: Sink>(writer: &mut W, line: &[u8], status: u8) -> u8
+fn finish<W: Output>(writer: &mut W, line: &[u8], status: u8) -> u8
     requires { W.has_failed writer.old ≡ false }
     ensures failed { W.has_failed writer.new ≡ true → result ≡ 5 }
     ensures told { W.has_failed writer.new ≡ false → (result ≡ status) × Appends
         (W.written writer.old) (W.written writer.new) line.now }
 {
-    match send(writer, line) {
+    match write_out(writer, line) {
         Ok(()) => status,
         Err(_) => 5,
     }
@@ -41,11 +41,11 @@ fn finish<W: Sink>(writer: &mut W, line: &[u8], status: u8) -> u8
 /// answers and the statuses are ours.
 ///
 /// ```rust
-/// let mut input = Plain::new(rt.stdin());
-/// let mut output = Plain::new(rt.stdout());
+/// let mut input = Port::new(rt.stdin());
+/// let mut output = Port::new(rt.stdout());
 /// let status = run(rt.alloc(), &mut input, &mut output);
 /// ```
-pub fn run<R: Source, W: Sink>(alloc: Global, reader: &mut R, writer: &mut W) -> u8
+pub fn run<R: Input, W: Output>(alloc: Global, reader: &mut R, writer: &mut W) -> u8
     requires reader_works { R.has_failed reader.old ≡ false }
     requires writer_works { W.has_failed writer.old ≡ false }
     // the answer, where memory is there and no port failed

@@ -2,8 +2,8 @@
 
 ghost use Rattle.std.specs.Prelude.{Some};
 
-use crate::plain::Plain;
-use crate::ports::{Fault, Sink, Source};
+use crate::port::Port;
+use crate::ports::{Fault, Input, Output};
 use crate::run::run;
 use std::alloc::Global;
 use std::test::Fail;
@@ -17,7 +17,7 @@ struct Pieces<'a> {
     failed: bool,
 }
 
-impl Source for Pieces<'_> {
+impl Input for Pieces<'_> {
     ghost left = { λ s. Some s.rest.now };
 
     ghost has_failed = { λ s. s.failed };
@@ -47,7 +47,7 @@ struct Kept {
     failed: bool,
 }
 
-impl Sink for Kept {
+impl Output for Kept {
     ghost written = { λ s. Some s.bytes.items };
 
     ghost has_failed = { λ s. s.failed };
@@ -307,9 +307,9 @@ fn failed_writes_are_the_status(rt: HostRuntime) -> Result<(), Fail> {
 
 #[test]
 fn a_new_port_has_not_failed(rt: HostRuntime) -> Result<(), Fail> {
-    let reader = Plain::new(rt.stdin());
-    let writer = Plain::new(rt.stdout());
-    assert!(rt; !Source::failed(&reader));
-    assert!(rt; !Sink::failed(&writer));
+    let reader = Port::new(rt.stdin());
+    let writer = Port::new(rt.stdout());
+    assert!(rt; !Input::failed(&reader));
+    assert!(rt; !Output::failed(&writer));
     Ok(())
 }

@@ -1,4 +1,5 @@
 //! Numbers as numbers of another kind.
+
 ghost use Rattle.std.specs.Prelude.{◌≡◌, pos, option_map};
 ghost use Rattle.content_tree.specs.Values.Ranges.{i8, u8, i16, u16, i32, u32, i64, u64, i128};
 ghost use Rattle.content_tree.specs.Values.Ranges.{u128};

@@ -1,14 +1,15 @@
 //! What a value is read by.
+
 ghost use Rattle.std.specs.Prelude.{◌≡◌, true, IfOk, IfErr};
 ghost use Rattle.content_tree.specs.Errors.Kind.{IsOutOfMemory};
 ghost use Rattle.content_tree.specs.Values.Text.{text_of};
 ghost use Rattle.content_tree.specs.Values.Value.{tree_of};
 ghost use Rattle.content_de.specs.Sources.Origin.{of_tree, of_identifier, IsIdentifier};
-ghost use Rattle.content_de.specs.Sources.Origin.{plain_flags, tree_under};
+ghost use Rattle.content_de.specs.Sources.Origin.{no_flags, tree_under};
 ghost use Rattle.content_de.specs.Sources.Origin.{subject_under};
 ghost use Rattle.content_de.specs.Sources.Deserializer.{flags_of, subject};
 
-use crate::source::{Settings, Source};
+use crate::source::{Flags, Source};
 use content_tree::{CowStr, NamedValue, Result};
 use std::alloc::Global;
 
@@ -30,17 +31,17 @@ use std::alloc::Global;
 #[derive(Debug, Drop, PartialEq, Eq, PartialOrd, Ord)]
 pub struct Deserializer<'de, 'n> {
     pub(crate) source: Source<'de, 'n>,
-    pub(crate) settings: Settings,
+    pub(crate) flags: Flags,
 }
 
 impl<'de, 'n> Deserializer<'de, 'n> {
     /// Reads this value, with both flags off. It takes no memory.
     pub fn new(value: NamedValue<'de, 'n>) -> Deserializer<'de, 'n>
-        ensures { subject result ≡ tree_under plain_flags (tree_of value.entry) }
+        ensures { subject result ≡ tree_under no_flags (tree_of value.entry) }
     {
         Deserializer {
             source: Source::Tree(value),
-            settings: Settings {
+            flags: Flags {
                 human_readable: false,
                 coerces: false,
             },
@@ -54,12 +55,12 @@ impl<'de, 'n> Deserializer<'de, 'n> {
           flags = record { human_readable = true; coerces = (subject self.entry).flags.coerces };
         } }
     {
-        let Deserializer { source, settings } = self;
+        let Deserializer { source, flags } = self;
         Deserializer {
             source,
-            settings: Settings {
+            flags: Flags {
                 human_readable: true,
-                coerces: settings.coerces,
+                coerces: flags.coerces,
             },
         }
     }
@@ -75,11 +76,11 @@ impl<'de, 'n> Deserializer<'de, 'n> {
           };
         } }
     {
-        let Deserializer { source, settings } = self;
+        let Deserializer { source, flags } = self;
         Deserializer {
             source,
-            settings: Settings {
-                human_readable: settings.human_readable,
+            flags: Flags {
+                human_readable: flags.human_readable,
                 coerces: true,
             },
         }
@@ -90,7 +91,7 @@ impl<'de, 'n> Deserializer<'de, 'n> {
     pub fn is_human_readable(&self) -> bool
         ensures { result ≡ (subject self.now).flags.human_readable }
     {
-        self.settings.human_readable
+        self.flags.human_readable
     }
 
     /// A copy: the same tree or name, with each case and static mark, and the same flags.
@@ -111,7 +112,7 @@ impl<'de, 'n> Deserializer<'de, 'n> {
         };
         Ok(Deserializer {
             source,
-            settings: self.settings,
+            flags: self.flags,
         })
     }
 
@@ -122,40 +123,36 @@ impl<'de, 'n> Deserializer<'de, 'n> {
         ensures name { IfErr result (λ d. IsIdentifier (subject self.entry).origin) }
         ensures rest { IfErr result (λ d. subject d ≡ subject self.entry) }
     {
-        let Deserializer { source, settings } = self;
+        let Deserializer { source, flags } = self;
         match source {
             Source::Tree(value) => Ok(value),
             Source::Identifier { name, index } => Err(Deserializer {
                 source: Source::Identifier { name, index },
-                settings,
+                flags,
             }),
         }
     }
 
     /// A value inside another, under its flags.
-    pub(crate) fn inside(value: NamedValue<'de, 'n>, settings: Settings) -> Deserializer<'de, 'n>
-        ensures { subject result ≡ tree_under (flags_of settings) (tree_of value.entry) }
+    pub(crate) fn inside(value: NamedValue<'de, 'n>, flags: Flags) -> Deserializer<'de, 'n>
+        ensures { subject result ≡ tree_under (flags_of flags) (tree_of value.entry) }
     {
         Deserializer {
             source: Source::Tree(value),
-            settings,
+            flags,
         }
     }
 
     /// The name of a field or a variant, under the flags of what it stands in.
-    pub(crate) fn identifier(
-        name: CowStr<'n>,
-        index: u64,
-        settings: Settings,
-    ) -> Deserializer<'de, 'n>
-        ensures { subject result ≡ subject_under (flags_of settings)
+    pub(crate) fn identifier(name: CowStr<'n>, index: u64, flags: Flags) -> Deserializer<'de, 'n>
+        ensures { subject result ≡ subject_under (flags_of flags)
             (of_identifier (text_of name.entry) index) }
     {
         Deserializer {
             source: Source::Identifier { name, index },
-            settings: Settings {
+            flags: Flags {
                 human_readable: true,
-                coerces: settings.coerces,
+                coerces: flags.coerces,
             },
         }
     }

@@ -1,4 +1,5 @@
 //! A variant of an enum, before its tag is read.
+
 ghost use Rattle.std.specs.Prelude.{◌≡◌, IsOk, IfOk, IfErr};
 ghost use Rattle.content_tree.specs.Errors.Kind.{IsOutOfMemory};
 ghost use Rattle.content_de.specs.Sources.Deserializer.{subject};
@@ -6,8 +7,8 @@ ghost use Rattle.content_de.specs.Accesses.Enum.{enum_view, variant_view, tag_of
 ghost use Rattle.content_de.specs.Accesses.Enum.{TagTakesNoMemory};
 
 use crate::deserializer::Deserializer;
-use crate::source::Settings;
-use crate::variant_access::{Payload, VariantAccess};
+use crate::source::Flags;
+use crate::variant_access::{Held, VariantAccess};
 use content_tree::{CowStr, NamedEnum, NamedValue, Result};
 use std::alloc::Global;
 
@@ -37,7 +38,7 @@ pub(crate) enum Tagged<'de, 'n> {
 pub struct EnumAccess<'de, 'n> {
     pub(crate) requested: Requested<'n>,
     pub(crate) tagged: Tagged<'de, 'n>,
-    pub(crate) settings: Settings,
+    pub(crate) flags: Flags,
 }
 
 impl<'de, 'n> EnumAccess<'de, 'n> {
@@ -61,27 +62,24 @@ impl<'de, 'n> EnumAccess<'de, 'n> {
         let EnumAccess {
             requested,
             tagged,
-            settings,
+            flags,
         } = self;
         match tagged {
             Tagged::Node(node) => {
                 let name = node.variant.try_clone(alloc)?;
                 let index = u64::from(node.variant_index);
-                let tag = Deserializer::identifier(name, index, settings);
-                let payload = Payload::Node(node);
-                Ok((tag, VariantAccess::new(requested, payload, settings)))
+                let tag = Deserializer::identifier(name, index, flags);
+                let held = Held::Node(node);
+                Ok((tag, VariantAccess::new(requested, held, flags)))
             }
             Tagged::Text(text) => {
-                let tag = Deserializer::inside(NamedValue::String(text), settings);
-                Ok((
-                    tag,
-                    VariantAccess::new(requested, Payload::Nothing, settings),
-                ))
+                let tag = Deserializer::inside(NamedValue::String(text), flags);
+                Ok((tag, VariantAccess::new(requested, Held::Nothing, flags)))
             }
             Tagged::Entry(key, value) => {
-                let tag = Deserializer::inside(key, settings);
-                let payload = Payload::Value(value);
-                Ok((tag, VariantAccess::new(requested, payload, settings)))
+                let tag = Deserializer::inside(key, flags);
+                let held = Held::Value(value);
+                Ok((tag, VariantAccess::new(requested, held, flags)))
             }
         }
     }

@@ -2,6 +2,6 @@
 
 mod holders;
 mod map;
+mod numbers;
 mod text;
 mod tuple;
-mod whole;

@@ -1,9 +1,10 @@
 //! What becomes a deserializer.
+
 ghost use Rattle.std.specs.Prelude.{◌≡◌, true, false, IsOk, IfOk, IfErr};
 ghost use Rattle.content_tree.specs.Errors.Kind.{IsOutOfMemory};
 ghost use Rattle.content_tree.specs.Values.Tree.{number};
 ghost use Rattle.content_tree.specs.Values.Value.{tree_of, enum_tree};
-ghost use Rattle.content_de.specs.Sources.Origin.{Subject, plain_flags, tree_under};
+ghost use Rattle.content_de.specs.Sources.Origin.{Subject, no_flags, tree_under};
 ghost use Rattle.content_de.specs.Sources.Deserializer.{subject};
 
 use crate::deserializer::Deserializer;
@@ -30,12 +31,12 @@ pub trait IntoDeserializer<'de> {
 
 /// It takes no memory.
 impl<'de> IntoDeserializer<'de> for Value<'de> {
-    ghost read = { λ v. tree_under plain_flags (tree_of v) };
+    ghost read = { λ v. tree_under no_flags (tree_of v) };
 
     ghost takes_memory = { false };
 
     fn into_deserializer(self, _alloc: Global) -> Result<Deserializer<'de, 'static>>
-        ensures value { IfOk result (λ d. subject d ≡ tree_under plain_flags (tree_of self.entry)) }
+        ensures value { IfOk result (λ d. subject d ≡ tree_under no_flags (tree_of self.entry)) }
         ensures succeeds { false ≡ false → IsOk result }
         ensures memory { IfErr result (λ e. IsOutOfMemory e) }
     {
@@ -45,12 +46,12 @@ impl<'de> IntoDeserializer<'de> for Value<'de> {
 
 /// It takes no memory.
 impl<'de> IntoDeserializer<'de> for Number {
-    ghost read = { λ n. tree_under plain_flags (number n) };
+    ghost read = { λ n. tree_under no_flags (number n) };
 
     ghost takes_memory = { false };
 
     fn into_deserializer(self, _alloc: Global) -> Result<Deserializer<'de, 'static>>
-        ensures value { IfOk result (λ d. subject d ≡ tree_under plain_flags (number self)) }
+        ensures value { IfOk result (λ d. subject d ≡ tree_under no_flags (number self)) }
         ensures succeeds { false ≡ false → IsOk result }
         ensures memory { IfErr result (λ e. IsOutOfMemory e) }
     {
@@ -60,13 +61,13 @@ impl<'de> IntoDeserializer<'de> for Number {
 
 /// It takes memory for a box.
 impl<'de> IntoDeserializer<'de> for Enum<'de> {
-    ghost read = { λ v. tree_under plain_flags (enum_tree v) };
+    ghost read = { λ v. tree_under no_flags (enum_tree v) };
 
     ghost takes_memory = { true };
 
     fn into_deserializer(self, alloc: Global) -> Result<Deserializer<'de, 'static>>
         ensures value { IfOk result
-            (λ d. subject d ≡ tree_under plain_flags (enum_tree self.entry)) }
+            (λ d. subject d ≡ tree_under no_flags (enum_tree self.entry)) }
         ensures succeeds { true ≡ false → IsOk result }
         ensures memory { IfErr result (λ e. IsOutOfMemory e) }
     {

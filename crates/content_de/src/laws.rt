@@ -1,5 +1,6 @@
 //! What `==` and the order of deserializers mean, and laws of the definitions, each a call that
 //! answers nothing and whose contract is the law.
+
 ghost use Rattle.std.specs.Prelude.{◌≡◌};
 ghost use Rattle.std.specs.Bool.{Decides};
 ghost use Rattle.content_de.specs.Sources.Deserializer.{subject};

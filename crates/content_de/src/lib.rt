@@ -1,4 +1,5 @@
 //! Typed data out of a value: requests, accesses, and the types that can be read.
+
 #![tactic(auto)]
 
 mod coerce;

@@ -1,4 +1,5 @@
 //! The entries of a map, one after another.
+
 ghost use Rattle.std.specs.Prelude.{◌≡◌, Some, option_map, length, MatchResult, IsTrue};
 ghost use Rattle.content_tree.specs.Values.Value.{pairs_view, fields_view};
 ghost use Rattle.content_de.specs.Outcomes.{Answers};
@@ -11,7 +12,7 @@ ghost use Rattle.content_de.specs.Reads.Own.{IsNamed};
 use crate::deserializer::Deserializer;
 use crate::placed::Fields;
 use crate::refusal::custom;
-use crate::source::Settings;
+use crate::source::Flags;
 use content_tree::{CowStr, NamedValue, Result};
 use std::alloc::Global;
 use std::collections::VecDeque;
@@ -35,31 +36,31 @@ pub(crate) enum Entries<'de, 'n> {
 pub struct Map<'de, 'n> {
     entries: Entries<'de, 'n>,
     key_taken: bool,
-    settings: Settings,
+    flags: Flags,
 }
 
 impl<'de, 'n> Map<'de, 'n> {
     /// The pairs of a map.
     pub(crate) fn pairs(
         pairs: Vec<(NamedValue<'de, 'n>, NamedValue<'de, 'n>)>,
-        settings: Settings,
+        flags: Flags,
     ) -> Map<'de, 'n>
-        ensures { map_view result ≡ entries_under (flags_of settings)
+        ensures { map_view result ≡ entries_under (flags_of flags)
             (entries_of_pairs (pairs_view pairs.entry.items)) }
     {
         Map {
             entries: Entries::Pairs(VecDeque::from_vec(pairs)),
             key_taken: false,
-            settings,
+            flags,
         }
     }
 
     /// The fields of a struct or a variant.
     pub(crate) fn fields(
         fields: Vec<(CowStr<'n>, NamedValue<'de, 'n>)>,
-        settings: Settings,
+        flags: Flags,
     ) -> Map<'de, 'n>
-        ensures { map_view result ≡ entries_under (flags_of settings)
+        ensures { map_view result ≡ entries_under (flags_of flags)
             (entries_of_fields 0 (fields_view fields.entry.items)) }
     {
         Map {
@@ -68,7 +69,7 @@ impl<'de, 'n> Map<'de, 'n> {
                 place: 0,
             }),
             key_taken: false,
-            settings,
+            flags,
         }
     }
 
@@ -102,18 +103,18 @@ impl<'de, 'n> Map<'de, 'n> {
             Entries::Pairs(pairs) => match pairs.front_mut() {
                 Some(pair) => {
                     let key = mem::replace(&mut pair.0, NamedValue::Unit);
-                    Some(Deserializer::inside(key, self.settings))
+                    Some(Deserializer::inside(key, self.flags))
                 }
                 None => None,
             },
             Entries::Fields(fields) => match fields.left.front_mut() {
                 Some(field) => {
                     if self.key_taken {
-                        return Some(Deserializer::inside(NamedValue::Unit, self.settings));
+                        return Some(Deserializer::inside(NamedValue::Unit, self.flags));
                     }
                     self.key_taken = true;
                     let name = mem::replace(&mut field.0, CowStr::Borrowed(""));
-                    Some(Deserializer::identifier(name, fields.place, self.settings))
+                    Some(Deserializer::identifier(name, fields.place, self.flags))
                 }
                 None => None,
             },
@@ -158,7 +159,7 @@ impl<'de, 'n> Map<'de, 'n> {
             },
         };
         self.key_taken = false;
-        Some(Deserializer::inside(value, self.settings))
+        Some(Deserializer::inside(value, self.flags))
     }
 
     /// The key and the value of the next entry.
@@ -170,7 +171,7 @@ impl<'de, 'n> Map<'de, 'n> {
     {
         let (key, value) = match &mut self.entries {
             Entries::Pairs(pairs) => match pairs.pop_front() {
-                Some((key, value)) => (Deserializer::inside(key, self.settings), value),
+                Some((key, value)) => (Deserializer::inside(key, self.flags), value),
                 None => return None,
             },
             Entries::Fields(fields) => match fields.left.pop_front() {
@@ -178,16 +179,16 @@ impl<'de, 'n> Map<'de, 'n> {
                     let place = fields.place;
                     fields.place += 1;
                     if self.key_taken {
-                        (Deserializer::inside(NamedValue::Unit, self.settings), value)
+                        (Deserializer::inside(NamedValue::Unit, self.flags), value)
                     } else {
-                        (Deserializer::identifier(name, place, self.settings), value)
+                        (Deserializer::identifier(name, place, self.flags), value)
                     }
                 }
                 None => return None,
             },
         };
         self.key_taken = false;
-        Some((key, Deserializer::inside(value, self.settings)))
+        Some((key, Deserializer::inside(value, self.flags)))
     }
 
     /// The value of the next entry, which is taken away whether or not its key was read. It takes

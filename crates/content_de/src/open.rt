@@ -1,4 +1,5 @@
 //! What a struct or a variant holds, moved out of it.
+
 #![tactic(auto, using(crate::proofs::Values::values))]
 
 ghost use Rattle.std.specs.Prelude.{◌≡◌, Some, None, MatchOption, MatchResult};

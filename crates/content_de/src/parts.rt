@@ -1,4 +1,5 @@
 //! The parts of what a type reads: of a tuple by place, of a struct by name.
+
 ghost use Rattle.std.specs.Prelude.{◌≡◌, ◌≢◌};
 ghost use Rattle.content_tree.specs.Errors.Cause.{out_of_memory};
 ghost use Rattle.content_de.specs.Outcomes.{cause};

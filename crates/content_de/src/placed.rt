@@ -1,4 +1,5 @@
 //! Fields, one after another.
+
 ghost use Rattle.std.specs.Prelude.{◌+◌, ◌<◌, ◌^◌, length};
 
 use content_tree::{CowStr, NamedValue};

@@ -1,4 +1,5 @@
 //! Values read as plain ones.
+
 #![tactic(auto, using(crate::proofs::Values::values))]
 
 ghost use Rattle.std.specs.Prelude.{◌≡◌, None, IsOk, IfOk, IfErr};
@@ -29,10 +30,7 @@ impl<'de> Deserialize<'de> for Value<'static> {
     ghost gives = { λ s v. tree_of v ≡ plain_of s.origin };
 
     fn deserialize<'n: 'de>(alloc: Global, from: Deserializer<'de, 'n>) -> Result<Value<'static>> {
-        let Deserializer {
-            source,
-            settings: _,
-        } = from;
+        let Deserializer { source, flags: _ } = from;
         match source {
             Source::Tree(value) => make_plain(alloc, value),
             Source::Identifier { name, index: _ } => make_owned(alloc, name),
@@ -61,10 +59,7 @@ impl ValueVisitor {
         ensures memory { IfErr result (λ e. IsOutOfMemory e) }
     {
         let ValueVisitor = self;
-        let Deserializer {
-            source,
-            settings: _,
-        } = from;
+        let Deserializer { source, flags: _ } = from;
         match source {
             Source::Tree(NamedValue::String(text)) => Ok(NamedValue::String(text)),
             Source::Tree(NamedValue::Bytes(bytes)) => Ok(NamedValue::Bytes(bytes)),

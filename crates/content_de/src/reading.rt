@@ -1,4 +1,5 @@
 //! Typed data out of what stands inside.
+
 ghost use Rattle.std.specs.Prelude.{◌≡◌};
 ghost use Rattle.content_de.specs.Sources.Deserializer.{subject};
 ghost use Rattle.content_de.specs.Accesses.Seq.{seq_view, first_item, after_item};

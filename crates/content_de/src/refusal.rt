@@ -1,4 +1,5 @@
 //! Errors of what was found where something else was expected.
+
 ghost use Rattle.std.specs.Prelude.{◌≡◌, ◌≢◌, IfOk, IfErr, MatchResult};
 ghost use Rattle.content_tree.specs.Errors.Kind.{IsOutOfMemory, kind_of};
 ghost use Rattle.content_tree.specs.Errors.Cause.{custom, expectation_of, out_of_memory};

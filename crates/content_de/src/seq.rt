@@ -1,4 +1,5 @@
 //! The items of a sequence, one after another.
+
 ghost use Rattle.std.specs.Prelude.{◌≡◌, Some, option_map};
 ghost use Rattle.content_tree.specs.Values.Value.{trees_view};
 ghost use Rattle.content_de.specs.Sources.Deserializer.{flags_of, subject};
@@ -6,7 +7,7 @@ ghost use Rattle.content_de.specs.Accesses.Seq.{seq_view, items_under, first_ite
 ghost use Rattle.content_de.specs.Accesses.Seq.{count};
 
 use crate::deserializer::Deserializer;
-use crate::source::Settings;
+use crate::source::Flags;
 use content_tree::NamedValue;
 use std::collections::VecDeque;
 
@@ -15,17 +16,17 @@ use std::collections::VecDeque;
 #[derive(Drop)]
 pub struct Seq<'de, 'n> {
     items: VecDeque<NamedValue<'de, 'n>>,
-    settings: Settings,
+    flags: Flags,
 }
 
 impl<'de, 'n> Seq<'de, 'n> {
     /// All of these items.
-    pub(crate) fn new(items: Vec<NamedValue<'de, 'n>>, settings: Settings) -> Seq<'de, 'n>
-        ensures { seq_view result ≡ items_under (flags_of settings) (trees_view items.entry.items) }
+    pub(crate) fn new(items: Vec<NamedValue<'de, 'n>>, flags: Flags) -> Seq<'de, 'n>
+        ensures { seq_view result ≡ items_under (flags_of flags) (trees_view items.entry.items) }
     {
         Seq {
             items: VecDeque::from_vec(items),
-            settings,
+            flags,
         }
     }
 
@@ -44,7 +45,7 @@ impl<'de, 'n> Seq<'de, 'n> {
         ensures rest { seq_view self.new ≡ after_item (seq_view self.old) }
     {
         match self.items.pop_front() {
-            Some(item) => Some(Deserializer::inside(item, self.settings)),
+            Some(item) => Some(Deserializer::inside(item, self.flags)),
             None => None,
         }
     }

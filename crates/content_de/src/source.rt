@@ -1,4 +1,5 @@
 //! What a deserializer reads from.
+
 ghost use Rattle.std.specs.Prelude.{◌≡◌, ◌≢◌, IfOk, IfErr};
 ghost use Rattle.content_tree.specs.Errors.Kind.{IsOutOfMemory};
 ghost use Rattle.content_tree.specs.Images.Found.{image_view};
@@ -28,7 +29,7 @@ pub(crate) enum Source<'de, 'n> {
 
 /// The two flags.
 #[derive(Clone, Copy, Debug, PartialEq, Eq, PartialOrd, Ord)]
-pub(crate) struct Settings {
+pub(crate) struct Flags {
     /// What is read was written for people.
     pub(crate) human_readable: bool,
     /// Numbers are coerced.

@@ -1,4 +1,5 @@
 //! What a variant of an enum holds, once its tag is read.
+
 #![tactic(auto, using(crate::proofs::Values::values))]
 
 ghost use Rattle.std.specs.Prelude.{◌≡◌, ◌≢◌, IfOk, IfErr};
@@ -21,13 +22,13 @@ use crate::map::Map;
 use crate::open::{Opened, is_nothing, map_pairs, seq_items, take_fields, take_value, take_values};
 use crate::refusal::{a_variant, refusal};
 use crate::seq::Seq;
-use crate::source::Settings;
+use crate::source::Flags;
 use content_tree::{DataType, Error, Expected, Found, NamedEnum, NamedValue, Result};
 use std::alloc::Global;
 
 /// What stands behind a tag.
 #[derive(Drop)]
-pub(crate) enum Payload<'de, 'n> {
+pub(crate) enum Held<'de, 'n> {
     /// A variant itself.
     Node(Box<NamedEnum<'de, 'n>>),
     /// Nothing: the tag was a text.
@@ -40,8 +41,8 @@ pub(crate) enum Payload<'de, 'n> {
 #[derive(Drop)]
 pub struct VariantAccess<'de, 'n> {
     requested: Requested<'n>,
-    payload: Payload<'de, 'n>,
-    settings: Settings,
+    held: Held<'de, 'n>,
+    flags: Flags,
 }
 
 /// # Errors
@@ -52,19 +53,19 @@ impl<'de, 'n> VariantAccess<'de, 'n> {
     /// What stands behind a tag.
     pub(crate) fn new(
         requested: Requested<'n>,
-        payload: Payload<'de, 'n>,
-        settings: Settings,
+        held: Held<'de, 'n>,
+        flags: Flags,
     ) -> VariantAccess<'de, 'n>
         ensures { variant_view result ≡ record {
-          requested = requested_name requested.entry (held_of payload.entry);
-          held = held_of payload.entry;
-          flags = flags_of settings;
+          requested = requested_name requested.entry (held_of held.entry);
+          held = held_of held.entry;
+          flags = flags_of flags;
         } }
     {
         VariantAccess {
             requested,
-            payload,
-            settings,
+            held,
+            flags,
         }
     }
 
@@ -72,7 +73,7 @@ impl<'de, 'n> VariantAccess<'de, 'n> {
     pub fn unit_variant(self, alloc: Global) -> Result<()>
         ensures { Answers (λ u. u) (unit_variant_of (variant_view self.entry)) result }
     {
-        if self.payload.is_nothing() {
+        if self.held.is_nothing() {
             return Ok(());
         }
         Err(self.refuse(alloc, DataType::Unit))
@@ -84,12 +85,12 @@ impl<'de, 'n> VariantAccess<'de, 'n> {
     {
         let VariantAccess {
             requested,
-            payload,
-            settings,
+            held,
+            flags,
         } = self;
-        match payload.into_value() {
-            Ok(value) => Ok(Deserializer::inside(value, settings)),
-            Err(payload) => Err(VariantAccess::new(requested, payload, settings).refuse(
+        match held.into_value() {
+            Ok(value) => Ok(Deserializer::inside(value, flags)),
+            Err(held) => Err(VariantAccess::new(requested, held, flags).refuse(
                 alloc,
                 DataType::NewType,
             )),
@@ -103,12 +104,12 @@ impl<'de, 'n> VariantAccess<'de, 'n> {
     {
         let VariantAccess {
             requested,
-            payload,
-            settings,
+            held,
+            flags,
         } = self;
-        match payload.into_values() {
-            Ok(values) => Ok(Seq::new(values, settings)),
-            Err(payload) => Err(VariantAccess::new(requested, payload, settings).refuse(
+        match held.into_values() {
+            Ok(values) => Ok(Seq::new(values, flags)),
+            Err(held) => Err(VariantAccess::new(requested, held, flags).refuse(
                 alloc,
                 DataType::Tuple,
             )),
@@ -122,12 +123,12 @@ impl<'de, 'n> VariantAccess<'de, 'n> {
     {
         let VariantAccess {
             requested,
-            payload,
-            settings,
+            held,
+            flags,
         } = self;
-        match payload.into_map(settings) {
+        match held.into_map(flags) {
             Ok(entries) => Ok(entries),
-            Err(payload) => Err(VariantAccess::new(requested, payload, settings).refuse(
+            Err(held) => Err(VariantAccess::new(requested, held, flags).refuse(
                 alloc,
                 DataType::Struct,
             )),
@@ -140,7 +141,7 @@ impl<'de, 'n> VariantAccess<'de, 'n> {
             cause result ≡ wrong_sort (variant_view self.entry) typ }
     {
         let expected = self.expected(alloc, typ);
-        refusal(self.payload.into_found(alloc), expected)
+        refusal(self.held.into_found(alloc), expected)
     }
 
     /// A variant of this sort, of the enum that was asked for.
@@ -151,12 +152,12 @@ impl<'de, 'n> VariantAccess<'de, 'n> {
     {
         match self.requested {
             Requested::Named(name) => a_variant(alloc, name, typ),
-            Requested::Own => a_variant(alloc, self.payload.own_name(), typ),
+            Requested::Own => a_variant(alloc, self.held.own_name(), typ),
         }
     }
 }
 
-impl<'de, 'n> Payload<'de, 'n> {
+impl<'de, 'n> Held<'de, 'n> {
     ghost use Rattle.std.specs.Prelude.{Some, None, MatchResult, option_map};
     ghost use Rattle.content_tree.specs.Values.Value.{tree_of, trees_view};
     ghost use Rattle.content_de.specs.Accesses.Map.{entries_under};
@@ -168,9 +169,9 @@ impl<'de, 'n> Payload<'de, 'n> {
         ensures { result ≡ holds_nothing (held_of self.now) }
     {
         match self {
-            Payload::Node(node) => is_nothing(&node.data),
-            Payload::Nothing => true,
-            Payload::Value(_) => false,
+            Held::Node(node) => is_nothing(&node.data),
+            Held::Nothing => true,
+            Held::Value(_) => false,
         }
     }
 
@@ -179,62 +180,62 @@ impl<'de, 'n> Payload<'de, 'n> {
         ensures { result.now ≡ own_name (held_of self.now) }
     {
         match self {
-            Payload::Node(node) => node.name.as_str(),
+            Held::Node(node) => node.name.as_str(),
             _ => "",
         }
     }
 
     /// The one value of a newtype variant, or that of a map's entry; else what is held.
-    fn into_value(self) -> Opened<NamedValue<'de, 'n>, Payload<'de, 'n>>
+    fn into_value(self) -> Opened<NamedValue<'de, 'n>, Held<'de, 'n>>
         ensures { MatchResult result
             (λ v. one_held (held_of self.entry) ≡ Some (tree_of v))
             (λ p. (one_held (held_of self.entry) ≡ None) × (held_of p ≡ held_of self.entry)) }
     {
         match self {
-            Payload::Node(mut node) => match take_value(&mut node.data) {
+            Held::Node(mut node) => match take_value(&mut node.data) {
                 Some(value) => Ok(value),
-                None => Err(Payload::Node(node)),
+                None => Err(Held::Node(node)),
             },
-            Payload::Nothing => Err(Payload::Nothing),
-            Payload::Value(value) => Ok(value),
+            Held::Nothing => Err(Held::Nothing),
+            Held::Value(value) => Ok(value),
         }
     }
 
     /// The items of a tuple variant, or of a sequence in a map's entry; else what is held.
-    fn into_values(self) -> Opened<Vec<NamedValue<'de, 'n>>, Payload<'de, 'n>>
+    fn into_values(self) -> Opened<Vec<NamedValue<'de, 'n>>, Held<'de, 'n>>
         ensures { MatchResult result
             (λ vs. many_held (held_of self.entry) ≡ Some (trees_view vs.items))
             (λ p. (many_held (held_of self.entry) ≡ None) × (held_of p ≡ held_of self.entry)) }
     {
         match self {
-            Payload::Node(mut node) => match take_values(&mut node.data) {
+            Held::Node(mut node) => match take_values(&mut node.data) {
                 Some(values) => Ok(values),
-                None => Err(Payload::Node(node)),
+                None => Err(Held::Node(node)),
             },
-            Payload::Nothing => Err(Payload::Nothing),
-            Payload::Value(value) => match seq_items(value) {
+            Held::Nothing => Err(Held::Nothing),
+            Held::Value(value) => match seq_items(value) {
                 Ok(values) => Ok(values),
-                Err(value) => Err(Payload::Value(value)),
+                Err(value) => Err(Held::Value(value)),
             },
         }
     }
 
     /// The entries of an object-like variant, or of a map in a map's entry; else what is held.
-    fn into_map(self, settings: Settings) -> Opened<Map<'de, 'n>, Payload<'de, 'n>>
+    fn into_map(self, flags: Flags) -> Opened<Map<'de, 'n>, Held<'de, 'n>>
         ensures { MatchResult result
-            (λ m. option_map (entries_under (flags_of settings)) (entries_held (held_of self.entry))
+            (λ m. option_map (entries_under (flags_of flags)) (entries_held (held_of self.entry))
             ≡ Some (map_view m))
             (λ p. (entries_held (held_of self.entry) ≡ None) × (held_of p ≡ held_of self.entry)) }
     {
         match self {
-            Payload::Node(mut node) => match take_fields(&mut node.data) {
-                Some(fields) => Ok(Map::fields(fields, settings)),
-                None => Err(Payload::Node(node)),
+            Held::Node(mut node) => match take_fields(&mut node.data) {
+                Some(fields) => Ok(Map::fields(fields, flags)),
+                None => Err(Held::Node(node)),
             },
-            Payload::Nothing => Err(Payload::Nothing),
-            Payload::Value(value) => match map_pairs(value) {
-                Ok(pairs) => Ok(Map::pairs(pairs, settings)),
-                Err(value) => Err(Payload::Value(value)),
+            Held::Nothing => Err(Held::Nothing),
+            Held::Value(value) => match map_pairs(value) {
+                Ok(pairs) => Ok(Map::pairs(pairs, flags)),
+                Err(value) => Err(Held::Value(value)),
             },
         }
     }
@@ -245,9 +246,9 @@ impl<'de, 'n> Payload<'de, 'n> {
         ensures memory { IfErr result (λ e. IsOutOfMemory e) }
     {
         match self {
-            Payload::Node(node) => NamedValue::Enum(node).into_found(alloc),
-            Payload::Nothing => Ok(Found::Unit),
-            Payload::Value(value) => value.into_found(alloc),
+            Held::Node(node) => NamedValue::Enum(node).into_found(alloc),
+            Held::Nothing => Ok(Found::Unit),
+            Held::Value(value) => value.into_found(alloc),
         }
     }
 }

@@ -13,7 +13,7 @@ use Rattle.content_ser.specs.Scripts.Script.{Script, done, stop_with, call_then,
 use Rattle.content_ser.specs.Sending.Loose.{KeyedTree, sorted, text_pairs, loose, loose_struct}
 use Rattle.content_ser.specs.Sending.Loose.{loose_variant, loose_data, loose_each, loose_pairs}
 use Rattle.content_ser.specs.Sending.Loose.{loose_field_pairs, loose_fields, keyed}
-use Rattle.content_ser.specs.Laws.ScriptsInARow.{no_stop_first, no_stop_second, stop_of_both}
+use Rattle.content_ser.specs.Laws.ScriptsInTurn.{no_stop_first, no_stop_second, stop_of_both}
 use Rattle.content_ser.specs.Sending.StaticNames.{IsStatic, IsAny, EachDataName, EachItemName}
 use Rattle.content_ser.specs.Sending.StaticNames.{EachPairName, EachFieldName, HasStaticNames}
 use Rattle.content_ser.specs.Sending.StaticNames.{HasStaticKeys}
@@ -208,15 +208,15 @@ mutual
   built_owned (tree.map ps) h g = ap tree.map (built_pairs ps h g)
   built_owned tree.absent h g = refl
   built_owned (tree.present t) h g = ap tree.present (built_owned t h g)
-  built_owned (tree.structure n p) h g = rw (same_name n h.0, built_payload p h.1 g.1)
-  built_owned (tree.enumeration n i v p) h g = rw (same_name n h.0, same_name v h.1, built_payload p h.2 g.2)
+  built_owned (tree.structure n p) h g = rw (same_name n h.0, built_data p h.1 g.1)
+  built_owned (tree.enumeration n i v p) h g = rw (same_name n h.0, same_name v h.1, built_data p h.2 g.2)
   built_owned (tree.tuple ts) h g = ap tree.tuple (built_items ts h g)
 
-  built_payload : (p : TreeData) → EachDataName IsStatic IsAny p → EachDataName IsAny IsStatic p → at_texts_data to_owned to_static p ≡ owned_data p
-  built_payload tree.no_data h g = refl
-  built_payload (tree.one t) h g = ap tree.one (built_owned t h g)
-  built_payload (tree.many ts) h g = ap tree.many (built_items ts h g)
-  built_payload (tree.named fs) h g = ap tree.named (built_fields fs h g)
+  built_data : (p : TreeData) → EachDataName IsStatic IsAny p → EachDataName IsAny IsStatic p → at_texts_data to_owned to_static p ≡ owned_data p
+  built_data tree.no_data h g = refl
+  built_data (tree.one t) h g = ap tree.one (built_owned t h g)
+  built_data (tree.many ts) h g = ap tree.many (built_items ts h g)
+  built_data (tree.named fs) h g = ap tree.named (built_fields fs h g)
 
   built_items : (ts : Trees) → EachItemName IsStatic IsAny ts → EachItemName IsAny IsStatic ts → at_texts_each to_owned to_static ts ≡ at_texts_each to_owned (λ n. n) ts
   built_items tree.no_trees h g = refl

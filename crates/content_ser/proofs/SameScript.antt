@@ -98,15 +98,15 @@ mutual
   owned_script (tree.map ps) = rw (owned_count_pairs ps, owned_pairs ps)
   owned_script tree.absent = refl
   owned_script (tree.present t) = rw (owned_script t)
-  owned_script (tree.structure n p) = owned_payload (of_struct n.content) p
-  owned_script (tree.enumeration n i v p) = owned_payload (of_variant n.content i v.content) p
+  owned_script (tree.structure n p) = owned_data_script (of_struct n.content) p
+  owned_script (tree.enumeration n i v p) = owned_data_script (of_variant n.content i v.content) p
   owned_script (tree.tuple ts) = rw (owned_count ts, owned_each event.element ts)
 
-  owned_payload : (head : Head) (p : TreeData) → script_of_data head (owned_data p) ≡ script_of_data head p
-  owned_payload head tree.no_data = refl
-  owned_payload head (tree.one t) = rw (owned_script t)
-  owned_payload head (tree.many ts) = rw (owned_count ts, owned_each event.tuple_field ts)
-  owned_payload head (tree.named fs) = rw (owned_count_fields fs, owned_fields fs)
+  owned_data_script : (head : Head) (p : TreeData) → script_of_data head (owned_data p) ≡ script_of_data head p
+  owned_data_script head tree.no_data = refl
+  owned_data_script head (tree.one t) = rw (owned_script t)
+  owned_data_script head (tree.many ts) = rw (owned_count ts, owned_each event.tuple_field ts)
+  owned_data_script head (tree.named fs) = rw (owned_count_fields fs, owned_fields fs)
 
   owned_each : (c : Event) (ts : Trees) → script_of_each c (at_texts_each to_owned (λ n. n) ts) ≡ script_of_each c ts
   owned_each c tree.no_trees = refl

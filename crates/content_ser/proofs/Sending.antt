@@ -12,7 +12,7 @@ use Rattle.content_ser.specs.Scripts.Script.{Script, done, stop_with, call_then,
 use Rattle.content_ser.specs.Scripts.Script.{and_then}
 use Rattle.content_ser.specs.Scripts.Sends.{AnswersScript, AnswersInVain, Sends}
 use Rattle.content_ser.specs.Sending.Aside.{answer_of}
-use Rattle.content_ser.specs.Laws.ScriptsInARow.{calls_of_both, stop_of_both, stopped_both}
+use Rattle.content_ser.specs.Laws.ScriptsInTurn.{calls_of_both, stop_of_both, stopped_both}
 
 run_append_at : {S : Type 0} (step : Step S) (xs ys : List Event) (o : Option S)
     → ((s : S) → run step s (xs ++ ys) ≡ option_and_then (λ mid. run step mid ys) (run step s xs))

@@ -14,9 +14,9 @@ use Rattle.content_ser.specs.Grammar.Token as token
 use Rattle.content_ser.specs.Grammar.Token.{Token, ItemCall, tokens, leaf}
 use Rattle.content_ser.specs.Scripts.Script.{Script, done, stop_with, call_then, calls_of, stop_of}
 use Rattle.content_ser.specs.Scripts.Script.{and_then}
-use Rattle.content_ser.specs.Laws.ScriptsInARow.{calls_of_both, no_stop_first, no_stop_second}
+use Rattle.content_ser.specs.Laws.ScriptsInTurn.{calls_of_both, no_stop_first, no_stop_second}
 use Rattle.content_ser.specs.Grammar.Spells.{Spells, SpellsWhole, spells_leaf, spells_wrap}
-use Rattle.content_ser.specs.Grammar.Spells.{spells_row, spells_map, spells_record, SpellsElements}
+use Rattle.content_ser.specs.Grammar.Spells.{spells_series, spells_map, spells_record, SpellsElements}
 use Rattle.content_ser.specs.Grammar.Spells.{elements_end, elements_more, MapItem, entry}
 use Rattle.content_ser.specs.Grammar.Spells.{SpellsMapItems, items_end, items_entry, SpellsFields}
 use Rattle.content_ser.specs.Grammar.Spells.{fields_end, fields_more, pairs, value_among}
@@ -68,25 +68,25 @@ mutual
   read_tree (tree.character c) e rest = spells_leaf
   read_tree (tree.text t) e rest = spells_leaf
   read_tree (tree.octets t) e rest = spells_leaf
-  read_tree (tree.seq ts) e rest = spells_row (read_each token.element event.element refl ts e rest)
+  read_tree (tree.seq ts) e rest = spells_series (read_each token.element event.element refl ts e rest)
   read_tree (tree.map ps) e rest = subst (λ qs. Spells (token.open_map ∷ (tokens (calls_of (script_of_pairs ps)) ++ rest)) (tree.map qs) rest) (built_pairs ps) (spells_map (read_pairs ps e rest))
   read_tree tree.absent e rest = spells_leaf
   read_tree (tree.present t) e rest = spells_wrap (read_tree t e rest)
   read_tree (tree.structure n p) e rest = read_struct n.content p e rest
   read_tree (tree.enumeration n i v p) e rest = read_variant n.content i v.content p e rest
-  read_tree (tree.tuple ts) e rest = spells_row (read_each token.element event.element refl ts e rest)
+  read_tree (tree.tuple ts) e rest = spells_series (read_each token.element event.element refl ts e rest)
 
   read_struct : (n : List ℕ) (p : TreeData) → Reads (λ calls rest. Spells calls (tree.structure (static_name n) (at_texts_data to_owned to_static p)) rest) (script_of_data (of_struct n) p)
   read_struct n tree.no_data e rest = spells_leaf
   read_struct n (tree.one t) e rest = spells_wrap (read_tree t e rest)
-  read_struct n (tree.many ts) e rest = spells_row (read_each token.tuple_field event.tuple_field refl ts e rest)
+  read_struct n (tree.many ts) e rest = spells_series (read_each token.tuple_field event.tuple_field refl ts e rest)
   read_struct n (tree.named fs) e rest = spells_record (read_fields fs e rest)
 
   read_variant : (n : List ℕ) (i : ℕ) (v : List ℕ) (p : TreeData)
       → Reads (λ calls rest. Spells calls (tree.enumeration (static_name n) i (static_name v) (at_texts_data to_owned to_static p)) rest) (script_of_data (of_variant n i v) p)
   read_variant n i v tree.no_data e rest = spells_leaf
   read_variant n i v (tree.one t) e rest = spells_wrap (read_tree t e rest)
-  read_variant n i v (tree.many ts) e rest = spells_row (read_each token.tuple_field event.tuple_field refl ts e rest)
+  read_variant n i v (tree.many ts) e rest = spells_series (read_each token.tuple_field event.tuple_field refl ts e rest)
   read_variant n i v (tree.named fs) e rest = spells_record (read_fields fs e rest)
 
   read_each : (m : ItemCall) (c : Event) → token.token_of c ≡ token.item m → (ts : Trees) → Reads (λ calls rest. SpellsElements m calls (at_texts_each to_owned to_static ts) rest) (script_of_each c ts)

@@ -1,6 +1,6 @@
 -- Laws of the definitions.
 pub mod Lists
-pub mod ScriptsInARow
+pub mod ScriptsInTurn
 pub mod Fits
 pub mod StandardScripts
 pub mod TreeScripts

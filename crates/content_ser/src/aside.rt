@@ -1,4 +1,5 @@
 //! Answers whose error stands aside, so that a level of a deep value takes little stack.
+
 #![tactic(auto)]
 
 ghost use Rattle.std.specs.Prelude.{◌≡◌, Err};
@@ -40,7 +41,7 @@ pub fn put_aside(answer: Result<()>, error: &mut Error) -> Sent
     }
 }
 
-// Puts an error aside. It is seldom done, and so stands outside the calls.
+/// Puts an error aside. It is seldom done, and so stands outside the calls.
 #[inline(never)]
 fn stand_aside(refusal: Error, error: &mut Error) -> Sent
     ensures { answer_of result error.new ≡ Err refusal }

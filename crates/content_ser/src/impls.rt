@@ -2,7 +2,7 @@
 
 mod holders;
 mod map;
+mod numbers;
 mod text;
 mod tuple;
 mod vec;
-mod whole;

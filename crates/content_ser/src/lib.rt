@@ -1,5 +1,6 @@
 //! Serialiser calls, the grammar of their lists, and the traits of serialisers and of what they
 //! take.
+
 #![tactic(auto)]
 
 mod aside;

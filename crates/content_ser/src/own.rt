@@ -1,4 +1,5 @@
 //! What a type of a caller's own sends, put together part by part.
+
 #![tactic(auto, using(crate::proofs::Sending::sending))]
 
 ghost use Rattle.std.specs.Prelude.{◌≡◌};

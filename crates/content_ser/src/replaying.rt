@@ -1,4 +1,5 @@
 //! A list of calls, made on any serialiser.
+
 #![tactic(auto, using(crate::proofs::Sending::sending))]
 
 ghost use Rattle.content_ser.specs.Calls.Call.{events_of};

@@ -64,7 +64,7 @@ next_field key shown all step done lead xs i x whole here so_far =
     ∙ ap (λ r. key x.0 ++ r) (append_assoc (codes ": ") (printed (shown x.1)) (printed_fields (codes ", ") (all (drop (i + 1) xs))))))
     ∙ ap (λ ms. done ++ printed_fields lead ms) (step x (drop (i + 1) xs) ∙ ap all (sym here)) ∙ so_far
 
--- two to four writes in a row, under any options
+-- two to four writes one after another, under any options
 module _ {W : Type 0} (took : W → List ℕ → W → Type 0) where
   pub two_writes : (f g h : Formatter W) (a b all : List ℕ) →
       HasWrittenStyled took f a g → HasWrittenStyled took g b h → a ++ b ≡ all → HasWrittenStyled took f all h

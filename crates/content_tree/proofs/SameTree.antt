@@ -12,7 +12,7 @@ use Rattle.content_tree.specs.Values.Tree.{Fields, no_fields, field_then}
 use Rattle.content_tree.specs.Orders.Trees.{text_cmp, tree_cmp, tree_data_cmp, trees_cmp, pairs_cmp}
 use Rattle.content_tree.specs.Orders.Trees.{fields_cmp}
 
--- trees, payloads, and the lists in them
+-- trees, data, and the lists in them
 mutual
   pub trees_tie : (t u : Tree) → Ties (tree_cmp t u) (unmarked t ≡ unmarked u)
   trees_tie unit unit = (λ e. refl, λ e. refl)

@@ -12,7 +12,7 @@ ghost use Rattle.content_tree.specs.Memory.{is_free_image, is_free_image_data};
 use crate::error::Result;
 use crate::found::{Found, FoundData};
 use std::alloc::{AllocError, Global};
-use std::result::Result as Answer;
+use std::result::Result as StdResult;
 
 impl Found {
     /// A copy of the image.
@@ -44,7 +44,7 @@ impl FoundData {
 
 #[cycle(copy_found)]
 #[inline(always)]
-fn clone_found(alloc: Global, found: &Found) -> Answer<Found, AllocError>
+fn clone_found(alloc: Global, found: &Found) -> StdResult<Found, AllocError>
     ensures value { IfOk result (λ copy. image_view copy ≡ image_view found.now) }
     ensures succeeds { IsTrue (is_free_image (image_view found.now)) → IsOk result }
 {
@@ -77,11 +77,11 @@ fn clone_found(alloc: Global, found: &Found) -> Answer<Found, AllocError>
 
 // The image of a struct of this name.
 #[inline(never)]
-fn name_struct(alloc: Global, name: &str, held: Box<FoundData>) -> Answer<Found, AllocError>
-    ensures { IfOk result (λ f. image_view f ≡ structure name.now (image_data_view held.value)) }
+fn name_struct(alloc: Global, name: &str, inside: Box<FoundData>) -> StdResult<Found, AllocError>
+    ensures { IfOk result (λ f. image_view f ≡ structure name.now (image_data_view inside.value)) }
 {
     let name = String::from_str(alloc, name)?;
-    Ok(Found::Struct { name, data: held })
+    Ok(Found::Struct { name, data: inside })
 }
 
 // The image of a variant of these names.
@@ -90,36 +90,36 @@ fn name_enum(
     alloc: Global,
     name: &str,
     variant: &str,
-    held: Box<FoundData>,
-) -> Answer<Found, AllocError>
+    inside: Box<FoundData>,
+) -> StdResult<Found, AllocError>
     ensures { IfOk result (λ f. image_view f ≡ enumeration name.now variant.now
-        (image_data_view held.value)) }
+        (image_data_view inside.value)) }
 {
     let name = String::from_str(alloc, name)?;
     let variant = String::from_str(alloc, variant)?;
     Ok(Found::Enum {
         name,
         variant,
-        data: held,
+        data: inside,
     })
 }
 
 #[cycle(copy_found)]
 #[inline(never)]
-fn clone_boxed_data(alloc: Global, held: &FoundData) -> Answer<Box<FoundData>, AllocError>
-    ensures { IfOk result (λ copy. image_data_view copy.value ≡ image_data_view held.now) }
+fn clone_boxed_data(alloc: Global, inside: &FoundData) -> StdResult<Box<FoundData>, AllocError>
+    ensures { IfOk result (λ copy. image_data_view copy.value ≡ image_data_view inside.now) }
 {
-    let copy = clone_data(alloc, held)?;
+    let copy = clone_data(alloc, inside)?;
     Ok(Box::new(alloc, copy)?)
 }
 
 #[cycle(copy_found)]
 #[inline(always)]
-fn clone_data(alloc: Global, held: &FoundData) -> Answer<FoundData, AllocError>
-    ensures value { IfOk result (λ copy. image_data_view copy ≡ image_data_view held.now) }
-    ensures succeeds { IsTrue (is_free_image_data (image_data_view held.now)) → IsOk result }
+fn clone_data(alloc: Global, inside: &FoundData) -> StdResult<FoundData, AllocError>
+    ensures value { IfOk result (λ copy. image_data_view copy ≡ image_data_view inside.now) }
+    ensures succeeds { IsTrue (is_free_image_data (image_data_view inside.now)) → IsOk result }
 {
-    match held {
+    match inside {
         FoundData::Unit => Ok(FoundData::Unit),
         FoundData::NewType(found) => Ok(FoundData::NewType(clone_found(alloc, found)?)),
         FoundData::Tuple(items) => Ok(FoundData::Tuple(clone_items(alloc, items)?)),
@@ -129,14 +129,14 @@ fn clone_data(alloc: Global, held: &FoundData) -> Answer<FoundData, AllocError>
 
 #[cycle(copy_found)]
 #[inline(never)]
-fn clone_held(alloc: Global, held: &Option<Box<Found>>) -> Answer<Option<Box<Found>>, AllocError>
+fn clone_held(alloc: Global, held: &Option<Box<Found>>) -> StdResult<Option<Box<Found>>, AllocError>
     ensures value { IfOk result (λ copy. held_image copy ≡ held_image held.now) }
     ensures succeeds { held.now ≡ None → IsOk result }
 {
     match held {
         None => Ok(None),
-        Some(inner) => {
-            let copy = clone_found(alloc, inner)?;
+        Some(found) => {
+            let copy = clone_found(alloc, found)?;
             Ok(Some(Box::new(alloc, copy)?))
         }
     }
@@ -144,7 +144,7 @@ fn clone_held(alloc: Global, held: &Option<Box<Found>>) -> Answer<Option<Box<Fou
 
 #[cycle(copy_found)]
 #[inline(never)]
-fn clone_items(alloc: Global, items: &Vec<Found>) -> Answer<Vec<Found>, AllocError>
+fn clone_items(alloc: Global, items: &Vec<Found>) -> StdResult<Vec<Found>, AllocError>
     ensures value { IfOk result (λ copies. images_view copies.items ≡ images_view items.now.items) }
 {
     let mut copies = Vec::with_capacity(alloc, items.len())?;
@@ -159,7 +159,7 @@ fn clone_items(alloc: Global, items: &Vec<Found>) -> Answer<Vec<Found>, AllocErr
 fn clone_pairs(
     alloc: Global,
     pairs: &Vec<(Found, Found)>,
-) -> Answer<Vec<(Found, Found)>, AllocError>
+) -> StdResult<Vec<(Found, Found)>, AllocError>
     ensures value { IfOk result (λ copies. image_pairs_view copies.items ≡ image_pairs_view
         pairs.now.items) }
 {
@@ -177,7 +177,7 @@ fn clone_pairs(
 fn clone_fields(
     alloc: Global,
     fields: &Vec<(String, Found)>,
-) -> Answer<Vec<(String, Found)>, AllocError>
+) -> StdResult<Vec<(String, Found)>, AllocError>
     ensures value { IfOk result (λ copies. image_fields_view copies.items ≡ image_fields_view
         fields.now.items) }
 {

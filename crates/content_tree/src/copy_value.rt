@@ -15,7 +15,7 @@ use crate::cow::CowStr;
 use crate::error::Result;
 use crate::value::{NamedData, NamedEnum, NamedStruct, NamedValue};
 use std::alloc::{AllocError, Global};
-use std::result::Result as Answer;
+use std::result::Result as StdResult;
 
 impl<'a, 'n> NamedValue<'a, 'n> {
     /// A copy: the same tree, with each text, byte value and name borrowed or owned as here.
@@ -88,7 +88,7 @@ impl<'a, 'n> NamedData<'a, 'n> {
 fn clone_value<'a, 'n>(
     alloc: Global,
     value: &NamedValue<'a, 'n>,
-) -> Answer<NamedValue<'a, 'n>, AllocError>
+) -> StdResult<NamedValue<'a, 'n>, AllocError>
     ensures value { IfOk result (λ copy. tree_of copy ≡ tree_of value.now) }
     ensures succeeds { CopyTakesNoMemory (tree_of value.now) → IsOk result }
 {
@@ -102,8 +102,8 @@ fn clone_value<'a, 'n>(
         NamedValue::Seq(items) => Ok(NamedValue::Seq(clone_items(alloc, items)?)),
         NamedValue::Map(pairs) => Ok(NamedValue::Map(clone_pairs(alloc, pairs)?)),
         NamedValue::Option(held) => Ok(NamedValue::Option(clone_held(alloc, held)?)),
-        NamedValue::Struct(inner) => Ok(NamedValue::Struct(clone_boxed_struct(alloc, inner)?)),
-        NamedValue::Enum(inner) => Ok(NamedValue::Enum(clone_boxed_enum(alloc, inner)?)),
+        NamedValue::Struct(node) => Ok(NamedValue::Struct(clone_boxed_struct(alloc, node)?)),
+        NamedValue::Enum(node) => Ok(NamedValue::Enum(clone_boxed_enum(alloc, node)?)),
         NamedValue::Tuple(items) => Ok(NamedValue::Tuple(clone_items(alloc, items)?)),
     }
 }
@@ -114,12 +114,12 @@ fn clone_value<'a, 'n>(
 #[inline(never)]
 fn clone_boxed_struct<'a, 'n>(
     alloc: Global,
-    inner: &NamedStruct<'a, 'n>,
-) -> Answer<Box<NamedStruct<'a, 'n>>, AllocError>
-    ensures value { IfOk result (λ copy. struct_tree copy.value ≡ struct_tree inner.now) }
+    node: &NamedStruct<'a, 'n>,
+) -> StdResult<Box<NamedStruct<'a, 'n>>, AllocError>
+    ensures value { IfOk result (λ copy. struct_tree copy.value ≡ struct_tree node.now) }
 {
-    let data = clone_data(alloc, &inner.data)?;
-    box_struct(alloc, &inner.name, data)
+    let data = clone_data(alloc, &node.data)?;
+    box_struct(alloc, &node.name, data)
 }
 
 // A box of a struct with a copy of this name.
@@ -127,13 +127,13 @@ fn clone_boxed_struct<'a, 'n>(
 fn box_struct<'a, 'n>(
     alloc: Global,
     name: &CowStr<'n>,
-    held: NamedData<'a, 'n>,
-) -> Answer<Box<NamedStruct<'a, 'n>>, AllocError>
+    inside: NamedData<'a, 'n>,
+) -> StdResult<Box<NamedStruct<'a, 'n>>, AllocError>
     ensures { IfOk result (λ own. struct_tree own.value ≡ structure (text_of name.now)
-        (tree_data_of held.entry)) }
+        (tree_data_of inside.entry)) }
 {
     let name = name.copy(alloc)?;
-    Ok(Box::new(alloc, NamedStruct { name, data: held })?)
+    Ok(Box::new(alloc, NamedStruct { name, data: inside })?)
 }
 
 // The same of a variant.
@@ -141,18 +141,12 @@ fn box_struct<'a, 'n>(
 #[inline(never)]
 fn clone_boxed_enum<'a, 'n>(
     alloc: Global,
-    inner: &NamedEnum<'a, 'n>,
-) -> Answer<Box<NamedEnum<'a, 'n>>, AllocError>
-    ensures value { IfOk result (λ copy. enum_tree copy.value ≡ enum_tree inner.now) }
+    node: &NamedEnum<'a, 'n>,
+) -> StdResult<Box<NamedEnum<'a, 'n>>, AllocError>
+    ensures value { IfOk result (λ copy. enum_tree copy.value ≡ enum_tree node.now) }
 {
-    let data = clone_data(alloc, &inner.data)?;
-    box_enum(
-        alloc,
-        &inner.name,
-        inner.variant_index,
-        &inner.variant,
-        data,
-    )
+    let data = clone_data(alloc, &node.data)?;
+    box_enum(alloc, &node.name, node.variant_index, &node.variant, data)
 }
 
 // A box of a variant with copies of these names.
@@ -162,32 +156,32 @@ fn box_enum<'a, 'n>(
     name: &CowStr<'n>,
     variant_index: u32,
     variant: &CowStr<'n>,
-    held: NamedData<'a, 'n>,
-) -> Answer<Box<NamedEnum<'a, 'n>>, AllocError>
+    inside: NamedData<'a, 'n>,
+) -> StdResult<Box<NamedEnum<'a, 'n>>, AllocError>
     ensures { IfOk result (λ own. enum_tree own.value ≡ enumeration (text_of name.now)
-        variant_index (text_of variant.now) (tree_data_of held.entry)) }
+        variant_index (text_of variant.now) (tree_data_of inside.entry)) }
 {
     let name = name.copy(alloc)?;
     let variant = variant.copy(alloc)?;
-    let inner = NamedEnum {
+    let node = NamedEnum {
         name,
         variant_index,
         variant,
-        data: held,
+        data: inside,
     };
-    Ok(Box::new(alloc, inner)?)
+    Ok(Box::new(alloc, node)?)
 }
 
 #[cycle(copy_value)]
 #[inline(always)]
 fn clone_data<'a, 'n>(
     alloc: Global,
-    inner: &NamedData<'a, 'n>,
-) -> Answer<NamedData<'a, 'n>, AllocError>
-    ensures value { IfOk result (λ copy. tree_data_of copy ≡ tree_data_of inner.now) }
-    ensures succeeds { DataCopyTakesNoMemory (tree_data_of inner.now) → IsOk result }
+    inside: &NamedData<'a, 'n>,
+) -> StdResult<NamedData<'a, 'n>, AllocError>
+    ensures value { IfOk result (λ copy. tree_data_of copy ≡ tree_data_of inside.now) }
+    ensures succeeds { DataCopyTakesNoMemory (tree_data_of inside.now) → IsOk result }
 {
-    match inner {
+    match inside {
         NamedData::Unit => Ok(NamedData::Unit),
         NamedData::NewType { value } => Ok(NamedData::NewType {
             value: clone_value(alloc, value)?,
@@ -206,14 +200,14 @@ fn clone_data<'a, 'n>(
 fn clone_held<'a, 'n>(
     alloc: Global,
     held: &Option<Box<NamedValue<'a, 'n>>>,
-) -> Answer<Option<Box<NamedValue<'a, 'n>>>, AllocError>
+) -> StdResult<Option<Box<NamedValue<'a, 'n>>>, AllocError>
     ensures value { IfOk result (λ copy. held_view copy ≡ held_view held.now) }
     ensures succeeds { held.now ≡ None → IsOk result }
 {
     match held {
         None => Ok(None),
-        Some(inner) => {
-            let copy = clone_value(alloc, inner)?;
+        Some(value) => {
+            let copy = clone_value(alloc, value)?;
             Ok(Some(Box::new(alloc, copy)?))
         }
     }
@@ -224,7 +218,7 @@ fn clone_held<'a, 'n>(
 fn clone_items<'a, 'n>(
     alloc: Global,
     items: &Vec<NamedValue<'a, 'n>>,
-) -> Answer<Vec<NamedValue<'a, 'n>>, AllocError>
+) -> StdResult<Vec<NamedValue<'a, 'n>>, AllocError>
     ensures value { IfOk result (λ copies. trees_view copies.items ≡ trees_view items.now.items) }
 {
     let mut copies = Vec::with_capacity(alloc, items.len())?;
@@ -239,7 +233,7 @@ fn clone_items<'a, 'n>(
 fn clone_pairs<'a, 'n>(
     alloc: Global,
     pairs: &Vec<(NamedValue<'a, 'n>, NamedValue<'a, 'n>)>,
-) -> Answer<Vec<(NamedValue<'a, 'n>, NamedValue<'a, 'n>)>, AllocError>
+) -> StdResult<Vec<(NamedValue<'a, 'n>, NamedValue<'a, 'n>)>, AllocError>
     ensures value { IfOk result (λ copies. pairs_view copies.items ≡ pairs_view pairs.now.items) }
 {
     let mut copies = Vec::with_capacity(alloc, pairs.len())?;
@@ -256,7 +250,7 @@ fn clone_pairs<'a, 'n>(
 fn clone_fields<'a, 'n>(
     alloc: Global,
     fields: &Vec<(CowStr<'n>, NamedValue<'a, 'n>)>,
-) -> Answer<Vec<(CowStr<'n>, NamedValue<'a, 'n>)>, AllocError>
+) -> StdResult<Vec<(CowStr<'n>, NamedValue<'a, 'n>)>, AllocError>
     ensures value { IfOk result (λ copies. fields_view copies.items ≡ fields_view
         fields.now.items) }
 {

@@ -7,7 +7,7 @@ ghost use Rattle.content_tree.specs.Errors.Kind.{IsOutOfMemory};
 use crate::error::Result;
 use std::alloc::{AllocError, Global};
 use std::mem;
-use std::result::Result as Answer;
+use std::result::Result as StdResult;
 
 /// A text, borrowed or owned. A borrowed name is called static: in [`Value`](crate::Value) it lives
 /// as long as the program.
@@ -61,7 +61,7 @@ impl<'a> CowStr<'a> {
 
     /// The same, where an allocation fails with that alone.
     #[inline(always)]
-    pub(crate) fn own(self, alloc: Global) -> Answer<String, AllocError>
+    pub(crate) fn own(self, alloc: Global) -> StdResult<String, AllocError>
         ensures value { IfOk result (λ text. string_bytes text ≡ text_content self.entry) }
         ensures moved { IfSome (string_in self.entry) (λ text. result ≡ Ok text) }
     {
@@ -73,7 +73,7 @@ impl<'a> CowStr<'a> {
 
     /// The text as one that is owned, taken out of the place, where an empty text is left.
     #[inline(always)]
-    pub(crate) fn take(&mut self, alloc: Global) -> Answer<String, AllocError>
+    pub(crate) fn take(&mut self, alloc: Global) -> StdResult<String, AllocError>
         ensures value { IfOk result (λ text. string_bytes text ≡ text_content self.old) }
         ensures moved { IfSome (string_in self.old) (λ text. result ≡ Ok text) }
     {
@@ -92,7 +92,7 @@ impl<'a> CowStr<'a> {
 
     /// The same, where an allocation fails with that alone.
     #[inline(always)]
-    pub(crate) fn copy(&self, alloc: Global) -> Answer<CowStr<'a>, AllocError>
+    pub(crate) fn copy(&self, alloc: Global) -> StdResult<CowStr<'a>, AllocError>
         ensures value { IfOk result (λ copy. text_of copy ≡ text_of self.now) }
         ensures succeeds { IsTrue (text_of self.now).borrowed → IsOk result }
     {
@@ -136,7 +136,7 @@ impl<'a> CowBytes<'a> {
 
     /// The same, where an allocation fails with that alone.
     #[inline(always)]
-    pub(crate) fn own(self, alloc: Global) -> Answer<Vec<u8>, AllocError>
+    pub(crate) fn own(self, alloc: Global) -> StdResult<Vec<u8>, AllocError>
         ensures value { IfOk result (λ bytes. bytes.items ≡ bytes_content self.entry) }
         ensures moved { IfSome (vec_in self.entry) (λ bytes. result ≡ Ok bytes) }
     {
@@ -148,7 +148,7 @@ impl<'a> CowBytes<'a> {
 
     /// The bytes as ones that are owned, taken out of the place, where no bytes are left.
     #[inline(always)]
-    pub(crate) fn take(&mut self, alloc: Global) -> Answer<Vec<u8>, AllocError>
+    pub(crate) fn take(&mut self, alloc: Global) -> StdResult<Vec<u8>, AllocError>
         ensures value { IfOk result (λ bytes. bytes.items ≡ bytes_content self.old) }
         ensures moved { IfSome (vec_in self.old) (λ bytes. result ≡ Ok bytes) }
     {
@@ -167,7 +167,7 @@ impl<'a> CowBytes<'a> {
 
     /// The same, where an allocation fails with that alone.
     #[inline(always)]
-    pub(crate) fn copy(&self, alloc: Global) -> Answer<CowBytes<'a>, AllocError>
+    pub(crate) fn copy(&self, alloc: Global) -> StdResult<CowBytes<'a>, AllocError>
         ensures value { IfOk result (λ copy. bytes_of copy ≡ bytes_of self.now) }
         ensures succeeds { IsTrue (bytes_of self.now).borrowed → IsOk result }
     {

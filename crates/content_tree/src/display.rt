@@ -65,9 +65,9 @@ fn write_held<W: fmt::Write>(held: &Option<Box<Found>>, f: &mut fmt::Formatter<W
 {
     match held {
         None => f.write_str("None"),
-        Some(inner) => {
+        Some(found) => {
             f.write_str("Some(")?;
-            write_found(inner, f)?;
+            write_found(found, f)?;
             f.write_str(")")
         }
     }

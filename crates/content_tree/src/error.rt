@@ -27,7 +27,7 @@ pub enum ErrorKind {
     },
     /// A text of the caller's or the library's own.
     Custom(String),
-    /// A allocation failed.
+    /// An allocation failed.
     OutOfMemory,
     /// A call after which no list of calls can spell a tree.
     Misplaced,

@@ -22,7 +22,7 @@ use crate::error::Result;
 use crate::found::{Found, FoundData};
 use crate::value::{NamedData, NamedEnum, NamedStruct, NamedValue};
 use std::alloc::{AllocError, Global};
-use std::result::Result as Answer;
+use std::result::Result as StdResult;
 
 impl<'a, 'n> NamedValue<'a, 'n> {
     /// The image of the value, for an error: the same shape without the indices of variants. Owned
@@ -49,7 +49,7 @@ impl<'a, 'n> NamedValue<'a, 'n> {
 pub(crate) fn found_value<'a, 'n>(
     alloc: Global,
     value: &mut NamedValue<'a, 'n>,
-) -> Answer<Found, AllocError>
+) -> StdResult<Found, AllocError>
     ensures value { IfOk result (λ f. image_view f ≡ image (tree_of value.old)) }
     ensures succeeds { OwningTakesNoMemory (tree_of value.old) → IsOk result }
     ensures text { IfSome (string_at value.old) (λ own. result ≡ Ok (found.String own)) }
@@ -65,8 +65,8 @@ pub(crate) fn found_value<'a, 'n>(
         NamedValue::Seq(items) => Ok(Found::Seq(found_items(alloc, items)?)),
         NamedValue::Map(pairs) => Ok(Found::Map(found_pairs(alloc, pairs)?)),
         NamedValue::Option(held) => Ok(Found::Option(found_option(alloc, held)?)),
-        NamedValue::Struct(inner) => found_struct(alloc, inner),
-        NamedValue::Enum(inner) => found_enum(alloc, inner),
+        NamedValue::Struct(node) => found_struct(alloc, node),
+        NamedValue::Enum(node) => found_enum(alloc, node),
         NamedValue::Tuple(items) => Ok(Found::Tuple(found_items(alloc, items)?)),
     }
 }
@@ -76,12 +76,12 @@ pub(crate) fn found_value<'a, 'n>(
 #[inline(never)]
 pub(crate) fn found_struct<'a, 'n>(
     alloc: Global,
-    inner: &mut NamedStruct<'a, 'n>,
-) -> Answer<Found, AllocError>
-    ensures { IfOk result (λ f. image_view f ≡ image (struct_tree inner.old)) }
+    node: &mut NamedStruct<'a, 'n>,
+) -> StdResult<Found, AllocError>
+    ensures { IfOk result (λ f. image_view f ≡ image (struct_tree node.old)) }
 {
-    let held = found_data(alloc, &mut inner.data)?;
-    name_struct(alloc, &mut inner.name, held)
+    let inside = found_data(alloc, &mut node.data)?;
+    name_struct(alloc, &mut node.name, inside)
 }
 
 /// The image of a variant.
@@ -89,12 +89,12 @@ pub(crate) fn found_struct<'a, 'n>(
 #[inline(never)]
 pub(crate) fn found_enum<'a, 'n>(
     alloc: Global,
-    inner: &mut NamedEnum<'a, 'n>,
-) -> Answer<Found, AllocError>
-    ensures { IfOk result (λ f. image_view f ≡ image (enum_tree inner.old)) }
+    node: &mut NamedEnum<'a, 'n>,
+) -> StdResult<Found, AllocError>
+    ensures { IfOk result (λ f. image_view f ≡ image (enum_tree node.old)) }
 {
-    let held = found_data(alloc, &mut inner.data)?;
-    name_enum(alloc, &mut inner.name, &mut inner.variant, held)
+    let inside = found_data(alloc, &mut node.data)?;
+    name_enum(alloc, &mut node.name, &mut node.variant, inside)
 }
 
 // The image of a struct of this name.
@@ -102,13 +102,13 @@ pub(crate) fn found_enum<'a, 'n>(
 fn name_struct<'n>(
     alloc: Global,
     name: &mut CowStr<'n>,
-    held: Box<FoundData>,
-) -> Answer<Found, AllocError>
+    inside: Box<FoundData>,
+) -> StdResult<Found, AllocError>
     ensures { IfOk result (λ f. image_view f ≡ structure (text_of name.old).content
-        (image_data_view held.value)) }
+        (image_data_view inside.value)) }
 {
     let name = name.take(alloc)?;
-    Ok(Found::Struct { name, data: held })
+    Ok(Found::Struct { name, data: inside })
 }
 
 // The image of a variant of these names.
@@ -117,23 +117,23 @@ fn name_enum<'n>(
     alloc: Global,
     name: &mut CowStr<'n>,
     variant: &mut CowStr<'n>,
-    held: Box<FoundData>,
-) -> Answer<Found, AllocError>
+    inside: Box<FoundData>,
+) -> StdResult<Found, AllocError>
     ensures { IfOk result (λ f. image_view f ≡ enumeration (text_of name.old).content
-        (text_of variant.old).content (image_data_view held.value)) }
+        (text_of variant.old).content (image_data_view inside.value)) }
 {
     let name = name.take(alloc)?;
     let variant = variant.take(alloc)?;
     Ok(Found::Enum {
         name,
         variant,
-        data: held,
+        data: inside,
     })
 }
 
 // What holds images by place, in a box.
 #[inline(never)]
-fn box_items(alloc: Global, items: Vec<Found>) -> Answer<Box<FoundData>, AllocError>
+fn box_items(alloc: Global, items: Vec<Found>) -> StdResult<Box<FoundData>, AllocError>
     ensures { IfOk result (λ held. image_data_view held.value ≡ many (images_view items.items)) }
 {
     Ok(Box::new(alloc, FoundData::Tuple(items))?)
@@ -141,7 +141,7 @@ fn box_items(alloc: Global, items: Vec<Found>) -> Answer<Box<FoundData>, AllocEr
 
 // What holds images by key, in a box.
 #[inline(never)]
-fn box_fields(alloc: Global, fields: Vec<(String, Found)>) -> Answer<Box<FoundData>, AllocError>
+fn box_fields(alloc: Global, fields: Vec<(String, Found)>) -> StdResult<Box<FoundData>, AllocError>
     ensures { IfOk result (λ held. image_data_view held.value ≡ named
         (image_fields_view fields.items)) }
 {
@@ -154,7 +154,7 @@ fn box_fields(alloc: Global, fields: Vec<(String, Found)>) -> Answer<Box<FoundDa
 fn found_newtype<'a, 'n>(
     alloc: Global,
     value: &mut NamedValue<'a, 'n>,
-) -> Answer<Box<FoundData>, AllocError>
+) -> StdResult<Box<FoundData>, AllocError>
     ensures { IfOk result (λ held. image_data_view held.value ≡ one
         (image (tree_of value.old))) }
 {
@@ -166,12 +166,12 @@ fn found_newtype<'a, 'n>(
 #[inline(always)]
 fn found_data<'a, 'n>(
     alloc: Global,
-    inner: &mut NamedData<'a, 'n>,
-) -> Answer<Box<FoundData>, AllocError>
+    inside: &mut NamedData<'a, 'n>,
+) -> StdResult<Box<FoundData>, AllocError>
     ensures { IfOk result (λ held. image_data_view held.value ≡ image_data
-        (tree_data_of inner.old)) }
+        (tree_data_of inside.old)) }
 {
-    match inner {
+    match inside {
         NamedData::Unit => Ok(Box::new(alloc, FoundData::Unit)?),
         NamedData::NewType { value } => found_newtype(alloc, value),
         NamedData::Tuple { values } => box_items(alloc, found_items(alloc, values)?),
@@ -184,15 +184,15 @@ fn found_data<'a, 'n>(
 fn found_option<'a, 'n>(
     alloc: Global,
     held: &mut Option<Box<NamedValue<'a, 'n>>>,
-) -> Answer<Option<Box<Found>>, AllocError>
+) -> StdResult<Option<Box<Found>>, AllocError>
     ensures value { IfOk result (λ f. held_image f ≡ image (held_view held.old)) }
     ensures succeeds { held.old ≡ None → IsOk result }
 {
     match held {
         None => Ok(None),
-        Some(inner) => {
-            let inner = found_value(alloc, inner)?;
-            Ok(Some(Box::new(alloc, inner)?))
+        Some(value) => {
+            let value = found_value(alloc, value)?;
+            Ok(Some(Box::new(alloc, value)?))
         }
     }
 }
@@ -202,7 +202,7 @@ fn found_option<'a, 'n>(
 fn found_items<'a, 'n>(
     alloc: Global,
     items: &mut Vec<NamedValue<'a, 'n>>,
-) -> Answer<Vec<Found>, AllocError>
+) -> StdResult<Vec<Found>, AllocError>
     ensures { IfOk result (λ f. images_view f.items ≡ image_each
         (trees_view items.old.items)) }
 {
@@ -218,7 +218,7 @@ fn found_items<'a, 'n>(
 fn found_pairs<'a, 'n>(
     alloc: Global,
     pairs: &mut Vec<(NamedValue<'a, 'n>, NamedValue<'a, 'n>)>,
-) -> Answer<Vec<(Found, Found)>, AllocError>
+) -> StdResult<Vec<(Found, Found)>, AllocError>
     ensures { IfOk result (λ f. image_pairs_view f.items ≡ image_pairs
         (pairs_view pairs.old.items)) }
 {
@@ -236,7 +236,7 @@ fn found_pairs<'a, 'n>(
 fn found_fields<'a, 'n>(
     alloc: Global,
     fields: &mut Vec<(CowStr<'n>, NamedValue<'a, 'n>)>,
-) -> Answer<Vec<(String, Found)>, AllocError>
+) -> StdResult<Vec<(String, Found)>, AllocError>
     ensures { IfOk result (λ f. image_fields_view f.items ≡ image_fields
         (fields_view fields.old.items)) }
 {

@@ -52,11 +52,11 @@ pub fn equal_enums<'a, 'n>(variant: &NamedEnum<'a, 'n>, other_variant: &NamedEnu
 /// What `==` of the data of structs and variants answers: whether they are equal with every mark
 /// taken off. It takes no memory.
 #[tactic(auto, using(crate::proofs::SameTree::tree_data_tie))]
-pub fn equal_data<'a, 'n>(held: &NamedData<'a, 'n>, other_held: &NamedData<'a, 'n>) -> bool
+pub fn equal_data<'a, 'n>(inside: &NamedData<'a, 'n>, other_inside: &NamedData<'a, 'n>) -> bool
     ensures { Decides result
-        (unmarked_data (tree_data_of held.now) ≡ unmarked_data (tree_data_of other_held.now)) }
+        (unmarked_data (tree_data_of inside.now) ≡ unmarked_data (tree_data_of other_inside.now)) }
 {
-    *held == *other_held
+    *inside == *other_inside
 }
 
 /// What `==` of texts answers: whether they have the same bytes. It takes no memory.

@@ -20,7 +20,7 @@ use crate::cow::{CowBytes, CowStr};
 use crate::error::Result;
 use crate::value::{NamedData, NamedEnum, NamedStruct, NamedValue};
 use std::alloc::{AllocError, Global};
-use std::result::Result as Answer;
+use std::result::Result as StdResult;
 
 impl<'a, 'n> NamedValue<'a, 'n> {
     /// The same tree with every text and byte value owned; names, variants and keys stay as they
@@ -100,7 +100,7 @@ impl<'a, 'n> NamedData<'a, 'n> {
 fn own_value<'a, 'n>(
     alloc: Global,
     held: NamedValue<'a, 'n>,
-) -> Answer<NamedValue<'static, 'n>, AllocError>
+) -> StdResult<NamedValue<'static, 'n>, AllocError>
     ensures value { IfOk result (λ own. tree_of own ≡ owned (tree_of held.entry)) }
     ensures succeeds { OwningTakesNoMemory (tree_of held.entry) → IsOk result }
     ensures text { IfSome (string_at held.entry)
@@ -118,8 +118,8 @@ fn own_value<'a, 'n>(
         NamedValue::Seq(items) => Ok(NamedValue::Seq(own_items(alloc, items)?)),
         NamedValue::Map(pairs) => Ok(NamedValue::Map(own_pairs(alloc, pairs)?)),
         NamedValue::Option(inner) => Ok(NamedValue::Option(own_held(alloc, inner)?)),
-        NamedValue::Struct(inner) => Ok(NamedValue::Struct(own_struct(alloc, inner)?)),
-        NamedValue::Enum(inner) => Ok(NamedValue::Enum(own_enum(alloc, inner)?)),
+        NamedValue::Struct(node) => Ok(NamedValue::Struct(own_struct(alloc, node)?)),
+        NamedValue::Enum(node) => Ok(NamedValue::Enum(own_enum(alloc, node)?)),
         NamedValue::Tuple(items) => Ok(NamedValue::Tuple(own_items(alloc, items)?)),
     }
 }
@@ -128,12 +128,12 @@ fn own_value<'a, 'n>(
 #[inline(never)]
 fn own_struct<'a, 'n>(
     alloc: Global,
-    inner: Box<NamedStruct<'a, 'n>>,
-) -> Answer<Box<NamedStruct<'static, 'n>>, AllocError>
+    node: Box<NamedStruct<'a, 'n>>,
+) -> StdResult<Box<NamedStruct<'static, 'n>>, AllocError>
     ensures { IfOk result (λ own. struct_tree own.value ≡ owned
-        (struct_tree inner.entry.value)) }
+        (struct_tree node.entry.value)) }
 {
-    let NamedStruct { name, data } = Box::into_inner(inner);
+    let NamedStruct { name, data } = Box::into_inner(node);
     let data = own_data(alloc, data)?;
     Ok(Box::new(alloc, NamedStruct { name, data })?)
 }
@@ -142,16 +142,16 @@ fn own_struct<'a, 'n>(
 #[inline(never)]
 fn own_enum<'a, 'n>(
     alloc: Global,
-    inner: Box<NamedEnum<'a, 'n>>,
-) -> Answer<Box<NamedEnum<'static, 'n>>, AllocError>
-    ensures { IfOk result (λ own. enum_tree own.value ≡ owned (enum_tree inner.entry.value)) }
+    node: Box<NamedEnum<'a, 'n>>,
+) -> StdResult<Box<NamedEnum<'static, 'n>>, AllocError>
+    ensures { IfOk result (λ own. enum_tree own.value ≡ owned (enum_tree node.entry.value)) }
 {
     let NamedEnum {
         name,
         variant_index,
         variant,
         data,
-    } = Box::into_inner(inner);
+    } = Box::into_inner(node);
     let data = own_data(alloc, data)?;
     let owned = NamedEnum {
         name,
@@ -166,13 +166,13 @@ fn own_enum<'a, 'n>(
 #[inline(always)]
 fn own_data<'a, 'n>(
     alloc: Global,
-    inner: NamedData<'a, 'n>,
-) -> Answer<NamedData<'static, 'n>, AllocError>
+    inside: NamedData<'a, 'n>,
+) -> StdResult<NamedData<'static, 'n>, AllocError>
     ensures value { IfOk result (λ own. tree_data_of own ≡ owned_data
-        (tree_data_of inner.entry)) }
-    ensures succeeds { DataOwningTakesNoMemory (tree_data_of inner.entry) → IsOk result }
+        (tree_data_of inside.entry)) }
+    ensures succeeds { DataOwningTakesNoMemory (tree_data_of inside.entry) → IsOk result }
 {
-    match inner {
+    match inside {
         NamedData::Unit => Ok(NamedData::Unit),
         NamedData::NewType { value } => Ok(NamedData::NewType {
             value: own_value(alloc, value)?,
@@ -191,15 +191,15 @@ fn own_data<'a, 'n>(
 fn own_held<'a, 'n>(
     alloc: Global,
     held: Option<Box<NamedValue<'a, 'n>>>,
-) -> Answer<Option<Box<NamedValue<'static, 'n>>>, AllocError>
+) -> StdResult<Option<Box<NamedValue<'static, 'n>>>, AllocError>
     ensures value { IfOk result (λ own. held_view own ≡ owned (held_view held.entry)) }
     ensures succeeds { held.entry ≡ None → IsOk result }
 {
     match held {
         None => Ok(None),
-        Some(inner) => {
-            let inner = own_value(alloc, Box::into_inner(inner))?;
-            Ok(Some(Box::new(alloc, inner)?))
+        Some(value) => {
+            let value = own_value(alloc, Box::into_inner(value))?;
+            Ok(Some(Box::new(alloc, value)?))
         }
     }
 }
@@ -209,7 +209,7 @@ fn own_held<'a, 'n>(
 fn own_items<'a, 'n>(
     alloc: Global,
     items: Vec<NamedValue<'a, 'n>>,
-) -> Answer<Vec<NamedValue<'static, 'n>>, AllocError>
+) -> StdResult<Vec<NamedValue<'static, 'n>>, AllocError>
     ensures { IfOk result (λ own. trees_view own.items ≡ at_texts_each to_owned (λ n. n)
         (trees_view items.entry.items)) }
 {
@@ -225,7 +225,7 @@ fn own_items<'a, 'n>(
 fn own_pairs<'a, 'n>(
     alloc: Global,
     pairs: Vec<(NamedValue<'a, 'n>, NamedValue<'a, 'n>)>,
-) -> Answer<Vec<(NamedValue<'static, 'n>, NamedValue<'static, 'n>)>, AllocError>
+) -> StdResult<Vec<(NamedValue<'static, 'n>, NamedValue<'static, 'n>)>, AllocError>
     ensures { IfOk result (λ own. pairs_view own.items ≡ at_texts_pairs to_owned (λ n. n)
         (pairs_view pairs.entry.items)) }
 {
@@ -243,7 +243,7 @@ fn own_pairs<'a, 'n>(
 fn own_fields<'a, 'n>(
     alloc: Global,
     fields: Vec<(CowStr<'n>, NamedValue<'a, 'n>)>,
-) -> Answer<Vec<(CowStr<'n>, NamedValue<'static, 'n>)>, AllocError>
+) -> StdResult<Vec<(CowStr<'n>, NamedValue<'static, 'n>)>, AllocError>
     ensures { IfOk result (λ own. fields_view own.items ≡ at_texts_fields to_owned (λ n. n)
         (fields_view fields.entry.items)) }
 {

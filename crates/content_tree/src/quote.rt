@@ -25,7 +25,7 @@ fn write_escaped<W: fmt::Write>(text: &str, f: &mut fmt::Formatter<W>) -> fmt::R
         (flat_map escaped (chars text.now)) f.new }
 {
     let mut rest = text;
-    while let Some((plain, byte, after)) = cut_at_escape(rest) {
+    while let Some((plain, byte, after)) = split_at_escape(rest) {
         f.write_str(plain)?;
         write_escape(byte, f)?;
         rest = after;
@@ -34,7 +34,7 @@ fn write_escaped<W: fmt::Write>(text: &str, f: &mut fmt::Formatter<W>) -> fmt::R
 }
 
 // What is printed as it is, the first character that isn't, and what follows it.
-fn cut_at_escape(text: &str) -> Option<(&str, u8, &str)>
+fn split_at_escape(text: &str) -> Option<(&str, u8, &str)>
     ensures printed { MatchOption result (flat_map escaped (chars text.now) ≡ text.now)
         (λ cut. flat_map escaped (chars text.now)
         ≡ cut.0.now ++ (escaped cut.1 ++ flat_map escaped (chars cut.2.now))) }

@@ -57,8 +57,8 @@ impl<'a, 'n> Unexpected for Box<NamedStruct<'a, 'n>> {
     ghost takes_memory = { true };
 
     fn unexpected(self, alloc: Global, expected: Expected) -> Error {
-        let mut inner = self;
-        refusal(found_struct(alloc, &mut inner), expected)
+        let mut node = self;
+        refusal(found_struct(alloc, &mut node), expected)
     }
 }
 
@@ -68,8 +68,8 @@ impl<'a, 'n> Unexpected for Box<NamedEnum<'a, 'n>> {
     ghost takes_memory = { true };
 
     fn unexpected(self, alloc: Global, expected: Expected) -> Error {
-        let mut inner = self;
-        refusal(found_enum(alloc, &mut inner), expected)
+        let mut node = self;
+        refusal(found_enum(alloc, &mut node), expected)
     }
 }
 

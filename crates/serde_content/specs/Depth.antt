@@ -20,7 +20,7 @@ shallower depth = if nat_eq depth 0 then None else Some (depth - 1)
 abbrev pub depth_after_token : ℕ → Token → Option ℕ
 depth_after_token depth (token.leaf t) = Some depth
 depth_after_token depth (token.wrap w) = Some depth
-depth_after_token depth (token.open_row r) = deeper depth
+depth_after_token depth (token.open_series r) = deeper depth
 depth_after_token depth token.open_map = deeper depth
 depth_after_token depth (token.open_record r) = deeper depth
 depth_after_token depth (token.item m) = Some depth

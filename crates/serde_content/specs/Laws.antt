@@ -1,7 +1,7 @@
 pub mod Spelled
 pub mod Leaves
 pub mod Holders
-pub mod Rows
+pub mod Series
 pub mod Maps
 pub mod Records
 pub mod Variants

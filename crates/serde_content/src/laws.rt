@@ -1,5 +1,6 @@
 //! Laws of the definitions, each a call that answers nothing and whose contract is the law; and
 //! what the comparisons mean.
+
 #![tactic(auto, using(content_build::proofs::Agreement::one_tree, content_build::proofs::Agreement::unique_cut))]
 
 ghost use Rattle.content_ser.specs.Laws.Lists.{OneTree, UniqueCut};

@@ -1,6 +1,7 @@
 //! A container for any value of Serde's data model without floats: a serialiser's calls build a
 //! tree, and a tree goes out again as calls or as typed data. Types and names are those of the
 //! crate `serde-content` 0.1.2; [`ser`] has the calls, [`de`] the reading and [`laws`] the laws.
+
 #![tactic(auto)]
 
 pub use content_build::Serializer;

@@ -8,7 +8,7 @@ use Rattle.content_tree.specs.Values.Tree.{no_pairs, pair_then, Fields, no_field
 use Rattle.content_ser.specs.Calls.Head as calls
 use Rattle.content_ser.specs.Calls.Head.{Head}
 use Rattle.content_ser.specs.Grammar.Token as token
-use Rattle.content_ser.specs.Grammar.Token.{Wrap, Row, ItemCall, item_call}
+use Rattle.content_ser.specs.Grammar.Token.{Wrap, Series, ItemCall, item_call}
 use Rattle.content_build.specs.Partial as partial
 use Rattle.content_build.specs.Partial.{Partial, Slot, Compound}
 
@@ -58,8 +58,8 @@ abbrev pub cell_size : Cell → ℕ
 cell_size (cell node n) = n
 
 -- a finished node with what is inside it
-abbrev pub under : Node → List Cell → List Cell
-under node inside = cell node (suc (length inside)) ∷ inside
+abbrev pub enclose : Node → List Cell → List Cell
+enclose node inside = cell node (suc (length inside)) ∷ inside
 
 -- what a struct or a variant holds
 abbrev pub sort_of : TreeData → Sort
@@ -77,13 +77,13 @@ abbrev mutual
   flat (tree.character c) = cell (leaf (character c)) 1 ∷ []
   flat (tree.text t) = cell (leaf (text t)) 1 ∷ []
   flat (tree.octets t) = cell (leaf (octets t)) 1 ∷ []
-  flat (tree.seq ts) = under seq (flat_trees ts)
-  flat (tree.map ps) = under map (flat_pairs ps)
+  flat (tree.seq ts) = enclose seq (flat_trees ts)
+  flat (tree.map ps) = enclose map (flat_pairs ps)
   flat tree.absent = cell (leaf absent) 1 ∷ []
-  flat (tree.present t) = under present (flat t)
-  flat (tree.structure name d) = under (headed (sort_of d) (of_struct name)) (flat_data d)
-  flat (tree.enumeration name i variant d) = under (headed (sort_of d) (of_variant name i variant)) (flat_data d)
-  flat (tree.tuple ts) = under tuple (flat_trees ts)
+  flat (tree.present t) = enclose present (flat t)
+  flat (tree.structure name d) = enclose (headed (sort_of d) (of_struct name)) (flat_data d)
+  flat (tree.enumeration name i variant d) = enclose (headed (sort_of d) (of_variant name i variant)) (flat_data d)
+  flat (tree.tuple ts) = enclose tuple (flat_trees ts)
 
   -- of what a struct or a variant holds
   pub flat_data : TreeData → List Cell
@@ -116,7 +116,7 @@ pub data Wait : Type 0 where
   entry_key : Wait
   entry_value : Wait
   field : Wait
-  in_row : ItemCall → Wait
+  in_series : ItemCall → Wait
   in_map : Wait
   in_record : Wait
   deriving IsSet as Wait-set
@@ -137,10 +137,10 @@ wrap_node token.in_some = present
 wrap_node (token.in_head h) = headed one (names_of h)
 
 -- the node of items by place
-abbrev pub row_node : Row → Node
-row_node token.row_seq = seq
-row_node token.row_tuple = tuple
-row_node (token.row_head h) = headed many (names_of h)
+abbrev pub series_node : Series → Node
+series_node token.series_seq = seq
+series_node token.series_tuple = tuple
+series_node (token.series_head h) = headed many (names_of h)
 
 -- the node of fields
 abbrev pub record_node : Head → Node
@@ -148,26 +148,26 @@ record_node h = headed fields (names_of h)
 
 -- the node of an opened compound
 abbrev pub compound_node : Compound → Node
-compound_node (partial.in_row r ts) = row_node r
+compound_node (partial.in_series r ts) = series_node r
 compound_node (partial.in_map prs) = map
 compound_node (partial.in_record h fs) = record_node h
 
 -- what is finished in it
 abbrev pub compound_cells : Compound → List Cell
-compound_cells (partial.in_row r ts) = flat_trees ts
+compound_cells (partial.in_series r ts) = flat_trees ts
 compound_cells (partial.in_map prs) = flat_pairs prs
 compound_cells (partial.in_record h fs) = flat_fields fs
 
 -- that no slot waits in it
 abbrev pub compound_wait : Compound → Wait
-compound_wait (partial.in_row r ts) = in_row (item_call r)
+compound_wait (partial.in_series r ts) = in_series (item_call r)
 compound_wait (partial.in_map prs) = in_map
 compound_wait (partial.in_record h fs) = in_record
 
 -- the node of a slot's head
 abbrev pub slot_node : Slot → Node
 slot_node (partial.child w) = wrap_node w
-slot_node (partial.element r ts) = row_node r
+slot_node (partial.element r ts) = series_node r
 slot_node (partial.key prs) = map
 slot_node (partial.value prs) = map
 slot_node (partial.entry_key prs) = map
@@ -202,7 +202,7 @@ last_value before (pair_then k v (pair_then a b ps)) = last_value ((before + len
 
 -- where the last value of a compound begins
 abbrev pub compound_last : ℕ → Compound → ℕ
-compound_last before (partial.in_row r ts) = 0
+compound_last before (partial.in_series r ts) = 0
 compound_last before (partial.in_map prs) = last_value before prs
 compound_last before (partial.in_record h fs) = 0
 
@@ -221,7 +221,7 @@ abbrev pub slots_cells : List Slot → List Cell
 slots_cells [] = []
 slots_cells (p ∷ ps) = slots_cells ps ++ (cell (slot_node p) 0 ∷ slot_cells p)
 
--- their open heads, from the innermost to the outermost
+-- their openings, from the innermost to the outermost
 abbrev pub slots_opens : List Slot → List Open
 slots_opens [] = []
 slots_opens (p ∷ ps) = opened (length (slots_cells ps)) (slot_last (length (slots_cells ps) + 1) p) (slot_wait p) ∷ slots_opens ps
@@ -232,7 +232,7 @@ cells (partial.due ps) = slots_cells ps
 cells (partial.between c ps) = slots_cells ps ++ (cell (compound_node c) 0 ∷ compound_cells c)
 cells (partial.done t) = flat t
 
--- its open heads, from the innermost to the outermost
+-- its openings, from the innermost to the outermost
 abbrev pub opens : Partial → List Open
 opens (partial.due ps) = slots_opens ps
 opens (partial.between c ps) = opened (length (slots_cells ps)) (compound_last (length (slots_cells ps) + 1) c) (compound_wait c) ∷ slots_opens ps
@@ -244,10 +244,10 @@ with_size [] i n = []
 with_size (cell node m ∷ cs) zero n = cell node n ∷ cs
 with_size (c ∷ cs) (suc i) n = c ∷ with_size cs i n
 
--- the tape and its open heads stand for slots that wait, with a finished tree behind them
+-- the tape and its openings stand for slots that wait, with a finished tree behind them
 abbrev pub Waiting : List Cell → List Open → List Slot → Tree → Type 0
 Waiting cs os ps t = (cs ≡ slots_cells ps ++ flat t) × (os ≡ slots_opens ps)
 
--- the tape and its open heads stand for the partial tree
+-- the tape and its openings stand for the partial tree
 abbrev pub Stood : List Cell → List Open → Partial → Type 0
 Stood cs os s = (cs ≡ cells s) × (os ≡ opens s)

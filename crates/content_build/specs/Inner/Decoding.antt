@@ -1,4 +1,4 @@
--- The partial tree of a tape and its open heads.
+-- The partial tree of a tape and its openings.
 use Rattle.std.specs.Prelude.{ℕ, ◌+◌, List, [], ◌∷◌, take, drop}
 use Rattle.std.proofs.Math.ListN.{get_or}
 use Rattle.content_tree.specs.Values.Tree as tree
@@ -7,12 +7,12 @@ use Rattle.content_tree.specs.Values.Tree.{pair_then, Fields, no_fields, field_t
 use Rattle.content_ser.specs.Calls.Head as calls
 use Rattle.content_ser.specs.Calls.Head.{Head}
 use Rattle.content_ser.specs.Grammar.Token as token
-use Rattle.content_ser.specs.Grammar.Token.{Wrap, Row}
+use Rattle.content_ser.specs.Grammar.Token.{Wrap, Series}
 use Rattle.content_build.specs.Partial as partial
 use Rattle.content_build.specs.Partial.{Partial, Slot}
 use Rattle.content_build.specs.Inner.Cells.{Names, of_struct, of_variant, Cell, cell, leaf}
 use Rattle.content_build.specs.Inner.Cells.{tuple, headed, key, unit, Wait, child, item}
-use Rattle.content_build.specs.Inner.Cells.{a_key, a_value, entry_key, entry_value, field, in_row}
+use Rattle.content_build.specs.Inner.Cells.{a_key, a_value, entry_key, entry_value, field, in_series}
 use Rattle.content_build.specs.Inner.Cells.{in_map, in_record, Open, opened}
 use Rattle.content_build.specs.Inner.Forest.{Grown, grown, read}
 
@@ -61,21 +61,21 @@ wrap_at (cell (headed sort names) n) = token.in_head (head_from names)
 wrap_at c = token.in_some
 
 -- what holds items by place
-abbrev pub row_at : Cell → Row
-row_at (cell (headed sort names) n) = token.row_head (head_from names)
-row_at (cell tuple n) = token.row_tuple
-row_at c = token.row_seq
+abbrev pub series_at : Cell → Series
+series_at (cell (headed sort names) n) = token.series_head (head_from names)
+series_at (cell tuple n) = token.series_tuple
+series_at c = token.series_seq
 
 -- the slot of an open head that waits for this, with what stands inside it
 abbrev pub slot_of : Wait → Cell → List Cell → Slot
 slot_of child c inside = partial.child (wrap_at c)
-slot_of (item m) c inside = partial.element (row_at c) (all_trees (read inside []))
+slot_of (item m) c inside = partial.element (series_at c) (all_trees (read inside []))
 slot_of a_key c inside = partial.key (all_pairs (read inside []))
 slot_of a_value c inside = partial.value (all_pairs (read inside []))
 slot_of entry_key c inside = partial.entry_key (all_pairs (read inside []))
 slot_of entry_value c inside = partial.entry_value (all_pairs (read inside [])) (odd_one (read inside []))
 slot_of field c inside = partial.field_value (head_at c) (all_fields (read inside [])) (last_key inside)
-slot_of (in_row m) c inside = partial.child token.in_some
+slot_of (in_series m) c inside = partial.child token.in_some
 slot_of in_map c inside = partial.child token.in_some
 slot_of in_record c inside = partial.child token.in_some
 
@@ -83,7 +83,7 @@ slot_of in_record c inside = partial.child token.in_some
 abbrev pub nowhere : Cell
 nowhere = cell (leaf unit) 0
 
--- the slots of open heads
+-- the slots of openings
 abbrev pub slots_of : List Cell → List Open → List Slot
 slots_of cs [] = []
 slots_of cs (opened at last w ∷ os) = slot_of w (get_or cs at nowhere) (drop (at + 1) cs) ∷ slots_of (take at cs) os
@@ -97,7 +97,7 @@ standing a_value c inside ps = partial.due (slot_of a_value c inside ∷ ps)
 standing entry_key c inside ps = partial.due (slot_of entry_key c inside ∷ ps)
 standing entry_value c inside ps = partial.due (slot_of entry_value c inside ∷ ps)
 standing field c inside ps = partial.due (slot_of field c inside ∷ ps)
-standing (in_row m) c inside ps = partial.between (partial.in_row (row_at c) (all_trees (read inside []))) ps
+standing (in_series m) c inside ps = partial.between (partial.in_series (series_at c) (all_trees (read inside []))) ps
 standing in_map c inside ps = partial.between (partial.in_map (all_pairs (read inside []))) ps
 standing in_record c inside ps = partial.between (partial.in_record (head_at c) (all_fields (read inside []))) ps
 
@@ -106,7 +106,7 @@ abbrev pub outermost : List Grown → Partial
 outermost [] = partial.due []
 outermost (grown k t n ∷ f) = partial.done t
 
--- the partial tree of a tape and its open heads
+-- the partial tree of a tape and its openings
 abbrev pub decode : List Cell → List Open → Partial
 decode cs [] = outermost (read cs [])
 decode cs (opened at last w ∷ os) = standing w (get_or cs at nowhere) (drop (at + 1) cs) (slots_of (take at cs) os)

@@ -13,33 +13,33 @@ use Rattle.content_build.specs.Partial.{Partial, Slot}
 use Rattle.content_build.specs.Inner.Cells as cells
 use Rattle.content_build.specs.Inner.Cells.{Cell, Open, Stood, Waiting}
 use Rattle.content_build.specs.Inner.Decoding.{decode}
-use Rattle.content_build.specs.Inner.Entries.{row, opens_view}
-use Rattle.content_build.specs.declared.node.Entry.{Entry}
-use Rattle.content_build.specs.declared.node.OpenHead.{OpenHead}
+use Rattle.content_build.specs.Inner.Frames.{cells_of, opens_view}
+use Rattle.content_build.specs.declared.node.Frame.{Frame}
+use Rattle.content_build.specs.declared.node.Opening.{Opening}
 
 -- the partial tree as which they are read
-abbrev pub meaning : List Entry → List OpenHead → Partial
-meaning es hs = decode (row es) (opens_view hs)
+abbrev pub meaning : List Frame → List Opening → Partial
+meaning es hs = decode (cells_of es) (opens_view hs)
 
 -- they stand for the partial tree
-abbrev pub Stands : List Entry → List OpenHead → Partial → Type 0
-Stands es hs s = Stood (row es) (opens_view hs) s
+abbrev pub Stands : List Frame → List Opening → Partial → Type 0
+Stands es hs s = Stood (cells_of es) (opens_view hs) s
 
 -- they stand for slots that wait, with a finished tree behind them
-abbrev pub IsWaiting : List Entry → List OpenHead → List Slot → Tree → Type 0
-IsWaiting es hs ps t = Waiting (row es) (opens_view hs) ps t
+abbrev pub IsWaiting : List Frame → List Opening → List Slot → Tree → Type 0
+IsWaiting es hs ps t = Waiting (cells_of es) (opens_view hs) ps t
 
 -- they stand for what they are read as
-abbrev pub IsSound : List Entry → List OpenHead → Type 0
+abbrev pub IsSound : List Frame → List Opening → Type 0
 IsSound es hs = Stands es hs (meaning es hs)
 
 -- a call was refused, or they stand for what they are read as
-abbrev pub IsKept : Bool → List Entry → List OpenHead → Type 0
+abbrev pub IsKept : Bool → List Frame → List Opening → Type 0
 IsKept true es hs = Unit {0}
 IsKept false es hs = IsSound es hs
 
 -- the partial tree, or nothing after a refusal
-abbrev pub viewed : Bool → List Entry → List OpenHead → Option Partial
+abbrev pub viewed : Bool → List Frame → List Opening → Option Partial
 viewed true es hs = None
 viewed false es hs = Some (meaning es hs)
 
@@ -73,6 +73,6 @@ pub opens_set : IsSet (List Open)
 opens_set = is_set (cells.Open-set ℕ_set (cells.Wait-set ItemCall-set))
 
 -- the fact has one proof at most
-pub IsKept-prop : (failed : Bool) (es : List Entry) (hs : List OpenHead) → IsProp (IsKept failed es hs)
+pub IsKept-prop : (failed : Bool) (es : List Frame) (hs : List Opening) → IsProp (IsKept failed es hs)
 IsKept-prop true es hs = Unit-prop
 IsKept-prop false es hs = ×_prop (cells_set _ _) (opens_set _ _)

@@ -3,7 +3,7 @@ use Rattle.std.specs.Prelude.{◌≡◌, ◌++◌, ◌∷◌, [], List, length, 
 use Rattle.content_ser.specs.Grammar.Token.{Token}
 use Rattle.content_build.specs.Partial.{Partial, Slot, due, between, done, begin}
 use Rattle.content_build.specs.Inner.Cells.{Node, cell, Wait, opened, Stood, slots_cells}
-use Rattle.content_build.specs.Inner.Cells.{slots_opens, in_row, in_map, in_record}
+use Rattle.content_build.specs.Inner.Cells.{slots_opens, in_series, in_map, in_record}
 
 -- a tree is due
 abbrev pub IsDue : Partial → Type 0
@@ -18,7 +18,7 @@ Opens call node w = (ps : List Slot) → (next : Partial) × (begin ps call ≡ 
 
 -- no slot of the head waits
 abbrev pub IsIdle : Wait → Type 0
-IsIdle (in_row m) = Unit {0}
+IsIdle (in_series m) = Unit {0}
 IsIdle in_map = Unit {0}
 IsIdle in_record = Unit {0}
 IsIdle _ = ⊥

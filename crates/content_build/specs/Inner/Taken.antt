@@ -8,8 +8,8 @@ use Rattle.content_ser.specs.Serializers.Step.{Answer}
 use Rattle.content_build.specs.Limit.{step_within}
 use Rattle.content_build.specs.Partial.{Partial}
 use Rattle.content_build.specs.Inner.Sound.{Stands}
-use Rattle.content_build.specs.declared.node.Entry.{Entry}
-use Rattle.content_build.specs.declared.node.OpenHead.{OpenHead}
+use Rattle.content_build.specs.declared.node.Frame.{Frame}
+use Rattle.content_build.specs.declared.node.Opening.{Opening}
 use Rattle.content_build.specs.declared.refusal.Refusal.{Refusal}
 use Rattle.content_build.specs.declared.refusal.Refusal.TheVariants as refusal
 
@@ -20,7 +20,7 @@ IsErrorOf refusal.Failed e = kind_of e ≡ Failed
 IsErrorOf refusal.NoMemory e = IsOutOfMemory e
 
 -- what a call answers that leads to this, and what the tape stands for then
-abbrev pub TakenTo : Option Partial → Result (Unit {0}) Refusal → List Entry → List OpenHead → Type 0
+abbrev pub TakenTo : Option Partial → Result (Unit {0}) Refusal → List Frame → List Opening → Type 0
 TakenTo None (Ok u) es hs = ⊥
 TakenTo None (Err e) es hs = e ≡ refusal.Misplaced
 TakenTo (Some next) (Ok u) es hs = Stands es hs next

@@ -6,4 +6,4 @@ use Rattle.content_build.specs.declared.tape.Tape.{Tape}
 
 -- the partial tree, or nothing after a refusal
 abbrev pub partial_tree : Tape → Option Partial
-partial_tree t = viewed t.failed t.entries.items t.heads.items
+partial_tree t = viewed t.failed t.frames.items t.openings.items

@@ -5,7 +5,7 @@ use Rattle.content_tree.specs.Values.Value.{tree_of}
 use Rattle.content_build.specs.Inner.Forest as forest
 use Rattle.content_build.specs.declared.grow.Grown.{Grown}
 
--- a value with its key and the number of its entries
+-- a value with its key and the number of its frames
 abbrev pub grown_view : Grown → forest.Grown
 grown_view g = forest.grown (static_name g.key.now) (tree_of g.value) g.size
 

@@ -25,8 +25,8 @@ use Rattle.content_de.specs.declared.enum_access.Requested.TheVariants as reques
 use Rattle.content_de.specs.declared.enum_access.Tagged.{Tagged}
 use Rattle.content_de.specs.declared.enum_access.Tagged.TheVariants as tagged
 use Rattle.content_de.specs.declared.enum_access.EnumAccess.{EnumAccess}
-use Rattle.content_de.specs.declared.variant_access.Payload.{Payload}
-use Rattle.content_de.specs.declared.variant_access.Payload.TheVariants as payload
+use Rattle.content_de.specs.declared.variant_access.Held as stood
+use Rattle.content_de.specs.declared.variant_access.Held.TheVariants as standing
 use Rattle.content_de.specs.declared.variant_access.VariantAccess.{VariantAccess}
 
 -- what stands behind a tag: the whole node of an enum, nothing, or the value of a map's one entry
@@ -62,10 +62,10 @@ node_tag (tree.enumeration n i v d) = of_identifier v i
 node_tag t = of_tree t
 
 -- what is held
-abbrev pub held_of : Payload → Held
-held_of (payload.Node b) = a_node (enum_tree b.value)
-held_of payload.Nothing = nothing
-held_of (payload.Value v) = a_value (tree_of v)
+abbrev pub held_of : stood.Held → Held
+held_of (standing.Node b) = a_node (enum_tree b.value)
+held_of standing.Nothing = nothing
+held_of (standing.Value v) = a_value (tree_of v)
 
 -- what is held behind the tag
 abbrev pub tagged_held : Tagged → Held
@@ -82,9 +82,9 @@ tagged_tag (tagged.Entry k v) = of_tree (tree_of k)
 -- what a `VariantAccess` stands for
 abbrev pub variant_view : VariantAccess → VariantLeft
 variant_view a = record {
-  requested = requested_name a.requested (held_of a.payload);
-  held = held_of a.payload;
-  flags = flags_of a.settings;
+  requested = requested_name a.requested (held_of a.held);
+  held = held_of a.held;
+  flags = flags_of a.flags;
 }
 
 -- what an `EnumAccess` stands for
@@ -94,7 +94,7 @@ enum_view a = record {
   variant = record {
     requested = requested_name a.requested (tagged_held a.tagged);
     held = tagged_held a.tagged;
-    flags = flags_of a.settings;
+    flags = flags_of a.flags;
   };
 }
 

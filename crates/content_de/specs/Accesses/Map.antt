@@ -41,7 +41,7 @@ entries_view (entries.Fields f) true =
 
 -- what a `Map` stands for
 abbrev pub map_view : Map → MapLeft
-map_view m = entries_under (flags_of m.settings) (entries_view m.entries m.key_taken)
+map_view m = entries_under (flags_of m.flags) (entries_view m.entries m.key_taken)
 
 -- the first key
 abbrev pub first_key : MapLeft → Option Subject

@@ -15,7 +15,7 @@ pub record SeqLeft : Type 0 where
 
 -- what a `Seq` stands for
 abbrev pub seq_view : Seq → SeqLeft
-seq_view s = record { items = trees_view s.items.items; flags = flags_of s.settings }
+seq_view s = record { items = trees_view s.items.items; flags = flags_of s.flags }
 
 -- items under these flags
 abbrev pub items_under : Flags → Trees → SeqLeft

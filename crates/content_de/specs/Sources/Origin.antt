@@ -25,8 +25,8 @@ pub record Flags : Type 0 where
   pub coerces : Bool
 
 -- both off
-abbrev pub plain_flags : Flags
-plain_flags = record { human_readable = false; coerces = false }
+abbrev pub no_flags : Flags
+no_flags = record { human_readable = false; coerces = false }
 
 -- an origin with its flags
 pub record Subject : Type 0 where

@@ -1,4 +1,5 @@
 //! Options, boxes and vectors.
+
 ghost use Rattle.content_de.specs.Outcomes.{refusal_then, IsTaken};
 ghost use Rattle.content_de.specs.Requests.Leaves.{held_by};
 ghost use Rattle.content_de.specs.Accesses.Seq.{seq_view, seq_at};

@@ -1,4 +1,5 @@
 //! Maps.
+
 ghost use Rattle.std.specs.Prelude.{[]};
 ghost use Rattle.content_de.specs.Outcomes.{refusal_then, IsTaken};
 ghost use Rattle.content_de.specs.Accesses.Map.{map_view, map_at};

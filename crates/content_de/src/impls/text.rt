@@ -1,4 +1,5 @@
 //! Texts and bytes.
+
 ghost use Rattle.std.specs.Prelude.{◌≡◌, string_bytes};
 ghost use Rattle.content_tree.specs.Values.Text.{text_of};
 ghost use Rattle.content_de.specs.Outcomes.{refusal_of, taken, IsTaken};

@@ -1,4 +1,5 @@
 //! Tuples of one to four.
+
 ghost use Rattle.content_de.specs.Outcomes.{refusal_then, IsTaken};
 ghost use Rattle.content_de.specs.Accesses.Seq.{tuple_at};
 ghost use Rattle.content_de.specs.Reads.Tuples.{part_then, no_part, PartThen, NoPart};

@@ -1,4 +1,5 @@
 //! The request for whatever is there.
+
 #![tactic(auto, using(crate::proofs::Values::values))]
 
 ghost use Rattle.std.specs.Prelude.{◌≡◌};
@@ -12,7 +13,7 @@ use crate::enum_access::{EnumAccess, Requested, Tagged};
 use crate::map::Map;
 use crate::node::Node;
 use crate::seq::Seq;
-use crate::source::{Settings, Source};
+use crate::source::{Flags, Source};
 use content_tree::{NamedData, NamedStruct, NamedValue, Result};
 use std::alloc::Global;
 
@@ -25,17 +26,17 @@ impl<'de, 'n> Deserializer<'de, 'n> {
         'n: 'de,
         ensures { Answers shape_of (taken (shape_at (subject self.entry))) result }
     {
-        let Deserializer { source, settings } = self;
+        let Deserializer { source, flags } = self;
         match source {
-            Source::Tree(value) => Ok(tree_node(value, settings)),
+            Source::Tree(value) => Ok(tree_node(value, flags)),
             Source::Identifier { name, index: _ } => Ok(Node::Str(name)),
         }
     }
 }
 
 /// A tree by its case.
-fn tree_node<'de, 'n>(value: NamedValue<'de, 'n>, settings: Settings) -> Node<'de, 'n>
-    ensures { shape_of result ≡ tree_shape (flags_of settings) (tree_of value.entry) }
+fn tree_node<'de, 'n>(value: NamedValue<'de, 'n>, flags: Flags) -> Node<'de, 'n>
+    ensures { shape_of result ≡ tree_shape (flags_of flags) (tree_of value.entry) }
 {
     match value {
         NamedValue::Unit => Node::Unit,
@@ -44,31 +45,31 @@ fn tree_node<'de, 'n>(value: NamedValue<'de, 'n>, settings: Settings) -> Node<'d
         NamedValue::Char(character) => Node::Char(character),
         NamedValue::String(text) => Node::Str(text),
         NamedValue::Bytes(bytes) => Node::Bytes(bytes),
-        NamedValue::Seq(items) => Node::Seq(Seq::new(items, settings)),
-        NamedValue::Map(pairs) => Node::Map(Map::pairs(pairs, settings)),
+        NamedValue::Seq(items) => Node::Seq(Seq::new(items, flags)),
+        NamedValue::Map(pairs) => Node::Map(Map::pairs(pairs, flags)),
         NamedValue::Option(None) => Node::NoneNode,
         NamedValue::Option(Some(held)) => {
-            Node::SomeNode(Deserializer::inside(Box::into_inner(held), settings))
+            Node::SomeNode(Deserializer::inside(Box::into_inner(held), flags))
         }
-        NamedValue::Struct(node) => struct_node(Box::into_inner(node), settings),
+        NamedValue::Struct(node) => struct_node(Box::into_inner(node), flags),
         NamedValue::Enum(node) => Node::Enum(EnumAccess {
             requested: Requested::Own,
             tagged: Tagged::Node(node),
-            settings,
+            flags,
         }),
-        NamedValue::Tuple(items) => Node::Seq(Seq::new(items, settings)),
+        NamedValue::Tuple(items) => Node::Seq(Seq::new(items, flags)),
     }
 }
 
 /// A struct by what it holds.
-fn struct_node<'de, 'n>(node: NamedStruct<'de, 'n>, settings: Settings) -> Node<'de, 'n>
-    ensures { shape_of result ≡ tree_shape (flags_of settings) (struct_tree node.entry) }
+fn struct_node<'de, 'n>(node: NamedStruct<'de, 'n>, flags: Flags) -> Node<'de, 'n>
+    ensures { shape_of result ≡ tree_shape (flags_of flags) (struct_tree node.entry) }
 {
     let NamedStruct { name: _, data } = node;
     match data {
         NamedData::Unit => Node::Unit,
-        NamedData::NewType { value } => Node::Newtype(Deserializer::inside(value, settings)),
-        NamedData::Tuple { values } => Node::Seq(Seq::new(values, settings)),
-        NamedData::Struct { fields } => Node::Map(Map::fields(fields, settings)),
+        NamedData::NewType { value } => Node::Newtype(Deserializer::inside(value, flags)),
+        NamedData::Tuple { values } => Node::Seq(Seq::new(values, flags)),
+        NamedData::Struct { fields } => Node::Map(Map::fields(fields, flags)),
     }
 }

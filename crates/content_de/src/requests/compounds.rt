@@ -1,4 +1,5 @@
 //! Requests for what has parts.
+
 #![tactic(auto, using(crate::proofs::Values::values))]
 
 ghost use Rattle.content_de.specs.Outcomes.{Answers};
@@ -49,13 +50,13 @@ impl<'de, 'n> Deserializer<'de, 'n> {
     ) -> Result<Deserializer<'de, 'n>>
         ensures { Answers subject (newtype_from name.entry.now (subject self.entry)) result }
     {
-        let Deserializer { source, settings } = self;
+        let Deserializer { source, flags } = self;
         match source {
             Source::Tree(NamedValue::Struct(mut node)) => match take_value(&mut node.data) {
-                Some(value) => Ok(Deserializer::inside(value, settings)),
-                None => Ok(Deserializer::inside(NamedValue::Struct(node), settings)),
+                Some(value) => Ok(Deserializer::inside(value, flags)),
+                None => Ok(Deserializer::inside(NamedValue::Struct(node), flags)),
             },
-            Source::Tree(value) => Ok(Deserializer::inside(value, settings)),
+            Source::Tree(value) => Ok(Deserializer::inside(value, flags)),
             other => Err(other.refuse_struct(alloc, name, DataType::NewType)),
         }
     }
@@ -64,9 +65,9 @@ impl<'de, 'n> Deserializer<'de, 'n> {
     pub fn deserialize_seq(self, alloc: Global) -> Result<Seq<'de, 'n>>
         ensures { Answers seq_view (seq_at (subject self.entry)) result }
     {
-        let Deserializer { source, settings } = self;
+        let Deserializer { source, flags } = self;
         match source {
-            Source::Tree(NamedValue::Seq(items)) => Ok(Seq::new(items, settings)),
+            Source::Tree(NamedValue::Seq(items)) => Ok(Seq::new(items, flags)),
             other => Err(other.refuse(alloc, Expected::Seq)),
         }
     }
@@ -75,10 +76,10 @@ impl<'de, 'n> Deserializer<'de, 'n> {
     pub fn deserialize_tuple(self, alloc: Global, len: usize) -> Result<Seq<'de, 'n>>
         ensures { Answers seq_view (tuple_at len (subject self.entry)) result }
     {
-        let Deserializer { source, settings } = self;
+        let Deserializer { source, flags } = self;
         match source {
-            Source::Tree(NamedValue::Seq(items)) => Ok(Seq::new(items, settings)),
-            Source::Tree(NamedValue::Tuple(items)) => Ok(Seq::new(items, settings)),
+            Source::Tree(NamedValue::Seq(items)) => Ok(Seq::new(items, flags)),
+            Source::Tree(NamedValue::Tuple(items)) => Ok(Seq::new(items, flags)),
             other => Err(other.refuse(alloc, Expected::Tuple(len))),
         }
     }
@@ -92,11 +93,11 @@ impl<'de, 'n> Deserializer<'de, 'n> {
     ) -> Result<Seq<'de, 'n>>
         ensures { Answers seq_view (tuple_struct_at name.entry.now (subject self.entry)) result }
     {
-        let Deserializer { source, settings } = self;
+        let Deserializer { source, flags } = self;
         match source {
-            Source::Tree(NamedValue::Seq(items)) => Ok(Seq::new(items, settings)),
+            Source::Tree(NamedValue::Seq(items)) => Ok(Seq::new(items, flags)),
             Source::Tree(NamedValue::Struct(mut node)) => match take_values(&mut node.data) {
-                Some(values) => Ok(Seq::new(values, settings)),
+                Some(values) => Ok(Seq::new(values, flags)),
                 None => {
                     let other: Source<'de, 'n> = Source::Tree(NamedValue::Struct(node));
                     Err(other.refuse_struct(alloc, name, DataType::Tuple))
@@ -110,9 +111,9 @@ impl<'de, 'n> Deserializer<'de, 'n> {
     pub fn deserialize_map(self, alloc: Global) -> Result<Map<'de, 'n>>
         ensures { Answers map_view (map_at (subject self.entry)) result }
     {
-        let Deserializer { source, settings } = self;
+        let Deserializer { source, flags } = self;
         match source {
-            Source::Tree(NamedValue::Map(pairs)) => Ok(Map::pairs(pairs, settings)),
+            Source::Tree(NamedValue::Map(pairs)) => Ok(Map::pairs(pairs, flags)),
             other => Err(other.refuse(alloc, Expected::Map)),
         }
     }
@@ -127,11 +128,11 @@ impl<'de, 'n> Deserializer<'de, 'n> {
     ) -> Result<Map<'de, 'n>>
         ensures { Answers map_view (struct_at name.entry.now (subject self.entry)) result }
     {
-        let Deserializer { source, settings } = self;
+        let Deserializer { source, flags } = self;
         match source {
-            Source::Tree(NamedValue::Map(pairs)) => Ok(Map::pairs(pairs, settings)),
+            Source::Tree(NamedValue::Map(pairs)) => Ok(Map::pairs(pairs, flags)),
             Source::Tree(NamedValue::Struct(mut node)) => match take_fields(&mut node.data) {
-                Some(fields) => Ok(Map::fields(fields, settings)),
+                Some(fields) => Ok(Map::fields(fields, flags)),
                 None => {
                     let other: Source<'de, 'n> = Source::Tree(NamedValue::Struct(node));
                     Err(other.refuse_struct(alloc, name, DataType::Struct))

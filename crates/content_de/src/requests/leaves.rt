@@ -1,4 +1,5 @@
 //! Requests for data without parts.
+
 #![tactic(auto, using(crate::proofs::Values::values))]
 
 ghost use Rattle.std.specs.Prelude.{◌≡◌, option_map};
@@ -121,13 +122,13 @@ impl<'de, 'n> Deserializer<'de, 'n> {
     pub fn deserialize_option(self, _alloc: Global) -> Result<Option<Deserializer<'de, 'n>>>
         ensures { Answers (option_map subject) (taken (held_by (subject self.entry))) result }
     {
-        let Deserializer { source, settings } = self;
+        let Deserializer { source, flags } = self;
         match source {
             Source::Tree(NamedValue::Option(None)) => Ok(None),
             Source::Tree(NamedValue::Option(Some(held))) => {
-                Ok(Some(Deserializer::inside(Box::into_inner(held), settings)))
+                Ok(Some(Deserializer::inside(Box::into_inner(held), flags)))
             }
-            source => Ok(Some(Deserializer { source, settings })),
+            source => Ok(Some(Deserializer { source, flags })),
         }
     }
 }

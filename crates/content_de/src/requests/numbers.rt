@@ -1,4 +1,5 @@
 //! Requests for numbers.
+
 #![tactic(auto, using(crate::proofs::Values::values))]
 
 ghost use Rattle.std.specs.Prelude.{pos};
@@ -32,7 +33,7 @@ impl<'de, 'n> Deserializer<'de, 'n> {
             Source::Tree(NamedValue::Number(Number::I8(value))) => Ok(value),
             source => Deserializer {
                 source,
-                settings: self.settings,
+                flags: self.flags,
             }
             .coerced_i8(alloc),
         }
@@ -45,7 +46,7 @@ impl<'de, 'n> Deserializer<'de, 'n> {
         ensures { Answers (λ z. z) (number_from i8 (subject self.entry)) result }
     {
         match self.source {
-            Source::Tree(NamedValue::Number(number)) => match as_i8(number, self.settings.coerces) {
+            Source::Tree(NamedValue::Number(number)) => match as_i8(number, self.flags.coerces) {
                 Some(value) => Ok(value),
                 None => Err(Error::unexpected(Found::Number(number), Expected::I8)),
             },
@@ -61,7 +62,7 @@ impl<'de, 'n> Deserializer<'de, 'n> {
             Source::Tree(NamedValue::Number(Number::U8(value))) => Ok(value),
             source => Deserializer {
                 source,
-                settings: self.settings,
+                flags: self.flags,
             }
             .coerced_u8(alloc),
         }
@@ -74,7 +75,7 @@ impl<'de, 'n> Deserializer<'de, 'n> {
         ensures { Answers pos (number_from u8 (subject self.entry)) result }
     {
         match self.source {
-            Source::Tree(NamedValue::Number(number)) => match as_u8(number, self.settings.coerces) {
+            Source::Tree(NamedValue::Number(number)) => match as_u8(number, self.flags.coerces) {
                 Some(value) => Ok(value),
                 None => Err(Error::unexpected(Found::Number(number), Expected::U8)),
             },
@@ -90,7 +91,7 @@ impl<'de, 'n> Deserializer<'de, 'n> {
             Source::Tree(NamedValue::Number(Number::I16(value))) => Ok(value),
             source => Deserializer {
                 source,
-                settings: self.settings,
+                flags: self.flags,
             }
             .coerced_i16(alloc),
         }
@@ -103,10 +104,7 @@ impl<'de, 'n> Deserializer<'de, 'n> {
         ensures { Answers (λ z. z) (number_from i16 (subject self.entry)) result }
     {
         match self.source {
-            Source::Tree(NamedValue::Number(number)) => match as_i16(
-                number,
-                self.settings.coerces,
-            ) {
+            Source::Tree(NamedValue::Number(number)) => match as_i16(number, self.flags.coerces) {
                 Some(value) => Ok(value),
                 None => Err(Error::unexpected(Found::Number(number), Expected::I16)),
             },
@@ -122,7 +120,7 @@ impl<'de, 'n> Deserializer<'de, 'n> {
             Source::Tree(NamedValue::Number(Number::U16(value))) => Ok(value),
             source => Deserializer {
                 source,
-                settings: self.settings,
+                flags: self.flags,
             }
             .coerced_u16(alloc),
         }
@@ -135,10 +133,7 @@ impl<'de, 'n> Deserializer<'de, 'n> {
         ensures { Answers pos (number_from u16 (subject self.entry)) result }
     {
         match self.source {
-            Source::Tree(NamedValue::Number(number)) => match as_u16(
-                number,
-                self.settings.coerces,
-            ) {
+            Source::Tree(NamedValue::Number(number)) => match as_u16(number, self.flags.coerces) {
                 Some(value) => Ok(value),
                 None => Err(Error::unexpected(Found::Number(number), Expected::U16)),
             },
@@ -154,7 +149,7 @@ impl<'de, 'n> Deserializer<'de, 'n> {
             Source::Tree(NamedValue::Number(Number::I32(value))) => Ok(value),
             source => Deserializer {
                 source,
-                settings: self.settings,
+                flags: self.flags,
             }
             .coerced_i32(alloc),
         }
@@ -167,10 +162,7 @@ impl<'de, 'n> Deserializer<'de, 'n> {
         ensures { Answers (λ z. z) (number_from i32 (subject self.entry)) result }
     {
         match self.source {
-            Source::Tree(NamedValue::Number(number)) => match as_i32(
-                number,
-                self.settings.coerces,
-            ) {
+            Source::Tree(NamedValue::Number(number)) => match as_i32(number, self.flags.coerces) {
                 Some(value) => Ok(value),
                 None => Err(Error::unexpected(Found::Number(number), Expected::I32)),
             },
@@ -186,7 +178,7 @@ impl<'de, 'n> Deserializer<'de, 'n> {
             Source::Tree(NamedValue::Number(Number::U32(value))) => Ok(value),
             source => Deserializer {
                 source,
-                settings: self.settings,
+                flags: self.flags,
             }
             .coerced_u32(alloc),
         }
@@ -199,10 +191,7 @@ impl<'de, 'n> Deserializer<'de, 'n> {
         ensures { Answers pos (number_from u32 (subject self.entry)) result }
     {
         match self.source {
-            Source::Tree(NamedValue::Number(number)) => match as_u32(
-                number,
-                self.settings.coerces,
-            ) {
+            Source::Tree(NamedValue::Number(number)) => match as_u32(number, self.flags.coerces) {
                 Some(value) => Ok(value),
                 None => Err(Error::unexpected(Found::Number(number), Expected::U32)),
             },
@@ -218,7 +207,7 @@ impl<'de, 'n> Deserializer<'de, 'n> {
             Source::Tree(NamedValue::Number(Number::I64(value))) => Ok(value),
             source => Deserializer {
                 source,
-                settings: self.settings,
+                flags: self.flags,
             }
             .coerced_i64(alloc),
         }
@@ -231,10 +220,7 @@ impl<'de, 'n> Deserializer<'de, 'n> {
         ensures { Answers (λ z. z) (number_from i64 (subject self.entry)) result }
     {
         match self.source {
-            Source::Tree(NamedValue::Number(number)) => match as_i64(
-                number,
-                self.settings.coerces,
-            ) {
+            Source::Tree(NamedValue::Number(number)) => match as_i64(number, self.flags.coerces) {
                 Some(value) => Ok(value),
                 None => Err(Error::unexpected(Found::Number(number), Expected::I64)),
             },
@@ -251,7 +237,7 @@ impl<'de, 'n> Deserializer<'de, 'n> {
             Source::Tree(NamedValue::Number(Number::U64(value))) => Ok(value),
             source => Deserializer {
                 source,
-                settings: self.settings,
+                flags: self.flags,
             }
             .coerced_u64(alloc),
         }
@@ -264,10 +250,7 @@ impl<'de, 'n> Deserializer<'de, 'n> {
         ensures { Answers pos (number_from u64 (subject self.entry)) result }
     {
         match self.source {
-            Source::Tree(NamedValue::Number(number)) => match as_u64(
-                number,
-                self.settings.coerces,
-            ) {
+            Source::Tree(NamedValue::Number(number)) => match as_u64(number, self.flags.coerces) {
                 Some(value) => Ok(value),
                 None => Err(Error::unexpected(Found::Number(number), Expected::U64)),
             },
@@ -285,7 +268,7 @@ impl<'de, 'n> Deserializer<'de, 'n> {
             Source::Tree(NamedValue::Number(Number::I128(value))) => Ok(value),
             source => Deserializer {
                 source,
-                settings: self.settings,
+                flags: self.flags,
             }
             .coerced_i128(alloc),
         }
@@ -298,10 +281,7 @@ impl<'de, 'n> Deserializer<'de, 'n> {
         ensures { Answers (λ z. z) (number_from i128 (subject self.entry)) result }
     {
         match self.source {
-            Source::Tree(NamedValue::Number(number)) => match as_i128(
-                number,
-                self.settings.coerces,
-            ) {
+            Source::Tree(NamedValue::Number(number)) => match as_i128(number, self.flags.coerces) {
                 Some(value) => Ok(value),
                 None => Err(Error::unexpected(Found::Number(number), Expected::I128)),
             },
@@ -319,7 +299,7 @@ impl<'de, 'n> Deserializer<'de, 'n> {
             Source::Tree(NamedValue::Number(Number::U128(value))) => Ok(value),
             source => Deserializer {
                 source,
-                settings: self.settings,
+                flags: self.flags,
             }
             .coerced_u128(alloc),
         }
@@ -332,10 +312,7 @@ impl<'de, 'n> Deserializer<'de, 'n> {
         ensures { Answers pos (number_from u128 (subject self.entry)) result }
     {
         match self.source {
-            Source::Tree(NamedValue::Number(number)) => match as_u128(
-                number,
-                self.settings.coerces,
-            ) {
+            Source::Tree(NamedValue::Number(number)) => match as_u128(number, self.flags.coerces) {
                 Some(value) => Ok(value),
                 None => Err(Error::unexpected(Found::Number(number), Expected::U128)),
             },

@@ -1,4 +1,5 @@
 //! The request for a variant of an enum.
+
 #![tactic(auto, using(crate::proofs::Values::values))]
 
 ghost use Rattle.std.specs.Prelude.{◌≡◌, ◌≢◌, ◌∷◌, [], length, MatchResult};
@@ -11,7 +12,7 @@ ghost use Rattle.content_de.specs.Accesses.Enum.{enum_view, enum_at, enum_from};
 
 use crate::deserializer::Deserializer;
 use crate::enum_access::{EnumAccess, Requested, Tagged};
-use crate::source::{Settings, Source};
+use crate::source::{Flags, Source};
 use content_tree::{NamedValue, Result};
 use std::alloc::Global;
 
@@ -34,19 +35,19 @@ impl<'de, 'n> Deserializer<'de, 'n> {
     ) -> Result<EnumAccess<'de, 'n>>
         ensures { Answers enum_view (enum_at name.entry.now (subject self.entry)) result }
     {
-        let Deserializer { source, settings } = self;
+        let Deserializer { source, flags } = self;
         match source {
             Source::Tree(NamedValue::Enum(node)) => Ok(EnumAccess {
                 requested: Requested::Named(name),
                 tagged: Tagged::Node(node),
-                settings,
+                flags,
             }),
             Source::Tree(NamedValue::String(text)) => Ok(EnumAccess {
                 requested: Requested::Named(name),
                 tagged: Tagged::Text(text),
-                settings,
+                flags,
             }),
-            Source::Tree(NamedValue::Map(pairs)) => enum_of_pairs(alloc, pairs, name, settings),
+            Source::Tree(NamedValue::Map(pairs)) => enum_of_pairs(alloc, pairs, name, flags),
             other => Err(other.refuse_enum(alloc, name)),
         }
     }
@@ -73,16 +74,16 @@ fn enum_of_pairs<'de, 'n>(
     alloc: Global,
     pairs: Vec<Pair<'de, 'n>>,
     name: &'static str,
-    settings: Settings,
+    flags: Flags,
 ) -> Result<EnumAccess<'de, 'n>>
-    ensures { Answers enum_view (enum_from name.entry.now (flags_of settings)
+    ensures { Answers enum_view (enum_from name.entry.now (flags_of flags)
         (of_tree (map (pairs_view pairs.entry.items)))) result }
 {
     match single(pairs) {
         Ok((key, value)) => Ok(EnumAccess {
             requested: Requested::Named(name),
             tagged: Tagged::Entry(key, value),
-            settings,
+            flags,
         }),
         Err(pairs) => {
             let other: Source<'de, 'n> = Source::Tree(NamedValue::Map(pairs));

@@ -5,7 +5,7 @@ use Rattle.content_ser.specs.Calls.Event.{Event}
 use Rattle.content_ser.specs.Grammar.Token.{Token, ItemCall}
 use Rattle.content_ser.specs.Grammar.Spells.{Spells, SpellsElements, SpellsMapItems, SpellsFields}
 use Rattle.content_ser.specs.Grammar.Spells.{MapItem, SpellsWhole, spells_leaf, spells_wrap}
-use Rattle.content_ser.specs.Grammar.Spells.{spells_row, spells_map, spells_record, elements_end}
+use Rattle.content_ser.specs.Grammar.Spells.{spells_series, spells_map, spells_record, elements_end}
 use Rattle.content_ser.specs.Grammar.Spells.{elements_more, items_end, items_key, items_value}
 use Rattle.content_ser.specs.Grammar.Spells.{items_entry, fields_end, fields_more}
 
@@ -14,7 +14,7 @@ abbrev mutual
   pub Keeps : {calls rest : List Token} {t : Tree} → Spells calls t rest → ℕ → ℕ → Type 0
   Keeps spells_leaf limit depth = depth ≤ limit
   Keeps (spells_wrap s) limit depth = (depth ≤ limit) × Keeps s limit (suc depth)
-  Keeps (spells_row es) limit depth = (depth ≤ limit) × ElementsKeep es limit (suc depth)
+  Keeps (spells_series es) limit depth = (depth ≤ limit) × ElementsKeep es limit (suc depth)
   Keeps (spells_map is) limit depth = (depth ≤ limit) × MapItemsKeep is limit (suc depth)
   Keeps (spells_record fs) limit depth = (depth ≤ limit) × FieldsKeep fs limit (suc depth)
 

@@ -7,9 +7,9 @@ use Rattle.content_tree.specs.Values.Tree.{pair_then, Fields, no_fields, field_t
 use Rattle.content_ser.specs.Calls.Event.{Event}
 use Rattle.content_ser.specs.Calls.Head.{Head}
 use Rattle.content_ser.specs.Grammar.Token as token
-use Rattle.content_ser.specs.Grammar.Token.{Token, tokens, leaf, wrap, open_row, open_map}
-use Rattle.content_ser.specs.Grammar.Token.{open_record, finish, Wrap, wrapped, Row, item_call}
-use Rattle.content_ser.specs.Grammar.Token.{row_tree, record_tree, ItemCall}
+use Rattle.content_ser.specs.Grammar.Token.{Token, tokens, leaf, wrap, open_series, open_map}
+use Rattle.content_ser.specs.Grammar.Token.{open_record, finish, Wrap, wrapped, Series, item_call}
+use Rattle.content_ser.specs.Grammar.Token.{series_tree, record_tree, ItemCall}
 
 -- an item of an opened map
 pub data MapItem : Type 0 where
@@ -38,9 +38,9 @@ mutual
     spells_wrap : {w : Wrap} {calls rest : List Token} {t : Tree}
         → Spells calls t rest
         → Spells (wrap w ∷ calls) (wrapped w t) rest
-    spells_row : {r : Row} {calls rest : List Token} {ts : Trees}
+    spells_series : {r : Series} {calls rest : List Token} {ts : Trees}
         → SpellsElements (item_call r) calls ts rest
-        → Spells (open_row r ∷ calls) (row_tree r ts) rest
+        → Spells (open_series r ∷ calls) (series_tree r ts) rest
     spells_map : {calls rest : List Token} {items : List MapItem}
         → SpellsMapItems calls items rest
         → Spells (open_map ∷ calls) (tree.map (pairs items)) rest

@@ -18,27 +18,27 @@ wrapped in_some t = tree.present t
 wrapped (in_head h) t = headed h (tree.one t)
 
 -- what holds items by place
-pub data Row : Type 0 where
-  row_seq : Row
-  row_tuple : Row
-  row_head : Head → Row
+pub data Series : Type 0 where
+  series_seq : Series
+  series_tuple : Series
+  series_head : Head → Series
 
 -- by which call an item is announced
 pub data ItemCall : Type 0 where
   element : ItemCall
   tuple_field : ItemCall
 
--- by which call the items of a row are announced
-abbrev pub item_call : Row → ItemCall
-item_call row_seq = element
-item_call row_tuple = element
-item_call (row_head h) = tuple_field
+-- by which call the items of a series are announced
+abbrev pub item_call : Series → ItemCall
+item_call series_seq = element
+item_call series_tuple = element
+item_call (series_head h) = tuple_field
 
--- the tree of a row with these items
-abbrev pub row_tree : Row → Trees → Tree
-row_tree row_seq ts = tree.seq ts
-row_tree row_tuple ts = tree.tuple ts
-row_tree (row_head h) ts = headed h (tree.many ts)
+-- the tree of a series with these items
+abbrev pub series_tree : Series → Trees → Tree
+series_tree series_seq ts = tree.seq ts
+series_tree series_tuple ts = tree.tuple ts
+series_tree (series_head h) ts = headed h (tree.many ts)
 
 -- the tree of a head that holds these fields
 abbrev pub record_tree : Head → Fields → Tree
@@ -48,7 +48,7 @@ record_tree h fs = headed h (tree.named fs)
 pub data Token : Type 0 where
   leaf : Tree → Token
   wrap : Wrap → Token
-  open_row : Row → Token
+  open_series : Series → Token
   open_map : Token
   open_record : Head → Token
   item : ItemCall → Token
@@ -72,10 +72,10 @@ token_of (event.unit_struct n) = leaf (headed (of_struct n) tree.no_data)
 token_of (event.unit_variant n i v) = leaf (headed (of_variant n i v) tree.no_data)
 token_of (event.newtype_struct n) = wrap (in_head (of_struct n))
 token_of (event.newtype_variant n i v) = wrap (in_head (of_variant n i v))
-token_of (event.seq hint) = open_row row_seq
-token_of (event.tuple len) = open_row row_tuple
-token_of (event.tuple_struct n len) = open_row (row_head (of_struct n))
-token_of (event.tuple_variant n i v len) = open_row (row_head (of_variant n i v))
+token_of (event.seq hint) = open_series series_seq
+token_of (event.tuple len) = open_series series_tuple
+token_of (event.tuple_struct n len) = open_series (series_head (of_struct n))
+token_of (event.tuple_variant n i v len) = open_series (series_head (of_variant n i v))
 token_of (event.map hint) = open_map
 token_of (event.structure n len) = open_record (of_struct n)
 token_of (event.struct_variant n i v len) = open_record (of_variant n i v)

@@ -6,22 +6,22 @@ use Rattle.content_tree.specs.Values.Tree.{Tree, Trees, Fields}
 use Rattle.content_ser.specs.Calls.Event.{Event}
 use Rattle.content_ser.specs.Grammar.Token as token
 use Rattle.content_ser.specs.Grammar.Token.{Token, tokens, ItemCall}
-use Rattle.content_ser.specs.Grammar.Spells.{Spells, spells_leaf, spells_wrap, spells_row}
+use Rattle.content_ser.specs.Grammar.Spells.{Spells, spells_leaf, spells_wrap, spells_series}
 use Rattle.content_ser.specs.Grammar.Spells.{spells_map, spells_record, SpellsElements}
 use Rattle.content_ser.specs.Grammar.Spells.{elements_end, elements_more, MapItem, SpellsMapItems}
 use Rattle.content_ser.specs.Grammar.Spells.{items_end, items_key, items_value, items_entry}
 use Rattle.content_ser.specs.Grammar.Spells.{SpellsFields, fields_end, fields_more}
 use Rattle.content_ser.specs.Scripts.Script.{Script, done, call_then, calls_of, stop_of, and_then}
 use Rattle.content_ser.specs.Scripts.Script.{IsLawful}
-use Rattle.content_ser.specs.Laws.ScriptsInARow.{calls_of_both, stopped_both, no_stop_first}
-use Rattle.content_ser.specs.Laws.ScriptsInARow.{no_stop_second}
+use Rattle.content_ser.specs.Laws.ScriptsInTurn.{calls_of_both, stopped_both, no_stop_first}
+use Rattle.content_ser.specs.Laws.ScriptsInTurn.{no_stop_second}
 
 mutual
   -- what follows a spelling doesn't change it
   pub spells_before : (more : List Token) {calls rest : List Token} {t : Tree} → Spells calls t rest → Spells (calls ++ more) t (rest ++ more)
   spells_before more spells_leaf = spells_leaf
   spells_before more (spells_wrap s) = spells_wrap (spells_before more s)
-  spells_before more (spells_row s) = spells_row (elements_before more s)
+  spells_before more (spells_series s) = spells_series (elements_before more s)
   spells_before more (spells_map s) = spells_map (items_before more s)
   spells_before more (spells_record s) = spells_record (fields_before more s)
 
@@ -47,8 +47,8 @@ abbrev pub ATree : List Token → List Token → Type 0
 ATree calls rest = (t : Tree) × Spells calls t rest
 
 -- items after this item call, and the end, before the rest
-abbrev pub ARow : ItemCall → List Token → List Token → Type 0
-ARow m calls rest = (ts : Trees) × SpellsElements m calls ts rest
+abbrev pub ASeries : ItemCall → List Token → List Token → Type 0
+ASeries m calls rest = (ts : Trees) × SpellsElements m calls ts rest
 
 -- the items of a map, and the end, before the rest
 abbrev pub AMap : List Token → List Token → Type 0

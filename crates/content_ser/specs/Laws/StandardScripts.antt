@@ -7,13 +7,13 @@ use Rattle.content_ser.specs.Calls.Event as event
 use Rattle.content_ser.specs.Calls.Event.{Event}
 use Rattle.content_ser.specs.Grammar.Token as token
 use Rattle.content_ser.specs.Grammar.Token.{Token, leaf}
-use Rattle.content_ser.specs.Grammar.Spells.{Spells, spells_leaf, spells_wrap, spells_row}
+use Rattle.content_ser.specs.Grammar.Spells.{Spells, spells_leaf, spells_wrap, spells_series}
 use Rattle.content_ser.specs.Grammar.Spells.{spells_map, elements_end, elements_more, items_end}
 use Rattle.content_ser.specs.Grammar.Spells.{items_entry}
 use Rattle.content_ser.specs.Scripts.Script.{Script, done, call_then, and_then, IsLawful}
 use Rattle.content_ser.specs.Scripts.Standard.{ScriptOf, option_script, items_script, seq_script}
 use Rattle.content_ser.specs.Scripts.Standard.{entries_script, map_script}
-use Rattle.content_ser.specs.Laws.Fits.{ATree, ARow, AMap, ATreeAndMap, Fits, fits_only, fits_call}
+use Rattle.content_ser.specs.Laws.Fits.{ATree, ASeries, AMap, ATreeAndMap, Fits, fits_only, fits_call}
 use Rattle.content_ser.specs.Laws.Fits.{fits_then, lawful_from_fits, fits_from_lawful}
 
 -- each value's script is lawful
@@ -30,26 +30,26 @@ option_lawful law None h = leaf_lawful refl
 option_lawful law (Some x) h = lawful_from_fits (fits_call {Q = ATree} (λ calls rest s. (tree.present s.0, spells_wrap s.1)) (fits_from_lawful (law x h)))
 
 -- the end of a sequence or a tuple
-pub end_fits : Fits (ARow token.element) (call_then event.end done)
+pub end_fits : Fits (ASeries token.element) (call_then event.end done)
 end_fits = fits_only (λ rest. (tree.no_trees, elements_end))
 
 -- an element, and then the others
-pub element_fits : {a b : Script} → IsLawful a → Fits (ARow token.element) b → Fits (ARow token.element) (call_then event.element (and_then a b))
-element_fits p q = fits_call {Q = λ calls rest. ARow token.element (token.item token.element ∷ calls) rest} (λ calls rest s. s)
+pub element_fits : {a b : Script} → IsLawful a → Fits (ASeries token.element) b → Fits (ASeries token.element) (call_then event.element (and_then a b))
+element_fits p q = fits_call {Q = λ calls rest. ASeries token.element (token.item token.element ∷ calls) rest} (λ calls rest s. s)
     (fits_then (λ calls mid rest s e. (tree.tree_then s.0 e.0, elements_more s.1 e.1)) (fits_from_lawful p) q)
 
 -- the items of a sequence, and the end
-pub items_fit : {A : Type 0} {f : ScriptOf A} → AllLawful f → (xs : List A) (h : Bool) → Fits (ARow token.element) (items_script f xs h)
+pub items_fit : {A : Type 0} {f : ScriptOf A} → AllLawful f → (xs : List A) (h : Bool) → Fits (ASeries token.element) (items_script f xs h)
 items_fit law [] h = end_fits
 items_fit law (x ∷ xs) h = element_fits (law x h) (items_fit law xs h)
 
 -- a sequence
 pub seq_lawful : {A : Type 0} {f : ScriptOf A} → AllLawful f → AllLawful (seq_script f)
-seq_lawful law xs h = lawful_from_fits (fits_call {Q = ARow token.element} (λ calls rest e. (tree.seq e.0, spells_row e.1)) (items_fit law xs h))
+seq_lawful law xs h = lawful_from_fits (fits_call {Q = ASeries token.element} (λ calls rest e. (tree.seq e.0, spells_series e.1)) (items_fit law xs h))
 
 -- a tuple of these elements, whatever length it tells
-pub tuple_lawful : {n : ℕ} {b : Script} → Fits (ARow token.element) b → IsLawful (call_then (event.tuple n) b)
-tuple_lawful p = lawful_from_fits (fits_call {Q = ARow token.element} (λ calls rest e. (tree.tuple e.0, spells_row e.1)) p)
+pub tuple_lawful : {n : ℕ} {b : Script} → Fits (ASeries token.element) b → IsLawful (call_then (event.tuple n) b)
+tuple_lawful p = lawful_from_fits (fits_call {Q = ASeries token.element} (λ calls rest e. (tree.tuple e.0, spells_series e.1)) p)
 
 -- an entry, and then the others
 pub entry_fits : {a b c : Script} → IsLawful a → IsLawful b → Fits AMap c → Fits AMap (call_then event.entry (and_then a (and_then b c)))

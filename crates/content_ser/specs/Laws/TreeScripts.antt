@@ -7,11 +7,11 @@ use Rattle.content_ser.specs.Calls.Event as event
 use Rattle.content_ser.specs.Calls.Event.{Event}
 use Rattle.content_ser.specs.Grammar.Token as token
 use Rattle.content_ser.specs.Grammar.Token.{ItemCall, leaf}
-use Rattle.content_ser.specs.Grammar.Spells.{spells_wrap, spells_row, spells_map, spells_record}
+use Rattle.content_ser.specs.Grammar.Spells.{spells_wrap, spells_series, spells_map, spells_record}
 use Rattle.content_ser.specs.Grammar.Spells.{elements_end, elements_more, items_end, fields_end}
 use Rattle.content_ser.specs.Grammar.Spells.{fields_more}
 use Rattle.content_ser.specs.Scripts.Script.{Script, done, stop_with, call_then, and_then, IsLawful}
-use Rattle.content_ser.specs.Laws.Fits.{ATree, ARow, AMap, AFields, Fits, fits_only, fits_call}
+use Rattle.content_ser.specs.Laws.Fits.{ATree, ASeries, AMap, AFields, Fits, fits_only, fits_call}
 use Rattle.content_ser.specs.Laws.Fits.{fits_then, lawful_from_fits, fits_from_lawful}
 use Rattle.content_ser.specs.Laws.StandardScripts.{leaf_lawful, entry_fits}
 use Rattle.content_ser.specs.Calls.Head.{Head, of_struct, of_variant}
@@ -23,8 +23,8 @@ leaf_fits : {c : Event} {t : Tree} → token.token_of c ≡ leaf t → Fits ATre
 leaf_fits is = fits_from_lawful (leaf_lawful is)
 
 -- an item after its call, and then the others
-item_fits : {m : ItemCall} {c : Event} {a b : Script} → token.token_of c ≡ token.item m → Fits ATree a → Fits (ARow m) b → Fits (ARow m) (call_then c (and_then a b))
-item_fits {m} is p q = fits_call {Q = λ calls rest. ARow m (token.item m ∷ calls) rest} (λ calls rest s. subst (λ k. ARow m (k ∷ calls) rest) (sym is) s)
+item_fits : {m : ItemCall} {c : Event} {a b : Script} → token.token_of c ≡ token.item m → Fits ATree a → Fits (ASeries m) b → Fits (ASeries m) (call_then c (and_then a b))
+item_fits {m} is p q = fits_call {Q = λ calls rest. ASeries m (token.item m ∷ calls) rest} (λ calls rest s. subst (λ k. ASeries m (k ∷ calls) rest) (sym is) s)
     (fits_then (λ calls mid rest s e. (tree.tree_then s.0 e.0, elements_more s.1 e.1)) p q)
 
 -- a field, and then the others; or a stop before it
@@ -43,13 +43,13 @@ mutual
   tree_fits (tree.character c) = leaf_fits refl
   tree_fits (tree.text t) = leaf_fits refl
   tree_fits (tree.octets t) = leaf_fits refl
-  tree_fits (tree.seq ts) = fits_call {Q = ARow token.element} (λ calls rest e. (_, spells_row e.1)) (each_fits event.element refl ts)
+  tree_fits (tree.seq ts) = fits_call {Q = ASeries token.element} (λ calls rest e. (_, spells_series e.1)) (each_fits event.element refl ts)
   tree_fits (tree.map ps) = fits_call {Q = AMap} (λ calls rest e. (_, spells_map e.1)) (pairs_fit ps)
   tree_fits tree.absent = leaf_fits refl
   tree_fits (tree.present t) = fits_call {Q = ATree} (λ calls rest s. (_, spells_wrap s.1)) (tree_fits t)
   tree_fits (tree.structure n p) = data_fits (of_struct n.content) p
   tree_fits (tree.enumeration n i v p) = data_fits (of_variant n.content i v.content) p
-  tree_fits (tree.tuple ts) = fits_call {Q = ARow token.element} (λ calls rest e. (_, spells_row e.1)) (each_fits event.element refl ts)
+  tree_fits (tree.tuple ts) = fits_call {Q = ASeries token.element} (λ calls rest e. (_, spells_series e.1)) (each_fits event.element refl ts)
 
   -- what a struct or a variant holds, under its names
   data_fits : (head : Head) (p : TreeData) → Fits ATree (script_of_data head p)
@@ -57,13 +57,13 @@ mutual
   data_fits (of_variant n i v) tree.no_data = leaf_fits refl
   data_fits (of_struct n) (tree.one t) = fits_call {Q = ATree} (λ calls rest s. (_, spells_wrap s.1)) (tree_fits t)
   data_fits (of_variant n i v) (tree.one t) = fits_call {Q = ATree} (λ calls rest s. (_, spells_wrap s.1)) (tree_fits t)
-  data_fits (of_struct n) (tree.many ts) = fits_call {Q = ARow token.tuple_field} (λ calls rest e. (_, spells_row e.1)) (each_fits event.tuple_field refl ts)
-  data_fits (of_variant n i v) (tree.many ts) = fits_call {Q = ARow token.tuple_field} (λ calls rest e. (_, spells_row e.1)) (each_fits event.tuple_field refl ts)
+  data_fits (of_struct n) (tree.many ts) = fits_call {Q = ASeries token.tuple_field} (λ calls rest e. (_, spells_series e.1)) (each_fits event.tuple_field refl ts)
+  data_fits (of_variant n i v) (tree.many ts) = fits_call {Q = ASeries token.tuple_field} (λ calls rest e. (_, spells_series e.1)) (each_fits event.tuple_field refl ts)
   data_fits (of_struct n) (tree.named fs) = fits_call {Q = AFields} (λ calls rest e. (_, spells_record e.1)) (fields_fit fs)
   data_fits (of_variant n i v) (tree.named fs) = fits_call {Q = AFields} (λ calls rest e. (_, spells_record e.1)) (fields_fit fs)
 
-  -- the items of a row, and the end
-  each_fits : {m : ItemCall} (c : Event) → token.token_of c ≡ token.item m → (ts : Trees) → Fits (ARow m) (script_of_each c ts)
+  -- the items of a series, and the end
+  each_fits : {m : ItemCall} (c : Event) → token.token_of c ≡ token.item m → (ts : Trees) → Fits (ASeries m) (script_of_each c ts)
   each_fits c is tree.no_trees = fits_only (λ rest. (tree.no_trees, elements_end))
   each_fits c is (tree.tree_then t ts) = item_fits is (tree_fits t) (each_fits c is ts)
 

@@ -1,4 +1,5 @@
 //! Optional values and boxes.
+
 #![tactic(auto, using(crate::proofs::Sending::sending))]
 
 ghost use Rattle.content_ser.specs.Scripts.Standard.{option_script};

@@ -1,4 +1,5 @@
 //! Maps, their pairs in the order of the keys.
+
 #![tactic(auto, using(crate::proofs::Sending::sending))]
 
 ghost use Rattle.content_ser.specs.Scripts.Standard.{map_script};

@@ -1,4 +1,5 @@
 //! Booleans, characters, texts and the unit, each by its call.
+
 #![tactic(auto, using(crate::proofs::Sending::sending))]
 
 ghost use Rattle.std.specs.Prelude.{refl, string_bytes};

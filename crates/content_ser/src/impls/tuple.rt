@@ -1,4 +1,5 @@
 //! Tuples of one to four values.
+
 #![tactic(auto, using(crate::proofs::Sending::sending))]
 
 ghost use Rattle.content_ser.specs.Calls.Event.{end};

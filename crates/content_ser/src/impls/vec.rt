@@ -1,4 +1,5 @@
 //! Vectors, as sequences.
+
 #![tactic(auto, using(crate::proofs::Sending::sending))]
 
 ghost use Rattle.content_ser.specs.Scripts.Standard.{seq_script};

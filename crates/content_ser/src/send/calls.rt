@@ -3,6 +3,7 @@
 //! Those that open or close something, and the leaves, are functions of their own that aren't
 //! inlined: what they need takes stack while the call runs, and none at the levels of the walk
 //! above it. Those that announce an item are inlined, since they need little.
+
 #![tactic(auto, using(crate::proofs::Sending::sending))]
 
 ghost use Rattle.std.specs.Prelude.{map as each, IfErr, IfOk, Some};

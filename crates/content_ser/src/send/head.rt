@@ -1,4 +1,5 @@
 //! The calls of a head, with their errors put aside.
+
 #![tactic(auto)]
 
 ghost use Rattle.content_ser.specs.Calls.Head.{head_of};

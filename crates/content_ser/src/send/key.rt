@@ -1,4 +1,5 @@
 //! The keys of fields.
+
 #![tactic(auto, using(crate::proofs::Sending::sending))]
 
 ghost use Rattle.std.specs.Prelude.{◌≡◌, IfOk, string_bytes};

@@ -1,4 +1,5 @@
 //! The places of fields in the order of their keys.
+
 #![tactic(auto)]
 
 ghost use Rattle.std.specs.Prelude.{map, IfOk};

@@ -1,4 +1,5 @@
 //! How a value is sent, level by level.
+
 #![tactic(auto, using(crate::proofs::Sending::sending))]
 
 ghost use Rattle.content_tree.specs.Values.Text.{text_of};
@@ -53,8 +54,8 @@ pub fn send<S: Serializer>(
             send_pairs(pairs, alloc, serializer, error)
         }
         Value::Option(held) => send_held(held, alloc, serializer, error),
-        Value::Struct(inner) => send_struct(inner, alloc, serializer, error),
-        Value::Enum(inner) => send_enum(inner, alloc, serializer, error),
+        Value::Struct(node) => send_struct(node, alloc, serializer, error),
+        Value::Enum(node) => send_enum(node, alloc, serializer, error),
         Value::Tuple(items) => {
             serialize_tuple(items.len(), serializer, error)?;
             send_items(items, alloc, serializer, error)
@@ -62,7 +63,7 @@ pub fn send<S: Serializer>(
     }
 }
 
-// An optional value.
+/// An optional value.
 #[cycle(send)]
 fn send_held<S: Serializer>(
     held: &Option<Box<Value<'_>>>,
@@ -75,14 +76,14 @@ fn send_held<S: Serializer>(
 {
     match held {
         None => serialize_none(serializer, error),
-        Some(inner) => {
+        Some(value) => {
             serialize_some(serializer, error)?;
-            send(inner, alloc, serializer, error)
+            send(value, alloc, serializer, error)
         }
     }
 }
 
-// A sequence.
+/// A sequence.
 #[cycle(send)]
 fn send_seq<S: Serializer>(
     items: &Vec<Value<'_>>,
@@ -98,7 +99,7 @@ fn send_seq<S: Serializer>(
     send_items(items, alloc, serializer, error)
 }
 
-// A value of a sequence. A number, the commonest leaf, takes one call less.
+/// A value of a sequence. A number, the commonest leaf, takes one call less.
 #[cycle(send)]
 #[inline(always)]
 fn send_item<S: Serializer>(
@@ -116,7 +117,7 @@ fn send_item<S: Serializer>(
     }
 }
 
-// The items of a sequence or a tuple, and its end.
+/// The items of a sequence or a tuple, and its end.
 #[cycle(send)]
 fn send_items<S: Serializer>(
     items: &Vec<Value<'_>>,
@@ -135,7 +136,7 @@ fn send_items<S: Serializer>(
     end(serializer, error)
 }
 
-// The pairs of a map, and its end.
+/// The pairs of a map, and its end.
 #[cycle(send)]
 fn send_pairs<S: Serializer>(
     pairs: &Vec<(Value<'_>, Value<'_>)>,
@@ -158,51 +159,51 @@ fn send_pairs<S: Serializer>(
 /// Sends a struct: under its name where that is static, else what it holds alone.
 #[cycle(send)]
 pub fn send_struct<S: Serializer>(
-    inner: &Struct<'_>,
+    node: &Struct<'_>,
     alloc: Global,
     serializer: &mut S,
     error: &mut Error,
 ) -> Sent
     ensures { Sends S.step S.refuses (S.seen serializer.old)
-        (loose_script (struct_tree inner.now))
+        (loose_script (struct_tree node.now))
         (answer_of result error.new) (S.seen serializer.new) }
 {
-    match &inner.name {
+    match &node.name {
         CowStr::Borrowed(name) => send_named(
-            &inner.data,
+            &node.data,
             &Head::Struct(name),
             alloc,
             serializer,
             error,
         ),
-        CowStr::Owned(_) => send_unnamed(&inner.data, alloc, serializer, error),
+        CowStr::Owned(_) => send_unnamed(&node.data, alloc, serializer, error),
     }
 }
 
 /// Sends a variant: under its names where both are static, else as a text or a map of one entry.
 #[cycle(send)]
 pub fn send_enum<S: Serializer>(
-    inner: &Enum<'_>,
+    node: &Enum<'_>,
     alloc: Global,
     serializer: &mut S,
     error: &mut Error,
 ) -> Sent
     ensures { Sends S.step S.refuses (S.seen serializer.old)
-        (loose_script (enum_tree inner.now)) (answer_of result error.new) (S.seen serializer.new) }
+        (loose_script (enum_tree node.now)) (answer_of result error.new) (S.seen serializer.new) }
 {
-    match &inner.name {
-        CowStr::Borrowed(name) => match &inner.variant {
+    match &node.name {
+        CowStr::Borrowed(name) => match &node.variant {
             CowStr::Borrowed(variant) => {
-                let head = Head::Variant(name, inner.variant_index, variant);
-                send_named(&inner.data, &head, alloc, serializer, error)
+                let head = Head::Variant(name, node.variant_index, variant);
+                send_named(&node.data, &head, alloc, serializer, error)
             }
-            CowStr::Owned(_) => send_variant(&inner.data, &inner.variant, alloc, serializer, error),
+            CowStr::Owned(_) => send_variant(&node.data, &node.variant, alloc, serializer, error),
         },
-        CowStr::Owned(_) => send_variant(&inner.data, &inner.variant, alloc, serializer, error),
+        CowStr::Owned(_) => send_variant(&node.data, &node.variant, alloc, serializer, error),
     }
 }
 
-// What a struct or a variant with static names holds, with its head.
+/// What a struct or a variant with static names holds, with its head.
 #[cycle(send)]
 fn send_named<S: Serializer>(
     held: &Data<'_>,
@@ -232,7 +233,7 @@ fn send_named<S: Serializer>(
     }
 }
 
-// What a struct with an owned name holds.
+/// What a struct with an owned name holds.
 #[cycle(send)]
 fn send_unnamed<S: Serializer>(
     held: &Data<'_>,
@@ -255,7 +256,7 @@ fn send_unnamed<S: Serializer>(
     }
 }
 
-// A variant that isn't sent under static names.
+/// A variant that isn't sent under static names.
 #[cycle(send)]
 fn send_variant<S: Serializer>(
     held: &Data<'_>,
@@ -288,7 +289,7 @@ fn send_variant<S: Serializer>(
     }
 }
 
-// A map of one entry, up to its key.
+/// A map of one entry, up to its key.
 fn open_single<S: Serializer>(
     variant: &CowStr<'static>,
     serializer: &mut S,
@@ -303,7 +304,7 @@ fn open_single<S: Serializer>(
     serialize_str(variant.as_str(), serializer, error)
 }
 
-// The items of a tuple struct or a tuple variant, and its end.
+/// The items of a tuple struct or a tuple variant, and its end.
 #[cycle(send)]
 fn send_tuple_fields<S: Serializer>(
     items: &Vec<Value<'_>>,
@@ -322,7 +323,7 @@ fn send_tuple_fields<S: Serializer>(
     end(serializer, error)
 }
 
-// The fields of a struct or a struct variant, and its end.
+/// The fields of a struct or a struct variant, and its end.
 #[cycle(send)]
 fn send_fields<S: Serializer>(
     fields: &Vec<(CowStr<'static>, Value<'_>)>,
@@ -341,7 +342,7 @@ fn send_fields<S: Serializer>(
     end(serializer, error)
 }
 
-// Fields as the pairs of a map, in their order, and its end.
+/// Fields as the pairs of a map, in their order, and its end.
 #[cycle(send)]
 fn send_entries<S: Serializer>(
     fields: &Vec<(CowStr<'static>, Value<'_>)>,
@@ -361,7 +362,7 @@ fn send_entries<S: Serializer>(
     end(serializer, error)
 }
 
-// Fields as a map, in the order of their keys, of equal keys the last alone.
+/// Fields as a map, in the order of their keys, of equal keys the last alone.
 #[cycle(send)]
 fn send_sorted<S: Serializer>(
     fields: &Vec<(CowStr<'static>, Value<'_>)>,

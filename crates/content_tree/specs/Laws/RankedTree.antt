@@ -70,16 +70,16 @@ abbrev mutual
   rank (map ps) = ranked (7, 0, pos 0, []) (rank_pairs ps)
   rank absent = leaf 8 0 (pos 0) []
   rank (present t) = ranked (8, 1, pos 0, []) (child_then (rank t) no_children)
-  rank (structure n p) = ranked (9, 0, pos 0, n.content) (child_then (rank_payload p) no_children)
+  rank (structure n p) = ranked (9, 0, pos 0, n.content) (child_then (rank_data p) no_children)
   rank (enumeration n i v p) =
-      ranked (10, 0, pos 0, n.content) (child_then (leaf 0 i (pos 0) v.content) (child_then (rank_payload p) no_children))
+      ranked (10, 0, pos 0, n.content) (child_then (leaf 0 i (pos 0) v.content) (child_then (rank_data p) no_children))
   rank (tuple ts) = ranked (11, 0, pos 0, []) (rank_each ts)
 
-  rank_payload : TreeData → Ranked
-  rank_payload no_data = leaf 0 0 (pos 0) []
-  rank_payload (one t) = ranked (1, 0, pos 0, []) (child_then (rank t) no_children)
-  rank_payload (many ts) = ranked (2, 0, pos 0, []) (rank_each ts)
-  rank_payload (named fs) = ranked (3, 0, pos 0, []) (rank_fields fs)
+  rank_data : TreeData → Ranked
+  rank_data no_data = leaf 0 0 (pos 0) []
+  rank_data (one t) = ranked (1, 0, pos 0, []) (child_then (rank t) no_children)
+  rank_data (many ts) = ranked (2, 0, pos 0, []) (rank_each ts)
+  rank_data (named fs) = ranked (3, 0, pos 0, []) (rank_fields fs)
 
   rank_each : Trees → Children
   rank_each no_trees = no_children
@@ -125,23 +125,23 @@ mutual
   tree_as (seq a) (seq b) = trees_as a b
   tree_as (map a) (map b) = pairs_as a b
   tree_as (present a) (present b) = tree_as a b ∙ sym (then_equal _)
-  tree_as (structure n p) (structure m q) = ap (ordering_then (text_cmp n m)) (payload_as p q ∙ sym (then_equal _))
+  tree_as (structure n p) (structure m q) = ap (ordering_then (text_cmp n m)) (data_as p q ∙ sym (then_equal _))
   tree_as (enumeration n i v p) (enumeration m j w q) =
-      let payloads = payload_as p q ∙ sym (then_equal _) in
-      let rest = ordering_then (ranked_cmp (rank_payload p) (rank_payload q)) Equal in
+      let data = data_as p q ∙ sym (then_equal _) in
+      let rest = ordering_then (ranked_cmp (rank_data p) (rank_data q)) Equal in
       let labels = then_equal (ordering_then (nat_cmp i j) (text_cmp v w)) in
       let variants = ap (λ o. ordering_then o rest) labels ∙ then_assoc (nat_cmp i j) (text_cmp v w) rest in
-      let places = ap (λ o. ordering_then (nat_cmp i j) (ordering_then (text_cmp v w) o)) payloads in
+      let places = ap (λ o. ordering_then (nat_cmp i j) (ordering_then (text_cmp v w) o)) data in
       ap (ordering_then (text_cmp n m)) (places ∙ sym variants)
   tree_as (tuple a) (tuple b) = trees_as a b
   tree_as t u = refl
 
-  payload_as : (p q : TreeData) → tree_data_cmp p q ≡ ranked_cmp (rank_payload p) (rank_payload q)
-  payload_as no_data no_data = refl
-  payload_as (one a) (one b) = tree_as a b ∙ sym (then_equal _)
-  payload_as (many a) (many b) = trees_as a b
-  payload_as (named a) (named b) = fields_as a b
-  payload_as p q = refl
+  data_as : (p q : TreeData) → tree_data_cmp p q ≡ ranked_cmp (rank_data p) (rank_data q)
+  data_as no_data no_data = refl
+  data_as (one a) (one b) = tree_as a b ∙ sym (then_equal _)
+  data_as (many a) (many b) = trees_as a b
+  data_as (named a) (named b) = fields_as a b
+  data_as p q = refl
 
   trees_as : (ts us : Trees) → trees_cmp ts us ≡ children_cmp (rank_each ts) (rank_each us)
   trees_as no_trees no_trees = refl
@@ -167,9 +167,9 @@ mutual
 pub tree_total : IsTotalOrder tree_cmp
 tree_total = subst (λ R. IsTotalOrder R) (λ i x y. sym (tree_as x y) i) (on_total rank ranked_total)
 
--- the order of payloads is total
+-- the order of data is total
 pub tree_data_total : IsTotalOrder tree_data_cmp
-tree_data_total = subst (λ R. IsTotalOrder R) (λ i x y. sym (payload_as x y) i) (on_total rank_payload ranked_total)
+tree_data_total = subst (λ R. IsTotalOrder R) (λ i x y. sym (data_as x y) i) (on_total rank_data ranked_total)
 
 -- the test of trees is an equivalence
 pub tree_equiv : IsEquivalence same_tree
@@ -179,10 +179,10 @@ tree_equiv = eq_by_cmp_equiv tree_total
 pub tree_partial_order : IsPartialOrder same_tree (as_partial_cmp tree_cmp)
 tree_partial_order = partial_order_from_total tree_total
 
--- the test of payloads is an equivalence
+-- the test of data is an equivalence
 pub tree_data_equiv : IsEquivalence same_tree_data
 tree_data_equiv = eq_by_cmp_equiv tree_data_total
 
--- the order of payloads agrees with their test
+-- the order of data agrees with their test
 pub tree_data_partial_order : IsPartialOrder same_tree_data (as_partial_cmp tree_data_cmp)
 tree_data_partial_order = partial_order_from_total tree_data_total

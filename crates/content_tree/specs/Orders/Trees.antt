@@ -60,14 +60,14 @@ tree_rank (structure n p) = 9
 tree_rank (enumeration n i v p) = 10
 tree_rank (tuple ts) = 11
 
--- the place of a payload's case among the four
+-- the place of the data's case among the four
 abbrev pub tree_data_rank : TreeData → ℕ
 tree_data_rank no_data = 0
 tree_data_rank (one t) = 1
 tree_data_rank (many ts) = 2
 tree_data_rank (named fs) = 3
 
--- trees; a struct goes by name, then payload, a variant by name, index, variant, then payload
+-- trees; a struct goes by name, then data, a variant by name, index, variant, then data
 abbrev mutual
   pub tree_cmp : Tree → Tree → Ordering
   tree_cmp unit unit = Equal
@@ -123,6 +123,6 @@ abbrev mutual
 abbrev pub same_tree : Tree → Tree → Bool
 same_tree = eq_by_cmp tree_cmp
 
--- two payloads are the same if the order finds neither less
+-- two data are the same if the order finds neither less
 abbrev pub same_tree_data : TreeData → TreeData → Bool
 same_tree_data = eq_by_cmp tree_data_cmp

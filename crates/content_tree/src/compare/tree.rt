@@ -38,11 +38,11 @@ fn rank<'a, 'n>(value: &NamedValue<'a, 'n>) -> u8
     }
 }
 
-/// The place of a payload's case.
-fn rank_of_data<'a, 'n>(held: &NamedData<'a, 'n>) -> u8
-    ensures { result ≡ tree_data_rank (tree_data_of held.now) }
+/// The place of the data's case.
+fn rank_of_data<'a, 'n>(inside: &NamedData<'a, 'n>) -> u8
+    ensures { result ≡ tree_data_rank (tree_data_of inside.now) }
 {
-    match held {
+    match inside {
         NamedData::Unit => 0,
         NamedData::NewType { value: _ } => 1,
         NamedData::Tuple { values: _ } => 2,

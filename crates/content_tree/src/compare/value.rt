@@ -1,7 +1,7 @@
 //! Values, structs, variants and their data are compared as trees, without marks.
 
 // Two are equal exactly if their trees are equal with the marks taken off: `trees_tie` and
-// `payloads_tie` of `proofs/SameTree.antt`. So the order finds neither less exactly if they are
+// `tree_data_tie` of `proofs/SameTree.antt`. So the order finds neither less exactly if they are
 // equal.
 
 ghost use Rattle.std.specs.Prelude.{◌≡◌, Some, refl};

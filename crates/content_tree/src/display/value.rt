@@ -75,8 +75,8 @@ fn write_value<'a, 'n, W: fmt::Write>(
         NamedValue::Seq(items) => write_list("[", items, "]", f),
         NamedValue::Map(pairs) => write_map(pairs, f),
         NamedValue::Option(held) => write_held(held, f),
-        NamedValue::Struct(inner) => write_struct(inner, f),
-        NamedValue::Enum(inner) => write_enum(inner, f),
+        NamedValue::Struct(node) => write_struct(node, f),
+        NamedValue::Enum(node) => write_enum(node, f),
         NamedValue::Tuple(items) => write_list("(", items, ")", f),
     }
 }
@@ -92,9 +92,9 @@ fn write_held<'a, 'n, W: fmt::Write>(
 {
     match held {
         None => f.write_str("None"),
-        Some(inner) => {
+        Some(value) => {
             f.write_str("Some(")?;
-            write_value(inner, f)?;
+            write_value(value, f)?;
             f.write_str(")")
         }
     }
@@ -135,29 +135,29 @@ fn write_map<'a, 'n, W: fmt::Write>(
 #[cycle(print_value)]
 #[inline(never)]
 fn write_struct<'a, 'n, W: fmt::Write>(
-    inner: &NamedStruct<'a, 'n>,
+    node: &NamedStruct<'a, 'n>,
     f: &mut fmt::Formatter<W>,
 ) -> fmt::Result
     ensures { WritesStyledOnOk W.write_str_gives f.old result
-        (printed (image (struct_tree inner.now))) f.new }
+        (printed (image (struct_tree node.now))) f.new }
 {
-    f.write_str(inner.name.as_str())?;
-    write_data(&inner.data, f)
+    f.write_str(node.name.as_str())?;
+    write_data(&node.data, f)
 }
 
 #[cycle(print_value)]
 #[inline(never)]
 fn write_enum<'a, 'n, W: fmt::Write>(
-    inner: &NamedEnum<'a, 'n>,
+    node: &NamedEnum<'a, 'n>,
     f: &mut fmt::Formatter<W>,
 ) -> fmt::Result
     ensures { WritesStyledOnOk W.write_str_gives f.old result
-        (printed (image (enum_tree inner.now))) f.new }
+        (printed (image (enum_tree node.now))) f.new }
 {
-    f.write_str(inner.name.as_str())?;
+    f.write_str(node.name.as_str())?;
     f.write_str("::")?;
-    f.write_str(inner.variant.as_str())?;
-    write_data(&inner.data, f)
+    f.write_str(node.variant.as_str())?;
+    write_data(&node.data, f)
 }
 
 /// Writes what follows the name of a struct or a variant.

@@ -8,7 +8,7 @@ use Rattle.content_tree.specs.Values.Tree as tree
 use Rattle.content_tree.specs.Values.Tree.{Tree, Trees}
 use Rattle.content_tree.specs.Errors.Cause.{Cause}
 use Rattle.content_ser.specs.Grammar.Token as token
-use Rattle.content_ser.specs.Grammar.Spells.{spells_row}
+use Rattle.content_ser.specs.Grammar.Spells.{spells_series}
 use Rattle.content_ser.specs.Scripts.Standard.{ScriptOf, option_script, items_script, seq_script}
 use Rattle.content_de.specs.Sources.Origin.{Origin, of_tree, of_identifier, Flags, tree_under}
 use Rattle.content_de.specs.Outcomes.{refusal_then, IsTaken}
@@ -112,7 +112,7 @@ items_back {A} {exists} {script} {refusal} {gives} {eq} back (x ∷ xs) real f =
 pub seq_back : {A : Type 0} {exists : A → Type 0} {script : ScriptOf A} {refusal : Refusal} {gives : Gives A} {eq : A → A → Bool} → ComesBack exists script refusal gives eq
     → ComesBack (AllByRecursion exists) (seq_script script) (λ s. refusal_then (seq_at s) (seq_refusal refusal)) (λ s xs. IsTaken (seq_at s) (λ l. SeqGives gives l xs)) (pointwise eq)
 seq_back back = record {
-  of_value = λ xs real f. such_spelled (spelled_call (λ calls rest e. (tree.seq e.0, spells_row e.1, record { free = e.2.free; only = e.2.only })) (items_back back xs real f));
+  of_value = λ xs real f. such_spelled (spelled_call (λ calls rest e. (tree.seq e.0, spells_series e.1, record { free = e.2.free; only = e.2.only })) (items_back back xs real f));
 }
 
 -- the items that a sequence may give

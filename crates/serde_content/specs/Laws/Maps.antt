@@ -32,7 +32,7 @@ use Rattle.serde_content.specs.RoundTrip.{EntriesExist, flags, under}
 use Rattle.serde_content.specs.Laws.Spelled.{TreeSuch, Spelled, spelled_only, spelled_call}
 use Rattle.serde_content.specs.Laws.Spelled.{spelled_then, spelled_such, such_spelled}
 use Rattle.serde_content.specs.Laws.Holders.{both_free, first_free, second_free}
-use Rattle.serde_content.specs.Laws.Rows.{both_hold}
+use Rattle.serde_content.specs.Laws.Series.{both_hold}
 
 -- such pairs, spelled as entries, and the end, before the rest; nothing takes the place of a value that stands before them
 abbrev pub EntriesSuch : (Pairs → Type 0) → List Token → List Token → Type 0

@@ -13,7 +13,7 @@ use Rattle.content_ser.specs.Grammar.Spells.{Spells, SpellsElements, SpellsField
 use Rattle.content_ser.specs.Grammar.Spells.{spells_leaf, spells_wrap, elements_end, elements_more}
 use Rattle.content_ser.specs.Grammar.Spells.{fields_end, fields_more}
 use Rattle.content_ser.specs.Scripts.Script.{Script, done, call_then, calls_of, stop_of, and_then}
-use Rattle.content_ser.specs.Laws.ScriptsInARow.{calls_of_both, stop_of_both}
+use Rattle.content_ser.specs.Laws.ScriptsInTurn.{calls_of_both, stop_of_both}
 use Rattle.content_ser.specs.Laws.Fits.{spells_before, tokens_append}
 use Rattle.serde_content.specs.RoundTrip.{SpellsSuch}
 

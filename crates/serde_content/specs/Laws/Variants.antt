@@ -10,7 +10,7 @@ use Rattle.content_tree.specs.Values.Tree.{Tree, TreeData, Trees}
 use Rattle.content_tree.specs.Errors.Cause.{Cause}
 use Rattle.content_ser.specs.Calls.Head.{of_variant}
 use Rattle.content_ser.specs.Grammar.Token as token
-use Rattle.content_ser.specs.Grammar.Spells.{spells_row, spells_record}
+use Rattle.content_ser.specs.Grammar.Spells.{spells_series, spells_record}
 use Rattle.content_ser.specs.Scripts.Script.{Script}
 use Rattle.content_ser.specs.Scripts.Standard.{ScriptOf}
 use Rattle.content_ser.specs.Scripts.Own.{unit_variant_script, newtype_variant_script}
@@ -33,7 +33,7 @@ use Rattle.content_tree.specs.declared.expected.DataType.TheVariants as kind
 use Rattle.serde_content.specs.RoundTrip.{SpellsSuch, GivesOnly, ComesBack, MayGive, CoercionKeeps}
 use Rattle.serde_content.specs.RoundTrip.{flags, under}
 use Rattle.serde_content.specs.Laws.Spelled.{spelled_call, such_spelled, leaf_such, wrapped_such}
-use Rattle.serde_content.specs.Laws.Rows.{PartsBack, PartsKeep}
+use Rattle.serde_content.specs.Laws.Series.{PartsBack, PartsKeep}
 use Rattle.serde_content.specs.Laws.Records.{FieldsBack, FieldsKeep}
 
 -- a variant whose tag was read
@@ -78,7 +78,7 @@ pub tuple_variant_back : {P : Type 0} {script : Bool → Script} {refusal : SeqL
     → PartsBack token.tuple_field script refusal given such
     → VariantBack name index variant (tuple_variant_script name index variant len script) (tuple_variant_refusal refusal) (λ z. TupleVariantGives (given z)) such
 tuple_variant_back parts = record {
-  of_flags = λ f. such_spelled (spelled_call (λ calls rest e. (_, spells_row e.1, (tree.many e.0, refl, record { free = e.2.free; only = e.2.only }))) (parts.of_flags f));
+  of_flags = λ f. such_spelled (spelled_call (λ calls rest e. (_, spells_series e.1, (tree.many e.0, refl, record { free = e.2.free; only = e.2.only }))) (parts.of_flags f));
 }
 
 -- a variant of values by key

@@ -1,7 +1,7 @@
 //! Tuples of one to four values come back.
 
-ghost use Rattle.serde_content.specs.Laws.Rows.{both_hold, element_back, parts_end, tuple_back};
-ghost use Rattle.serde_content.specs.Laws.Rows.{part_keeps, parts_end_keeps, tuple_keeps};
+ghost use Rattle.serde_content.specs.Laws.Series.{both_hold, element_back, parts_end, tuple_back};
+ghost use Rattle.serde_content.specs.Laws.Series.{part_keeps, parts_end_keeps, tuple_keeps};
 
 use crate::round::RoundTrip;
 

@@ -8,7 +8,7 @@ ghost use Rattle.content_de.specs.Reads.Own.{struct_refusal, field_then, no_fiel
 ghost use Rattle.content_de.specs.Reads.Own.{StructGives, FieldThen, NoField};
 ghost use Rattle.serde_content.specs.Laws.Records.{field_back, fields_end_back, struct_back};
 ghost use Rattle.serde_content.specs.Laws.Records.{field_keeps, fields_end_keeps, struct_keeps};
-ghost use Rattle.serde_content.specs.Laws.Rows.{both_hold};
+ghost use Rattle.serde_content.specs.Laws.Series.{both_hold};
 ghost use Rattle.serde_content.specs.Laws.Leaves.{i32_back, integer_keeps};
 ghost use Rattle.content_tree.specs.Values.Ranges as kind;
 

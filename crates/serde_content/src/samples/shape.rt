@@ -19,8 +19,8 @@ ghost use Rattle.content_de.specs.Reads.Own.{struct_variant_refusal, StructVaria
 ghost use Rattle.content_tree.specs.Values.Ranges as kind;
 ghost use Rattle.serde_content.specs.declared.samples.shape.Shape.TheVariants as shape;
 ghost use Rattle.serde_content.specs.Laws.Leaves.{i32_back, u32_back, integer_keeps, natural_keeps};
-ghost use Rattle.serde_content.specs.Laws.Rows.{both_hold, tuple_field_back, parts_end};
-ghost use Rattle.serde_content.specs.Laws.Rows.{part_keeps, parts_end_keeps};
+ghost use Rattle.serde_content.specs.Laws.Series.{both_hold, tuple_field_back, parts_end};
+ghost use Rattle.serde_content.specs.Laws.Series.{part_keeps, parts_end_keeps};
 ghost use Rattle.serde_content.specs.Laws.Records.{field_back, fields_end_back};
 ghost use Rattle.serde_content.specs.Laws.Records.{field_keeps, fields_end_keeps};
 ghost use Rattle.serde_content.specs.Laws.Variants.{variant_back, unit_variant_back};

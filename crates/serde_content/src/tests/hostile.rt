@@ -1,4 +1,5 @@
 //! A builder that a caller uses badly: calls out of place, and a stop that it swallows.
+
 use crate::ser::{Builder, Serialize, Serializer};
 use crate::{CowStr, Data, ErrorKind, Result as Answer, Struct, Value};
 use std::alloc::Global;

@@ -9,17 +9,17 @@ use Rattle.content_build.proofs.steps.put.Goals as goal
 
 pub settle-requires : goal.settle-requires
 settle-requires c =
-    let es = c.args.entries.now.items in
-    let hs = c.args.heads.now.items in
-    let t = leaf_tree c.args.whole in
+    let es = c.args.frames.now.items in
+    let hs = c.args.openings.now.items in
+    let t = leaf_tree c.args.leaf in
     let (ps, e) = the_slots (meaning es hs) (c.if-not-is_due.ensures.0 refl) in
     (ps, t, waiting_whole ps es c.push.new.self.items hs _ t (subst (Stands es hs) e c.requires) c.in_ok-node.ensures refl c.in_ok-push.ensures.items)
 
 pub returns : goal.returns
 returns c =
-    let es = c.args.entries.now.items in
-    let hs = c.args.heads.now.items in
-    let t = leaf_tree c.args.whole in
+    let es = c.args.frames.now.items in
+    let hs = c.args.openings.now.items in
+    let t = leaf_tree c.args.leaf in
     let (ps, e) = the_slots (meaning es hs) (c.if-not-is_due.ensures.0 refl) in
-    subst (λ s. TakenTo (step_token s (token.leaf t)) c.settle.result c.settle.new.entries.items c.settle.new.heads.items) (sym e)
+    subst (λ s. TakenTo (step_token s (token.leaf t)) c.settle.result c.settle.new.frames.items c.settle.new.openings.items) (sym e)
     (c.settle.ensures ps t (waiting_whole ps es c.push.new.self.items hs _ t (subst (Stands es hs) e c.requires) c.in_ok-node.ensures refl c.in_ok-push.ensures.items))

@@ -4,8 +4,8 @@ use Rattle.content_cli.proofs.gather.gather.Given as goal
 
 abbrev pub invariant-reads : goal.invariant-reads
 invariant-reads g l =
-    let left = g.R.Source.left in
-    let has_failed = g.R.Source.has_failed in
+    let left = g.R.Input.left in
+    let has_failed = g.R.Input.has_failed in
     record {
       so_far : Consumes (left l.fn.reader) (left l.reader) l.input.items;
       kept : has_failed l.reader ≡ has_failed l.fn.reader;

@@ -3,8 +3,8 @@ use Rattle.std.specs.Int.{w8}
 use Rattle.content_cli.proofs.Parsed.{integer_parsed, integer_none}
 use Rattle.content_cli.proofs.numbers.read_i8.Goals as goal
 
-pub returns-then-is_plain_integer : goal.returns-then-is_plain_integer
-returns-then-is_plain_integer c = c.ok.ensures.value ∙ integer_parsed w8 c.args.text.now c.parse.result c.parse.ensures.value.0 (search rules)
+pub returns-then-is_integer_numeral : goal.returns-then-is_integer_numeral
+returns-then-is_integer_numeral c = c.ok.ensures.value ∙ integer_parsed w8 c.args.text.now c.parse.result c.parse.ensures.value.0 (search rules)
 
-pub returns-else-is_plain_integer : goal.returns-else-is_plain_integer
-returns-else-is_plain_integer c = sym (integer_none 7 c.args.text.now (search rules))
+pub returns-else-is_integer_numeral : goal.returns-else-is_integer_numeral
+returns-else-is_integer_numeral c = sym (integer_none 7 c.args.text.now (search rules))

@@ -5,4 +5,4 @@ use Rattle.content_build.proofs.tape.Tape.open_count.Goals as goal
 pub returns : goal.returns
 returns c =
     let tape = c.args.self.now in
-    counted tape.failed tape.entries.items tape.heads.items c.len.result tape.kept (c.len.ensures ∙ tape.heads.ok.0)
+    counted tape.failed tape.frames.items tape.openings.items c.len.result tape.kept (c.len.ensures ∙ tape.openings.ok.0)

@@ -9,17 +9,17 @@ use Rattle.content_build.proofs.tape.Tape.take.Goals as goal
 
 pub invariant_of-self-in-Ok : goal.invariant_of-self-in-Ok
 invariant_of-self-in-Ok c =
-    let es = c.step.new.entries.items in
-    let hs = c.step.new.heads.items in
+    let es = c.step.new.frames.items in
+    let hs = c.step.new.openings.items in
     record { kept = subst (λ failed. IsKept failed es hs) (sym c.if-self.false) (sound_after _ es hs c.in-Ok.ensures) }
 
 pub returns-in-Ok-clause-taken : goal.returns-in-Ok-clause-taken
 returns-in-Ok-clause-taken c =
-    let es = c.args.self.now.entries.items in
-    let hs = c.args.self.now.heads.items in
+    let es = c.args.self.now.frames.items in
+    let hs = c.args.self.now.openings.items in
     let limit = c.args.self.now.limit in
     let call = token_view c.args.call in
     let kept : c.fits.result ≡ true = search (rules, tests) in
     let says = subst (λ failed. IfSome (viewed failed es hs) (λ s. c.fits.result ≡ fits limit (open_count s) call)) c.if-self.false c.fits.ensures in
-    subst (λ failed. TakesToken limit (viewed failed es hs) call (Ok tt) (viewed failed c.step.new.entries.items c.step.new.heads.items)) (sym c.if-self.false)
-    (now_taken limit (meaning es hs) call c.step.new.entries.items c.step.new.heads.items (sym says ∙ kept) c.in-Ok.ensures)
+    subst (λ failed. TakesToken limit (viewed failed es hs) call (Ok tt) (viewed failed c.step.new.frames.items c.step.new.openings.items)) (sym c.if-self.false)
+    (now_taken limit (meaning es hs) call c.step.new.frames.items c.step.new.openings.items (sym says ∙ kept) c.in-Ok.ensures)

@@ -58,14 +58,14 @@ write_data-returns-in-Struct g t c = λ plain ok.
 
 pub write_struct-returns : goal.write_struct-returns
 write_struct-returns g t c = λ plain ok.
-    let inner = out-NamedStruct c.args.inner.now in
-    let inside = printed_data (image_data (tree_data_of inner.«data»)) in
-    has_written_styled_of_eq _ _ (text_content inner.name ++ inside) (printed (image (struct_tree c.args.inner.now))) _
-    (rw (struct_tree-is c.args.inner.now) refl) (search (rules, two_writes))
+    let node = out-NamedStruct c.args.node.now in
+    let inside = printed_data (image_data (tree_data_of node.«data»)) in
+    has_written_styled_of_eq _ _ (text_content node.name ++ inside) (printed (image (struct_tree c.args.node.now))) _
+    (rw (struct_tree-is c.args.node.now) refl) (search (rules, two_writes))
 
 pub write_enum-returns : goal.write_enum-returns
 write_enum-returns g t c = λ plain ok.
-    let inner = out-NamedEnum c.args.inner.now in
-    let inside = printed_data (image_data (tree_data_of inner.«data»)) in
-    has_written_styled_of_eq _ _ (text_content inner.name ++ (codes "::" ++ (text_content inner.variant ++ inside))) (printed (image (enum_tree c.args.inner.now))) _
-    (rw (enum_tree-is c.args.inner.now) refl) (search (rules, four_writes))
+    let node = out-NamedEnum c.args.node.now in
+    let inside = printed_data (image_data (tree_data_of node.«data»)) in
+    has_written_styled_of_eq _ _ (text_content node.name ++ (codes "::" ++ (text_content node.variant ++ inside))) (printed (image (enum_tree c.args.node.now))) _
+    (rw (enum_tree-is c.args.node.now) refl) (search (rules, four_writes))

@@ -1,4 +1,4 @@
--- What the calls and the stop of two scripts in a row are.
+-- What the calls and the stop of two scripts made in turn are.
 use Rattle.std.specs.Prelude.{◌≡◌, ℕ, List, ◌∷◌, ◌++◌, Some, None, refl}
 use Rattle.std.proofs.Common.{ap}
 use Rattle.content_ser.specs.Scripts.Script.{Script, done, stop_with, call_then, calls_of, stop_of}

@@ -7,7 +7,7 @@ use Rattle.content_ser.specs.Calls.Event as event
 use Rattle.content_ser.specs.Calls.Event.{Event}
 use Rattle.content_ser.specs.Grammar.Token as token
 use Rattle.content_ser.specs.Grammar.Token.{ItemCall}
-use Rattle.content_ser.specs.Grammar.Spells.{spells_row}
+use Rattle.content_ser.specs.Grammar.Spells.{spells_series}
 use Rattle.content_ser.specs.Scripts.Script.{Script}
 use Rattle.content_ser.specs.Scripts.Standard.{ScriptOf, only, item_first, tuple_script}
 use Rattle.content_ser.specs.Scripts.Own.{tuple_struct_script}
@@ -64,7 +64,7 @@ pub tuple_back : {Y : Type 0} {script : Bool → Script} {refusal : SeqLeft → 
     → PartsBack token.element script refusal given such → (f : Flags) → ((y : Y) → such y → passes y)
     → SpellsSuch (λ t. GivesOnly (refusal_then (tuple_at n (tree_under f t)) refusal) (λ y. IsTaken (tuple_at n (tree_under f t)) (given y)) passes) (tuple_script n script f.human_readable)
 tuple_back parts f pass =
-    such_spelled (spelled_call (λ calls rest e. (tree.tuple e.0, spells_row e.1, record { free = e.2.free; only = λ y h. pass y (e.2.only y h) })) (parts.of_flags f))
+    such_spelled (spelled_call (λ calls rest e. (tree.tuple e.0, spells_series e.1, record { free = e.2.free; only = λ y h. pass y (e.2.only y h) })) (parts.of_flags f))
 
 -- what items may give as parts without coercion they may give with it
 pub record PartsKeep {Y : Type 0} (refusal : SeqLeft → Option Cause) (given : Y → SeqLeft → Type 0) : Type 0 where
@@ -109,7 +109,7 @@ pub tuple_struct_back : {Y : Type 0} {script : Bool → Script} {refusal : SeqLe
     → PartsBack token.tuple_field script refusal given such → (f : Flags) → ((y : Y) → such y → passes y)
     → SpellsSuch (λ t. GivesOnly (tuple_struct_refusal name refusal (tree_under f t)) (λ y. TupleStructGives name (given y) (tree_under f t)) passes) (tuple_struct_script name len script f.human_readable)
 tuple_struct_back parts f pass =
-    such_spelled (spelled_call (λ calls rest e. (_, spells_row e.1, record { free = e.2.free; only = λ y h. pass y (e.2.only y h) })) (parts.of_flags f))
+    such_spelled (spelled_call (λ calls rest e. (_, spells_series e.1, record { free = e.2.free; only = λ y h. pass y (e.2.only y h) })) (parts.of_flags f))
 
 -- a struct of such values by place
 pub tuple_struct_keeps : {Y : Type 0} {refusal : SeqLeft → Option Cause} {given : Y → SeqLeft → Type 0} (name : List ℕ) → PartsKeep refusal given

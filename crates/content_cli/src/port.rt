@@ -1,9 +1,9 @@
 //! A reader or a writer of the standard library, as a source or a sink.
 
 ghost use Rattle.std.specs.Prelude.{◌≡◌, false};
-ghost use Rattle.content_cli.specs.Plain.{inner_of, is_failed};
+ghost use Rattle.content_cli.specs.Port.{inner_of, is_failed};
 
-use crate::ports::{Fault, Sink, Source};
+use crate::ports::{Fault, Input, Output};
 use std::io::{Read, Write};
 
 /// A reader or a writer of the standard library, and whether it has failed.
@@ -11,25 +11,25 @@ use std::io::{Read, Write};
 /// Each error counts as a fault, that of an interrupted call too, and so does a write that takes
 /// no byte.
 #[derive(Drop)]
-pub struct Plain<T> {
+pub struct Port<T> {
     inner: T,
     failed: bool,
 }
 
-impl<T> Plain<T> {
+impl<T> Port<T> {
     /// One that hasn't failed. It takes no memory.
-    pub fn new(inner: T) -> Plain<T>
+    pub fn new(inner: T) -> Port<T>
         ensures inner { inner_of result ≡ inner }
         ensures failed { is_failed result ≡ false }
     {
-        Plain {
+        Port {
             inner,
             failed: false,
         }
     }
 }
 
-impl<R: Read> Source for Plain<R> {
+impl<R: Read> Input for Port<R> {
     ghost left = { λ p. R.remaining p.inner };
 
     ghost has_failed = { λ p. p.failed };
@@ -49,7 +49,7 @@ impl<R: Read> Source for Plain<R> {
     }
 }
 
-impl<W: Write> Sink for Plain<W> {
+impl<W: Write> Output for Port<W> {
     ghost written = { λ p. W.contents p.inner };
 
     ghost has_failed = { λ p. p.failed };

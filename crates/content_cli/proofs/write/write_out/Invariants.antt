@@ -1,11 +1,11 @@
 use Rattle.std.proofs.Common.{◌≡◌, ◌++◌, List, ℕ, length}
 use Rattle.std.specs.Io.KnownBytes.{Appends}
-use Rattle.content_cli.proofs.send.send.Given as goal
+use Rattle.content_cli.proofs.write.write_out.Given as goal
 
 abbrev pub invariant-writes : goal.invariant-writes
 invariant-writes g l =
-    let written = g.W.Sink.written in
-    let has_failed = g.W.Sink.has_failed in
+    let written = g.W.Output.written in
+    let has_failed = g.W.Output.has_failed in
     record {
       so_far : (gone : List ℕ) × (l.bytes ≡ gone ++ l.rest) × Appends (written l.fn.writer) (written l.writer) gone;
       kept : has_failed l.writer ≡ has_failed l.fn.writer;

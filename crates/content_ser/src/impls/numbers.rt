@@ -1,4 +1,5 @@
 //! Numbers, each by the call of its kind.
+
 #![tactic(auto, using(crate::proofs::Sending::sending))]
 
 ghost use Rattle.content_ser.specs.Calls.Event.{number};

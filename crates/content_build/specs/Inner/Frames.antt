@@ -1,4 +1,4 @@
--- The cells and open heads that a tape in memory stands for.
+-- The cells and openings that a tape in memory stands for.
 use Rattle.std.specs.Prelude.{List, map, reverse, string_bytes}
 use Rattle.content_tree.specs.Values.Text.{owned_text, static_name}
 use Rattle.content_tree.specs.declared.number.Number.TheVariants as num
@@ -11,10 +11,10 @@ use Rattle.content_build.specs.declared.node.Sort.{Sort}
 use Rattle.content_build.specs.declared.node.Sort.TheVariants as sort
 use Rattle.content_build.specs.declared.node.Node.{Node}
 use Rattle.content_build.specs.declared.node.Node.TheVariants as node
-use Rattle.content_build.specs.declared.node.Entry.{Entry}
+use Rattle.content_build.specs.declared.node.Frame.{Frame}
 use Rattle.content_build.specs.declared.node.Waits.{Waits}
 use Rattle.content_build.specs.declared.node.Waits.TheVariants as waits
-use Rattle.content_build.specs.declared.node.OpenHead.{OpenHead}
+use Rattle.content_build.specs.declared.node.Opening.{Opening}
 
 -- a leaf
 abbrev pub leaf_view : Leaf → cells.Leaf
@@ -53,8 +53,8 @@ node_view (node.Variant s i n v) = cells.headed (sort_view s) (cells.of_variant 
 node_view (node.Key k) = cells.key (static_name k.now)
 
 -- an entry
-abbrev pub entry_view : Entry → Cell
-entry_view e = cell (node_view e.node) e.size
+abbrev pub frame_view : Frame → Cell
+frame_view e = cell (node_view e.node) e.size
 
 -- what an open head waits for
 abbrev pub wait_view : Waits → Wait
@@ -66,19 +66,19 @@ wait_view waits.Value = cells.a_value
 wait_view waits.EntryKey = cells.entry_key
 wait_view waits.EntryValue = cells.entry_value
 wait_view waits.Field = cells.field
-wait_view waits.InElements = cells.in_row element
-wait_view waits.InTupleFields = cells.in_row tuple_field
+wait_view waits.InElements = cells.in_series element
+wait_view waits.InTupleFields = cells.in_series tuple_field
 wait_view waits.InMap = cells.in_map
 wait_view waits.InRecord = cells.in_record
 
 -- an open head
-abbrev pub open_view : OpenHead → Open
+abbrev pub open_view : Opening → Open
 open_view h = opened h.at h.last (wait_view h.waits)
 
--- the cells of entries
-abbrev pub row : List Entry → List Cell
-row es = map entry_view es
+-- the cells of frames
+abbrev pub cells_of : List Frame → List Cell
+cells_of es = map frame_view es
 
--- open heads, from the innermost to the outermost: the last first
-abbrev pub opens_view : List OpenHead → List Open
+-- openings, from the innermost to the outermost: the last first
+abbrev pub opens_view : List Opening → List Open
 opens_view hs = map open_view (reverse hs)

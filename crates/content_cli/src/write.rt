@@ -3,10 +3,10 @@
 ghost use Rattle.std.specs.Prelude.{◌≡◌, OnOk, OnErr, true};
 ghost use Rattle.std.specs.Io.KnownBytes.{Appends};
 
-use crate::ports::{Fault, Sink};
+use crate::ports::{Fault, Output};
 
 /// Writes all the bytes, by as many writes as the sink needs.
-pub fn send<W: Sink>(writer: &mut W, bytes: &[u8]) -> Result<(), Fault>
+pub fn write_out<W: Output>(writer: &mut W, bytes: &[u8]) -> Result<(), Fault>
     ensures all { OnOk result (Appends (W.written writer.old) (W.written writer.new) bytes.now) }
     ensures kept { OnOk result (W.has_failed writer.new ≡ W.has_failed writer.old) }
     ensures fault { OnErr result (W.has_failed writer.new ≡ true) }

@@ -4,7 +4,7 @@ use Rattle.std.proofs.lemmas.List.Quantifiers.{position-Some}
 use Rattle.content_tree.specs.Printed.Images.{escaped}
 use Rattle.content_tree.specs.Printed.Escapes.{has_escape}
 use Rattle.content_tree.proofs.Quoting.{no_escape, cut_before, cut_after, at_escape}
-use Rattle.content_tree.proofs.quote.cut_at_escape.Goals as goal
+use Rattle.content_tree.proofs.quote.split_at_escape.Goals as goal
 
 pub returns-in_err-at-clause-printed : goal.returns-in_err-at-clause-printed
 returns-in_err-at-clause-printed c =

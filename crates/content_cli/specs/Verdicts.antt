@@ -5,8 +5,8 @@ use Rattle.serde_content.specs.Names.Words.{Event, seen_of, HasTaken, IsRefusalW
 use Rattle.serde_content.specs.Names.Words.{kind_of, Error}
 use Rattle.serde_content.specs.Names.ErrorKind.{OutOfMemory}
 use Rattle.content_cli.specs.Lines.{calls_of, first_bad}
-use Rattle.content_cli.specs.declared.calls.Outcome.{Outcome}
-use Rattle.content_cli.specs.declared.calls.Outcome.TheVariants.{BadLine, Taken, Refused}
+use Rattle.content_cli.specs.declared.calls.Verdict.{Verdict}
+use Rattle.content_cli.specs.declared.calls.Verdict.TheVariants.{BadLine, Taken, Refused}
 
 -- the calls are refused as the error says, unless memory is the cause
 abbrev pub IsRefusedWithin : Option ℕ → List Event → CallsError → Type 0
@@ -18,7 +18,7 @@ AnswersLine limit calls c (Ok u) new = HasTaken limit (calls ++ c ∷ []) (seen_
 AnswersLine limit calls c (Err e) new = kind_of e ≢ OutOfMemory → (rest : List Event) → IsRefusalWithin limit (calls ++ c ∷ rest) (length calls) (kind_of e)
 
 -- the first bad line; or all calls, taken in order and counted; or how they are refused
-abbrev pub IsOutcome : Option ℕ → List ℕ → Outcome → Type 0
-IsOutcome limit body (BadLine place) = first_bad body ≡ Some place
-IsOutcome limit body (Taken builder count) = (first_bad body ≡ None) × HasTaken limit (calls_of body) (seen_of builder) × (count ≡ length (calls_of body))
-IsOutcome limit body (Refused e) = (first_bad body ≡ None) × IsRefusedWithin limit (calls_of body) e
+abbrev pub IsVerdict : Option ℕ → List ℕ → Verdict → Type 0
+IsVerdict limit body (BadLine place) = first_bad body ≡ Some place
+IsVerdict limit body (Taken builder count) = (first_bad body ≡ None) × HasTaken limit (calls_of body) (seen_of builder) × (count ≡ length (calls_of body))
+IsVerdict limit body (Refused e) = (first_bad body ≡ None) × IsRefusedWithin limit (calls_of body) e

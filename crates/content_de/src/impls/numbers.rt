@@ -1,4 +1,5 @@
 //! Numbers, booleans, characters and the unit.
+
 ghost use Rattle.std.specs.Prelude.{◌≡◌, Some, pos};
 ghost use Rattle.content_tree.specs.Values.Ranges.{i8, u8, i16, u16, i32, u32, i64, u64, i128};
 ghost use Rattle.content_tree.specs.Values.Ranges.{u128};
