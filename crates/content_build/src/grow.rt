@@ -255,7 +255,7 @@ fn give_key<'v>(grown: &mut Vec<Grown<'v>>, key: &'static str)
     }
 }
 
-/// One entry more, whose children are the last values.
+/// One frame more, whose children are the last values.
 #[inline(always)]
 fn grow_one<'v>(alloc: Global, grown: &mut Vec<Grown<'v>>, next: Frame) -> Result<(), AllocError>
     ensures { IfOk result (λ _. grown_trees grown.new.items

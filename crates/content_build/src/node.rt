@@ -12,7 +12,7 @@ use content_ser::Head;
 use content_tree::{CowBytes, CowStr, NamedValue, Number, Value};
 use std::alloc::{AllocError, Global};
 
-/// A node that has no children and no name. A number of 128 bits stands in a box, so that an entry
+/// A node that has no children and no name. A number of 128 bits stands in a box, so that a frame
 /// stays small.
 #[derive(Drop)]
 pub(crate) enum Leaf {
@@ -62,7 +62,7 @@ pub(crate) struct Frame {
     pub(crate) size: usize,
 }
 
-/// What an open head waits for: a tree, or a call.
+/// What an opening waits for: a tree, or a call.
 #[derive(Clone, Copy)]
 pub(crate) enum Waits {
     Child,
@@ -79,7 +79,7 @@ pub(crate) enum Waits {
     InRecord,
 }
 
-/// An open head: its place on the tape, where the last value of a map begins, or 0, and what it
+/// An opening: its place on the tape, where the last value of a map begins, or 0, and what it
 /// waits for.
 #[derive(Drop)]
 pub(crate) struct Opening {

@@ -83,7 +83,7 @@ fn put(
     settle(frames, openings)
 }
 
-/// A call that opens a head.
+/// A call that opens a node.
 #[inline(always)]
 fn open(frames: &mut Vec<Frame>, openings: &mut Vec<Opening>, node: Node, waits: Waits) -> Taken
     requires { IsSound frames.old.items openings.old.items }
@@ -161,7 +161,7 @@ fn announce(frames: &mut Vec<Frame>, openings: &mut Vec<Opening>, item: ItemCall
     }
 }
 
-/// Whether a head waits for no tree.
+/// Whether an opening waits for no tree.
 #[inline(always)]
 fn is_idle(waits: Waits) -> bool
     ensures { IsTrue result ↔ IsIdle (wait_view waits) }

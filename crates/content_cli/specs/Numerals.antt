@@ -15,7 +15,7 @@ is_numeral ds = all_ascii_digits ds && (nat_lt 0 (length ds) && (not (slice_inde
 abbrev pub natural_of : ℕ → List ℕ → Option ℕ
 natural_of bits ds = cond (is_numeral ds && nat_lt (digits_value 10 ds) (2 ^ bits)) (Some (digits_value 10 ds)) None
 
--- a `-` and a plain number other than 0
+-- a `-` and a numeral other than `0`
 abbrev pub is_negative : List ℕ → Bool
 is_negative t = (slice_index t 0 == 45) && (is_numeral (drop 1 t) && not (slice_index t 1 == 48))
 

@@ -2,3 +2,4 @@
 pub mod Origin
 pub mod Deserializer
 pub mod Order
+pub mod Wide

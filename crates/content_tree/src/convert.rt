@@ -1,5 +1,6 @@
 //! Values from the types that they hold. No conversion takes memory: a reference is borrowed, a
 //! text or a vector is owned.
+
 ghost use Rattle.std.specs.Prelude.{◌≡◌, string_bytes};
 ghost use Rattle.content_tree.specs.Values.Text.{text_of, owned_text};
 ghost use Rattle.content_tree.specs.Values.Cases.{borrowed_text};

@@ -1,4 +1,5 @@
 //! Copies of expectations and errors.
+
 ghost use Rattle.std.specs.Prelude.{◌≡◌, None, IsTrue, IsOk, IfOk, IfErr};
 ghost use Rattle.content_tree.specs.Errors.Cause.{expectation_of, cause_of, name_view};
 ghost use Rattle.content_tree.specs.Errors.Kind.{kind_of, IsOutOfMemory};

@@ -2,6 +2,7 @@
 //!
 //! Inside, a copy answers `AllocError` alone, and what holds parts is copied by a function of its
 //! own, so that a level of a deep image takes little stack.
+
 ghost use Rattle.std.specs.Prelude.{◌≡◌, None, IsTrue, IsOk, IfOk, IfErr};
 ghost use Rattle.content_tree.specs.Images.Found.{image_view, image_data_view, images_view};
 ghost use Rattle.content_tree.specs.Images.Found.{image_pairs_view, image_fields_view, held_image};
@@ -75,7 +76,7 @@ fn clone_found(alloc: Global, found: &Found) -> StdResult<Found, AllocError>
     }
 }
 
-// The image of a struct of this name.
+/// The image of a struct of this name.
 #[inline(never)]
 fn name_struct(alloc: Global, name: &str, inside: Box<FoundData>) -> StdResult<Found, AllocError>
     ensures { IfOk result (λ f. image_view f ≡ structure name.now (image_data_view inside.value)) }
@@ -84,7 +85,7 @@ fn name_struct(alloc: Global, name: &str, inside: Box<FoundData>) -> StdResult<F
     Ok(Found::Struct { name, data: inside })
 }
 
-// The image of a variant of these names.
+/// The image of a variant of these names.
 #[inline(never)]
 fn name_enum(
     alloc: Global,

@@ -2,6 +2,7 @@
 //!
 //! Inside, a copy answers `AllocError` alone, and what holds parts is copied by a function of its
 //! own, so that a level of a deep value takes little stack.
+
 ghost use Rattle.std.specs.Prelude.{◌≡◌, None, IsOk, IfOk, IfErr};
 ghost use Rattle.content_tree.specs.Errors.Kind.{IsOutOfMemory};
 ghost use Rattle.content_tree.specs.Memory.{CopyTakesNoMemory, StructCopyTakesNoMemory};
@@ -108,8 +109,8 @@ fn clone_value<'a, 'n>(
     }
 }
 
-// A boxed struct: what it holds is copied first, and its name and its box are made by a function
-// of their own.
+/// A boxed struct: what it holds is copied first, and its name and its box are made by a function
+/// of their own.
 #[cycle(copy_value)]
 #[inline(never)]
 fn clone_boxed_struct<'a, 'n>(
@@ -122,7 +123,7 @@ fn clone_boxed_struct<'a, 'n>(
     box_struct(alloc, &node.name, data)
 }
 
-// A box of a struct with a copy of this name.
+/// A box of a struct with a copy of this name.
 #[inline(never)]
 fn box_struct<'a, 'n>(
     alloc: Global,
@@ -136,7 +137,7 @@ fn box_struct<'a, 'n>(
     Ok(Box::new(alloc, NamedStruct { name, data: inside })?)
 }
 
-// The same of a variant.
+/// The same of a variant.
 #[cycle(copy_value)]
 #[inline(never)]
 fn clone_boxed_enum<'a, 'n>(
@@ -149,7 +150,7 @@ fn clone_boxed_enum<'a, 'n>(
     box_enum(alloc, &node.name, node.variant_index, &node.variant, data)
 }
 
-// A box of a variant with copies of these names.
+/// A box of a variant with copies of these names.
 #[inline(never)]
 fn box_enum<'a, 'n>(
     alloc: Global,

@@ -1,4 +1,5 @@
 //! Texts and bytes that are borrowed or owned.
+
 ghost use Rattle.std.specs.Prelude.{◌≡◌, IsTrue, Ok, IfOk, IfErr, IsOk, IfSome, string_bytes};
 ghost use Rattle.content_tree.specs.Values.Text.{text_of, bytes_of, text_content, bytes_content};
 ghost use Rattle.content_tree.specs.Values.Cases.{string_in, vec_in};

@@ -1,4 +1,6 @@
-//! The printed text of images.
+//! The printed text of images. That of values is a walk of its own, `display/value.rt`, over another
+//! type; both print leaves by what stands here.
+
 #![tactic(auto, using(crate::proofs::Printing::two_writes, crate::proofs::Printing::three_writes, crate::proofs::Printing::four_writes))]
 
 ghost use Rattle.std.specs.Prelude.{Some, string_bytes, codes, encode_utf8, ◌++◌, []};

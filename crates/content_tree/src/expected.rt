@@ -1,4 +1,5 @@
 //! What was expected, for errors.
+
 #![tactic(auto, using(crate::proofs::Printing::two_writes, crate::proofs::Printing::three_writes, crate::proofs::Printing::four_writes))]
 
 ghost use Rattle.std.specs.Prelude.{Some};

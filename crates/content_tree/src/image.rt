@@ -3,6 +3,7 @@
 //! Inside, an `AllocError` alone is answered, and a value is taken where it stands: its owned texts
 //! and bytes are moved out of it, and the rest of it is dropped at the end. So no item stands in
 //! the frame of a level, and what holds parts has a function of its own.
+
 ghost use Rattle.std.specs.Prelude.{◌≡◌, None, Ok, IsOk, IfOk, IfErr, IfSome};
 ghost use Rattle.content_tree.specs.Values.Value.{tree_of, tree_data_of, struct_tree, enum_tree};
 ghost use Rattle.content_tree.specs.Values.Value.{held_view, trees_view, pairs_view, fields_view};
@@ -97,7 +98,7 @@ pub(crate) fn found_enum<'a, 'n>(
     name_enum(alloc, &mut node.name, &mut node.variant, inside)
 }
 
-// The image of a struct of this name.
+/// The image of a struct of this name.
 #[inline(never)]
 fn name_struct<'n>(
     alloc: Global,
@@ -111,7 +112,7 @@ fn name_struct<'n>(
     Ok(Found::Struct { name, data: inside })
 }
 
-// The image of a variant of these names.
+/// The image of a variant of these names.
 #[inline(never)]
 fn name_enum<'n>(
     alloc: Global,
@@ -131,7 +132,7 @@ fn name_enum<'n>(
     })
 }
 
-// What holds images by place, in a box.
+/// What holds images by place, in a box.
 #[inline(never)]
 fn box_items(alloc: Global, items: Vec<Found>) -> StdResult<Box<FoundData>, AllocError>
     ensures { IfOk result (λ held. image_data_view held.value ≡ many (images_view items.items)) }
@@ -139,7 +140,7 @@ fn box_items(alloc: Global, items: Vec<Found>) -> StdResult<Box<FoundData>, Allo
     Ok(Box::new(alloc, FoundData::Tuple(items))?)
 }
 
-// What holds images by key, in a box.
+/// What holds images by key, in a box.
 #[inline(never)]
 fn box_fields(alloc: Global, fields: Vec<(String, Found)>) -> StdResult<Box<FoundData>, AllocError>
     ensures { IfOk result (λ held. image_data_view held.value ≡ named
@@ -148,7 +149,7 @@ fn box_fields(alloc: Global, fields: Vec<(String, Found)>) -> StdResult<Box<Foun
     Ok(Box::new(alloc, FoundData::Struct(fields))?)
 }
 
-// What holds one image, in a box.
+/// What holds one image, in a box.
 #[cycle(image)]
 #[inline(never)]
 fn found_newtype<'a, 'n>(

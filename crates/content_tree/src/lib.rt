@@ -1,4 +1,5 @@
 //! Trees of Serde's data model: the types, their conversions, errors and printed texts.
+
 #![tactic(auto)]
 
 mod compare;

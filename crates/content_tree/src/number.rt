@@ -1,4 +1,5 @@
 //! Whole numbers of ten kinds.
+
 ghost use Rattle.std.specs.Prelude.{◌≡◌};
 ghost use Rattle.content_tree.specs.declared.number.Number.{Number};
 

@@ -2,6 +2,7 @@
 //!
 //! Inside, an `AllocError` alone is answered, and what holds parts is made anew by a function of
 //! its own, so that a level of a deep value takes little stack.
+
 ghost use Rattle.std.specs.Prelude.{◌≡◌, None, Ok, IsOk, IfOk, IfErr, IfSome};
 ghost use Rattle.content_tree.specs.Errors.Kind.{IsOutOfMemory};
 ghost use Rattle.content_tree.specs.Memory.{OwningTakesNoMemory, StructOwningTakesNoMemory};

@@ -1,4 +1,5 @@
 //! Texts in quotes.
+
 #![tactic(auto, using(crate::proofs::Printing::two_writes, crate::proofs::Printing::three_writes, crate::proofs::Printing::four_writes))]
 
 ghost use Rattle.std.specs.Prelude.{◌≡◌, ◌<◌, ◌++◌, true, length, flat_map, position};
@@ -33,7 +34,7 @@ fn write_escaped<W: fmt::Write>(text: &str, f: &mut fmt::Formatter<W>) -> fmt::R
     f.write_str(rest)
 }
 
-// What is printed as it is, the first character that isn't, and what follows it.
+/// What is printed as it is, the first character that isn't, and what follows it.
 fn split_at_escape(text: &str) -> Option<(&str, u8, &str)>
     ensures printed { MatchOption result (flat_map escaped (chars text.now) ≡ text.now)
         (λ cut. flat_map escaped (chars text.now)
@@ -51,7 +52,7 @@ fn first_escape(text: &str) -> Option<usize>
     text.as_bytes().iter().position(|byte| has_escape(*byte))
 }
 
-// A byte that has one is a character of its own, so a text may be cut before it and after it.
+/// A byte that has one is a character of its own, so a text may be cut before it and after it.
 fn has_escape(byte: u8) -> bool
     ensures { result ≡ has_escape byte }
 {

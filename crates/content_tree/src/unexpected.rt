@@ -1,4 +1,5 @@
 //! Errors of finding something else than what was expected.
+
 ghost use Rattle.std.specs.Prelude.{Bool, true, false, ◌≡◌, MatchResult};
 ghost use Rattle.content_tree.specs.declared.error.ErrorKind.TheVariants as kind;
 ghost use Rattle.content_tree.specs.Values.Value.{tree_of, struct_tree, enum_tree};

@@ -107,7 +107,7 @@ abbrev mutual
   flat_fields no_fields = []
   flat_fields (field_then k t fs) = cell (key k) 1 ∷ (flat t ++ flat_fields fs)
 
--- what an open head waits for
+-- what an opening waits for
 pub data Wait : Type 0 where
   child : Wait
   item : ItemCall → Wait
@@ -121,7 +121,7 @@ pub data Wait : Type 0 where
   in_record : Wait
   deriving IsSet as Wait-set
 
--- an open head: its place on the tape, where the last value of a map begins or 0, and what it waits for
+-- an opening: its place on the tape, where the last value of a map begins or 0, and what it waits for
 pub data Open : Type 0 where
   opened : ℕ → ℕ → Wait → Open
   deriving IsSet as Open-set

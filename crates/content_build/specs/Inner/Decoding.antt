@@ -66,7 +66,7 @@ series_at (cell (headed sort names) n) = token.series_head (head_from names)
 series_at (cell tuple n) = token.series_tuple
 series_at c = token.series_seq
 
--- the slot of an open head that waits for this, with what stands inside it
+-- the slot of an opening that waits for this, with what stands inside it
 abbrev pub slot_of : Wait → Cell → List Cell → Slot
 slot_of child c inside = partial.child (wrap_at c)
 slot_of (item m) c inside = partial.element (series_at c) (all_trees (read inside []))
@@ -88,7 +88,7 @@ abbrev pub slots_of : List Cell → List Open → List Slot
 slots_of cs [] = []
 slots_of cs (opened at last w ∷ os) = slot_of w (get_or cs at nowhere) (drop (at + 1) cs) ∷ slots_of (take at cs) os
 
--- the partial tree whose innermost head waits for this
+-- the partial tree whose innermost opening waits for this
 abbrev pub standing : Wait → Cell → List Cell → List Slot → Partial
 standing child c inside ps = partial.due (slot_of child c inside ∷ ps)
 standing (item m) c inside ps = partial.due (slot_of (item m) c inside ∷ ps)

@@ -52,11 +52,11 @@ node_view (node.Struct s n) = cells.headed (sort_view s) (cells.of_struct (stati
 node_view (node.Variant s i n v) = cells.headed (sort_view s) (cells.of_variant (static_name n.now) i (static_name v.now))
 node_view (node.Key k) = cells.key (static_name k.now)
 
--- an entry
+-- a frame
 abbrev pub frame_view : Frame → Cell
 frame_view e = cell (node_view e.node) e.size
 
--- what an open head waits for
+-- what an opening waits for
 abbrev pub wait_view : Waits → Wait
 wait_view waits.Child = cells.child
 wait_view waits.Element = cells.item element
@@ -71,7 +71,7 @@ wait_view waits.InTupleFields = cells.in_series tuple_field
 wait_view waits.InMap = cells.in_map
 wait_view waits.InRecord = cells.in_record
 
--- an open head
+-- an opening
 abbrev pub open_view : Opening → Open
 open_view h = opened h.at h.last (wait_view h.waits)
 

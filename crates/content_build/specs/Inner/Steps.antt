@@ -11,12 +11,12 @@ IsDue (due ps) = Unit {0}
 IsDue (between c ps) = ⊥
 IsDue (done t) = ⊥
 
--- where a tree is due this call opens a head of this node, which waits for this
+-- where a tree is due this call opens this node, which waits for this
 abbrev pub Opens : Token → Node → Wait → Type 0
 Opens call node w = (ps : List Slot) → (next : Partial) × (begin ps call ≡ Option.Some next)
     × Stood (slots_cells ps ++ cell node 0 ∷ []) (opened (length (slots_cells ps)) 0 w ∷ slots_opens ps) next
 
--- no slot of the head waits
+-- no slot of the opening waits
 abbrev pub IsIdle : Wait → Type 0
 IsIdle (in_series m) = Unit {0}
 IsIdle in_map = Unit {0}

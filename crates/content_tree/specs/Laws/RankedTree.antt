@@ -127,11 +127,11 @@ mutual
   tree_as (present a) (present b) = tree_as a b ∙ sym (then_equal _)
   tree_as (structure n p) (structure m q) = ap (ordering_then (text_cmp n m)) (data_as p q ∙ sym (then_equal _))
   tree_as (enumeration n i v p) (enumeration m j w q) =
-      let data = data_as p q ∙ sym (then_equal _) in
+      let inside = data_as p q ∙ sym (then_equal _) in
       let rest = ordering_then (ranked_cmp (rank_data p) (rank_data q)) Equal in
       let labels = then_equal (ordering_then (nat_cmp i j) (text_cmp v w)) in
       let variants = ap (λ o. ordering_then o rest) labels ∙ then_assoc (nat_cmp i j) (text_cmp v w) rest in
-      let places = ap (λ o. ordering_then (nat_cmp i j) (ordering_then (text_cmp v w) o)) data in
+      let places = ap (λ o. ordering_then (nat_cmp i j) (ordering_then (text_cmp v w) o)) inside in
       ap (ordering_then (text_cmp n m)) (places ∙ sym variants)
   tree_as (tuple a) (tuple b) = trees_as a b
   tree_as t u = refl

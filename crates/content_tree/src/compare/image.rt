@@ -1,4 +1,5 @@
-//! The comparison of two images, case by case; it stops at the first difference.
+//! The comparison of two images, case by case; it stops at the first difference. It is the one of
+//! values over another type: to make either out of the other would take memory.
 
 ghost use Rattle.std.specs.Prelude.{◌≡◌};
 ghost use Rattle.std.specs.Ordering.{ordering_then};

@@ -2,6 +2,7 @@
 //!
 //! What holds parts is written by functions of their own that aren't inlined, so that a level of a
 //! deep value takes little stack.
+
 #![tactic(auto, using(crate::proofs::Printing::two_writes, crate::proofs::Printing::three_writes, crate::proofs::Printing::four_writes))]
 
 ghost use Rattle.std.specs.Prelude.{◌≡◌, Some, codes, ◌++◌, []};
