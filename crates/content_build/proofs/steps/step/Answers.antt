@@ -17,12 +17,12 @@ returns-in-Present c =
 
 pub returns-in-Seq : goal.returns-in-Seq
 returns-in-Seq c =
-    subst (λ call. TakenTo (step_token (meaning c.args.frames.now.items c.args.openings.now.items) call) c.open-in-Seq.result c.open-in-Seq.new.frames.items c.open-in-Seq.new.openings.items) (sym (ap token_view c.in-Row.is ∙ ap (λ r. token.open_series (series_view r)) c.in-Seq.is))
+    subst (λ call. TakenTo (step_token (meaning c.args.frames.now.items c.args.openings.now.items) call) c.open-in-Seq.result c.open-in-Seq.new.frames.items c.open-in-Seq.new.openings.items) (sym (ap token_view c.in-Series.is ∙ ap (λ r. token.open_series (series_view r)) c.in-Seq.is))
     (c.open-in-Seq.ensures (token.open_series token.series_seq) (opens_series token.series_seq))
 
 pub returns-in-Tuple : goal.returns-in-Tuple
 returns-in-Tuple c =
-    subst (λ call. TakenTo (step_token (meaning c.args.frames.now.items c.args.openings.now.items) call) c.open-in-Tuple.result c.open-in-Tuple.new.frames.items c.open-in-Tuple.new.openings.items) (sym (ap token_view c.in-Row.is ∙ ap (λ r. token.open_series (series_view r)) c.in-Tuple.is))
+    subst (λ call. TakenTo (step_token (meaning c.args.frames.now.items c.args.openings.now.items) call) c.open-in-Tuple.result c.open-in-Tuple.new.frames.items c.open-in-Tuple.new.openings.items) (sym (ap token_view c.in-Series.is ∙ ap (λ r. token.open_series (series_view r)) c.in-Tuple.is))
     (c.open-in-Tuple.ensures (token.open_series token.series_tuple) (opens_series token.series_tuple))
 
 pub returns-in-Map : goal.returns-in-Map
@@ -39,7 +39,7 @@ returns-in-Head c =
 pub returns-in-Head-series : goal.returns-in-Head-series
 returns-in-Head-series c =
     let head = head_of c.in-Head-series.head in
-    subst (λ call. TakenTo (step_token (meaning c.args.frames.now.items c.args.openings.now.items) call) c.open-in-Head-series.result c.open-in-Head-series.new.frames.items c.open-in-Head-series.new.openings.items) (sym (ap token_view c.in-Row.is ∙ ap (λ r. token.open_series (series_view r)) c.in-Head-series.is))
+    subst (λ call. TakenTo (step_token (meaning c.args.frames.now.items c.args.openings.now.items) call) c.open-in-Head-series.result c.open-in-Head-series.new.frames.items c.open-in-Head-series.new.openings.items) (sym (ap token_view c.in-Series.is ∙ ap (λ r. token.open_series (series_view r)) c.in-Head-series.is))
     (c.open-in-Head-series.ensures (token.open_series (token.series_head head)) (subst (λ n. Opens (token.open_series (token.series_head head)) n (in_series token.tuple_field)) (sym c.headed-in-Head-series.ensures) (opens_series (token.series_head head))))
 
 pub returns-in-Record : goal.returns-in-Record
