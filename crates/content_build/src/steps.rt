@@ -216,34 +216,17 @@ pub(crate) fn step(
         (step_token (meaning frames.old.items openings.old.items) (token_view call.entry))
         result frames.new.items openings.new.items }
 {
-    match call {
-        Token::Leaf(leaf) => put(alloc, frames, openings, leaf),
-        Token::Wrap(wrap) => match wrap {
-            Wrap::Present => open(frames, openings, Node::Present, Waits::Child),
-            Wrap::Head(head) => open(frames, openings, headed(Sort::One, head), Waits::Child),
-        },
-        Token::Series(series) => match series {
-            Series::Seq => open(frames, openings, Node::Seq, Waits::InElements),
-            Series::Tuple => open(frames, openings, Node::Tuple, Waits::InElements),
-            Series::Head(head) => {
-                open(
-                    frames,
-                    openings,
-                    headed(Sort::Many, head),
-                    Waits::InTupleFields,
-                )
-            }
-        },
-        Token::Map => open(frames, openings, Node::Map, Waits::InMap),
-        Token::Record(head) => {
-            open(
-                frames,
-                openings,
-                headed(Sort::Fields, head),
-                Waits::InRecord,
-            )
-        }
-        Token::Item(item) => announce(frames, openings, item),
-        Token::End => end(frames, openings),
-    }
+    let (node, waits) = match call {
+        Token::Leaf(leaf) => return put(alloc, frames, openings, leaf),
+        Token::Item(item) => return announce(frames, openings, item),
+        Token::End => return end(frames, openings),
+        Token::Wrap(Wrap::Present) => (Node::Present, Waits::Child),
+        Token::Wrap(Wrap::Head(head)) => (headed(Sort::One, head), Waits::Child),
+        Token::Series(Series::Seq) => (Node::Seq, Waits::InElements),
+        Token::Series(Series::Tuple) => (Node::Tuple, Waits::InElements),
+        Token::Series(Series::Head(head)) => (headed(Sort::Many, head), Waits::InTupleFields),
+        Token::Map => (Node::Map, Waits::InMap),
+        Token::Record(head) => (headed(Sort::Fields, head), Waits::InRecord),
+    };
+    open(frames, openings, node, waits)
 }
