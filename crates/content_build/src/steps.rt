@@ -220,11 +220,15 @@ pub(crate) fn step(
         Token::Leaf(leaf) => return put(alloc, frames, openings, leaf),
         Token::Item(item) => return announce(frames, openings, item),
         Token::End => return end(frames, openings),
-        Token::Wrap(Wrap::Present) => (Node::Present, Waits::Child),
-        Token::Wrap(Wrap::Head(head)) => (headed(Sort::One, head), Waits::Child),
-        Token::Series(Series::Seq) => (Node::Seq, Waits::InElements),
-        Token::Series(Series::Tuple) => (Node::Tuple, Waits::InElements),
-        Token::Series(Series::Head(head)) => (headed(Sort::Many, head), Waits::InTupleFields),
+        Token::Wrap(wrap) => match wrap {
+            Wrap::Present => (Node::Present, Waits::Child),
+            Wrap::Head(head) => (headed(Sort::One, head), Waits::Child),
+        },
+        Token::Series(series) => match series {
+            Series::Seq => (Node::Seq, Waits::InElements),
+            Series::Tuple => (Node::Tuple, Waits::InElements),
+            Series::Head(head) => (headed(Sort::Many, head), Waits::InTupleFields),
+        },
         Token::Map => (Node::Map, Waits::InMap),
         Token::Record(head) => (headed(Sort::Fields, head), Waits::InRecord),
     };

@@ -21,7 +21,7 @@ named_tree (of_struct n) d = tree.structure n d
 named_tree (of_variant n i v) d = tree.enumeration n i v d
 
 -- the tree of a leaf
-abbrev pub leaf_tree : LeafCall → Tree
+abbrev pub leaf_tree : Leaf → Tree
 leaf_tree cells.unit = tree.unit
 leaf_tree cells.absent = tree.absent
 leaf_tree (cells.boolean b) = tree.boolean b
