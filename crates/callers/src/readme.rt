@@ -9,10 +9,12 @@ use std::test::Fail;
 fn the_readme_is_right(rt: HostRuntime) -> Result<(), Fail> {
     let alloc = rt.alloc();
 
-    // What can be serialised becomes a value, which prints, and is read again as typed data.
+    // What can be serialised becomes a value, which prints, lends what stands in it, and is read
+    // again as typed data.
     let value = Serializer::new().serialize(alloc, &Point { x: 1, y: 2 })?;
     let text = format!(in alloc; "{}", value.display())?;
     assert!(rt; text.as_str() == "Point { x: 1i32, y: 2i32 }");
+    assert!(rt; value.get_str("x").and_then(|x| x.as_i64()) == Some(1));
     let point: Point = Deserializer::new(value).deserialize(alloc)?;
     assert!(rt; point == Point { x: 1, y: 2 });
 

@@ -1,16 +1,18 @@
 //! What a value is read by.
 
-ghost use Rattle.std.specs.Prelude.{◌≡◌, true, IfOk, IfErr};
+ghost use Rattle.std.specs.Prelude.{◌≡◌, ◌≢◌, true, IfOk, IfErr};
+ghost use Rattle.content_tree.specs.Errors.Cause.{expectation_of, out_of_memory};
 ghost use Rattle.content_tree.specs.Errors.Kind.{IsOutOfMemory};
 ghost use Rattle.content_tree.specs.Values.Text.{text_of};
 ghost use Rattle.content_tree.specs.Values.Value.{tree_of};
+ghost use Rattle.content_de.specs.Outcomes.{cause, mismatch};
 ghost use Rattle.content_de.specs.Sources.Origin.{of_tree, of_identifier, IsIdentifier};
 ghost use Rattle.content_de.specs.Sources.Origin.{no_flags, tree_under};
 ghost use Rattle.content_de.specs.Sources.Origin.{subject_under};
 ghost use Rattle.content_de.specs.Sources.Deserializer.{flags_of, subject};
 
 use crate::source::{Flags, Source};
-use content_tree::{CowStr, NamedValue, Result};
+use content_tree::{CowStr, Error, Expected, NamedValue, Result};
 use std::alloc::Global;
 
 /// A value, or a key or a tag inside one, with two flags, to be read by one request. The name, the
@@ -131,6 +133,15 @@ impl<'de, 'n> Deserializer<'de, 'n> {
                 flags,
             }),
         }
+    }
+
+    /// The refusal of what is read, where a type of a caller's own expects this: the error shows
+    /// what was found and what was expected. Where an allocation fails: out of memory in its place.
+    pub fn unexpected(self, alloc: Global, expected: Expected) -> Error
+        ensures { cause result ≢ out_of_memory →
+            cause result ≡ mismatch (subject self.entry).origin (expectation_of expected) }
+    {
+        self.source.refuse(alloc, expected)
     }
 
     /// A value inside another, under its flags.

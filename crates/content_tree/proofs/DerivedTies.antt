@@ -1,6 +1,6 @@
 -- What `==` decides where it is derived.
-use Rattle.std.proofs.Common.{◌≡◌, ℕ, List, refl, ap, sym, subst, ◌∙◌, Option, None, Some, String}
-use Rattle.std.proofs.Common.{Global, Ordering, nat_cmp}
+use Rattle.std.proofs.Common.{◌≡◌, refl, ap, sym, subst, ◌∙◌, Option, None, Some, String}
+use Rattle.std.proofs.Common.{Global, Ordering}
 use Rattle.std.specs.Prelude.{string_bytes, option_map}
 use Rattle.std.specs.Bool.{Decides}
 use Rattle.std.specs.Ordering.{is_eq, ordering_then}
@@ -10,12 +10,11 @@ use Rattle.content_tree.proofs.SameImage.{images_tie}
 use Rattle.content_tree.proofs.DerivedOrders.{number_order, type_order, expected_order, kind_order}
 use Rattle.content_tree.proofs.DerivedOrders.{error_order}
 use Rattle.content_tree.specs.Images.Found.{image_view}
-use Rattle.content_tree.specs.Errors.Cause.{name_view, expectation_of, structure, enumeration}
-use Rattle.content_tree.specs.Errors.Cause.{cause_of, unexpected, custom}
+use Rattle.content_tree.specs.Errors.Cause.{name_view, expectation_of}
+use Rattle.content_tree.specs.Errors.Cause.{cause_of, custom}
 use Rattle.content_tree.specs.Errors.Kind.{kind_of}
-use Rattle.content_tree.specs.Orders.Trees.{number_cmp}
 use Rattle.content_tree.specs.Orders.Images.{string_cmp, image_cmp}
-use Rattle.content_tree.specs.Orders.Errors.{type_cmp, expected_cmp, kind_cmp, error_cmp}
+use Rattle.content_tree.specs.Orders.Errors.{type_cmp, expected_cmp, kind_cmp}
 use Rattle.content_tree.specs.declared.number.Number.{Number}
 use Rattle.content_tree.specs.declared.expected.DataType.{DataType}
 use Rattle.content_tree.specs.declared.expected.DataType.TheVariants as kind

@@ -1,13 +1,12 @@
 -- What takes no memory: nothing in it is copied, and there is no list and no box to make.
-use Rattle.std.specs.Prelude.{Bool, true, false, not, ◌&&◌, IsTrue, List, Option, Some, None}
+use Rattle.std.specs.Prelude.{Bool, true, false, not, ◌&&◌, IsTrue, Some}
 use Rattle.content_tree.specs.Values.Text.{Text}
 use Rattle.content_tree.specs.Values.Tree as tree
 use Rattle.content_tree.specs.Values.Tree.{Tree, TreeData}
 use Rattle.content_tree.specs.Images.Image as image
 use Rattle.content_tree.specs.Images.Image.{Image, ImageData}
-use Rattle.content_tree.specs.Errors.Cause.{Expectation, structure, enumeration, nameless, Cause}
-use Rattle.content_tree.specs.Errors.Cause.{unexpected, custom, out_of_memory, misplaced, failed}
-use Rattle.content_tree.specs.Errors.Cause.{unfinished}
+use Rattle.content_tree.specs.Errors.Cause.{Expectation, structure, enumeration, Cause}
+use Rattle.content_tree.specs.Errors.Cause.{unexpected, custom}
 
 -- a value without parts, whose text or bytes, if it has any, take none by `is_free_text`
 abbrev pub is_free_tree : (is_free_text : Text → Bool) → Tree → Bool

@@ -4,3 +4,4 @@ pub mod Cases
 pub mod Tree
 pub mod Value
 pub mod Ranges
+pub mod Lookups

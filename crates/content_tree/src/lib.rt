@@ -14,6 +14,7 @@ mod expected;
 mod found;
 mod image;
 pub mod laws;
+mod lookup;
 mod number;
 mod owned;
 mod quote;

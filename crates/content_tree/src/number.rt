@@ -1,6 +1,8 @@
-//! Whole numbers of ten kinds.
+//! Numbers of ten kinds.
 
-ghost use Rattle.std.specs.Prelude.{◌≡◌};
+ghost use Rattle.std.specs.Prelude.{◌≡◌, pos, option_map};
+ghost use Rattle.content_tree.specs.Values.Lookups.{value_as};
+ghost use Rattle.content_tree.specs.Values.Ranges.{i64, u64, i128, u128};
 ghost use Rattle.content_tree.specs.declared.number.Number.{Number};
 
 /// A whole number with its kind, within that kind's range. As `serde-content`'s, without floats.
@@ -26,6 +28,65 @@ pub enum Number {
     I128(i128),
     /// An unsigned number of 128 bits.
     U128(u128),
+}
+
+/// The number's value, whatever its kind, where it lies in a range. None takes memory.
+impl Number {
+    /// The value, where it lies in the range of `i128`.
+    pub fn as_i128(self) -> Option<i128>
+        ensures { result ≡ value_as i128 self }
+    {
+        match self {
+            Number::I8(value) => Some(i128::from(value)),
+            Number::U8(value) => Some(i128::from(value)),
+            Number::I16(value) => Some(i128::from(value)),
+            Number::U16(value) => Some(i128::from(value)),
+            Number::I32(value) => Some(i128::from(value)),
+            Number::U32(value) => Some(i128::from(value)),
+            Number::I64(value) => Some(i128::from(value)),
+            Number::U64(value) => Some(i128::from(value)),
+            Number::I128(value) => Some(value),
+            Number::U128(value) => i128::try_from(value).ok(),
+        }
+    }
+
+    /// The value, where it lies in the range of `u128`.
+    pub fn as_u128(self) -> Option<u128>
+        ensures { option_map pos result ≡ value_as u128 self }
+    {
+        match self {
+            Number::I8(value) => u128::try_from(value).ok(),
+            Number::U8(value) => Some(u128::from(value)),
+            Number::I16(value) => u128::try_from(value).ok(),
+            Number::U16(value) => Some(u128::from(value)),
+            Number::I32(value) => u128::try_from(value).ok(),
+            Number::U32(value) => Some(u128::from(value)),
+            Number::I64(value) => u128::try_from(value).ok(),
+            Number::U64(value) => Some(u128::from(value)),
+            Number::I128(value) => u128::try_from(value).ok(),
+            Number::U128(value) => Some(value),
+        }
+    }
+
+    /// The value, where it lies in the range of `i64`.
+    pub fn as_i64(self) -> Option<i64>
+        ensures { result ≡ value_as i64 self }
+    {
+        match self.as_i128() {
+            Some(value) => i64::try_from(value).ok(),
+            None => None,
+        }
+    }
+
+    /// The value, where it lies in the range of `u64`.
+    pub fn as_u64(self) -> Option<u64>
+        ensures { option_map pos result ≡ value_as u64 self }
+    {
+        match self.as_u128() {
+            Some(value) => u64::try_from(value).ok(),
+            None => None,
+        }
+    }
 }
 
 /// A signed number of 8 bits, with that kind. It takes no memory.

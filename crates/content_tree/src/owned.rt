@@ -216,7 +216,11 @@ fn own_items<'a, 'n>(
 {
     let mut owned = Vec::with_capacity(alloc, items.len())?;
     for item in items {
-        owned.push_reserved(own_value(alloc, item)?);
+        match item {
+            // The commonest leaf is moved with no answer on the way.
+            NamedValue::Number(number) => owned.push_reserved(NamedValue::Number(number)),
+            item => owned.push_reserved(own_value(alloc, item)?),
+        }
     }
     Ok(owned)
 }
@@ -233,8 +237,10 @@ fn own_pairs<'a, 'n>(
     let mut owned = Vec::with_capacity(alloc, pairs.len())?;
     for (key, value) in pairs {
         let key = own_value(alloc, key)?;
-        let value = own_value(alloc, value)?;
-        owned.push_reserved((key, value));
+        match value {
+            NamedValue::Number(number) => owned.push_reserved((key, NamedValue::Number(number))),
+            value => owned.push_reserved((key, own_value(alloc, value)?)),
+        }
     }
     Ok(owned)
 }
@@ -250,8 +256,10 @@ fn own_fields<'a, 'n>(
 {
     let mut owned = Vec::with_capacity(alloc, fields.len())?;
     for (key, value) in fields {
-        let value = own_value(alloc, value)?;
-        owned.push_reserved((key, value));
+        match value {
+            NamedValue::Number(number) => owned.push_reserved((key, NamedValue::Number(number))),
+            value => owned.push_reserved((key, own_value(alloc, value)?)),
+        }
     }
     Ok(owned)
 }

@@ -6,12 +6,11 @@ ghost use Rattle.content_tree.specs.Values.Tree.{Tree};
 ghost use Rattle.content_tree.specs.Values.Value.{tree_of};
 ghost use Rattle.content_ser.specs.Grammar.Spells.{SpellsWhole};
 ghost use Rattle.content_ser.specs.Scripts.Script.{calls_of};
-ghost use Rattle.content_build.specs.Serializer.{Serialized};
 ghost use Rattle.content_de.specs.Sources.Deserializer.{subject};
 ghost use Rattle.content_de.specs.Sources.Origin.{tree_under};
 ghost use Rattle.serde_content.specs.RoundTrip.{ComesBack, CoercionKeeps, flags};
 
-use content_build::Builder;
+use crate::to_value::to_value;
 use content_de::{Deserialize, Deserializer};
 use content_ser::Serialize;
 use content_tree::{NamedValue, Result, Value};
@@ -69,17 +68,8 @@ pub fn round_trip<'de, T: RoundTrip<'de>>(
     ensures memory { IfErr result (λ e. IsOutOfMemory e) }
 {
     value.known();
-    let sent = send(alloc, value, human_readable)?;
+    let sent = to_value(alloc, value, human_readable)?;
     T::deserialize(alloc, under(sent, human_readable, coerce))
-}
-
-/// The tree that the value's calls spell, as `Serializer::serialize` answers it, at any lifetime.
-fn send<'v, T: Serialize>(alloc: Global, value: &T, human_readable: bool) -> Result<Value<'v>>
-    ensures { Serialized (T.script value.now human_readable) result }
-{
-    let mut builder: Builder<'v> = Builder::new(alloc, human_readable);
-    value.serialize(alloc, &mut builder)?;
-    builder.finish()
 }
 
 /// Reads this value under these flags.

@@ -1,5 +1,5 @@
 -- The ten kinds of numbers, and the range of each.
-use Rattle.std.specs.Prelude.{ℕ, ℤ, pos, negsuc, Bool, true, false, int_le, ◌&&◌}
+use Rattle.std.specs.Prelude.{ℤ, pos, negsuc, Bool, true, false, int_le, ◌&&◌}
 use Rattle.content_tree.specs.declared.number.Number.{Number}
 use Rattle.content_tree.specs.declared.number.Number.TheVariants as n
 

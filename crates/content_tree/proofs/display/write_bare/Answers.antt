@@ -1,4 +1,4 @@
-use Rattle.std.proofs.Common.{rules, sym, subst}
+use Rattle.std.proofs.Common.{subst}
 use Rattle.std.specs.Fmt.{WritesStyledOnOk}
 use Rattle.content_tree.proofs.Printing.{shown_bare}
 use Rattle.content_tree.proofs.display.write_bare.Goals as goal
