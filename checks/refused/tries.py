@@ -12,8 +12,9 @@ from typing import NamedTuple
 
 top, room, folder = sys.argv[1:]
 here = f"{top}/checks/refused"
-PROGRAMS_OF_ROWS = ("content_rows", "reading_rows")
-PROGRAMS = ("content_cli", "memory_checks", *PROGRAMS_OF_ROWS)
+PROGRAMS = ("content_cli", "memory_checks", "check_rows")
+# the operations that read: of their rows, the request or the type is of the sort too
+READS = (b"access", b"ask", b"enum", b"into", b"order", b"read", b"round_trip")
 AGREES = (b"1 rows agree, 0 differ\n", 0)
 OUT_OF_MEMORY = (b"out of memory\n", 3)
 READ_FAILED = {"content_cli": (b"read failed\n", 4)}
@@ -131,15 +132,13 @@ def contents(path):
         return file.read()
 
 
-def rows_of(program):
-    """Some rows of each sort of a program of rows, none of them long."""
+def some_rows():
+    """Some rows of each sort, none of them long."""
     sorts = {}
-    for row in contents(f"{top}/crates/{program}/stdin").splitlines():
+    for row in contents(f"{top}/crates/check_rows/stdin").splitlines():
         fields = row.split(b"\t")
         if len(row) < 300 and b"<<" not in row:
-            # of what is asked or read, the request or the type as well
-            is_read = program == "reading_rows" and len(fields) > 3
-            sort = (fields[0], fields[2] if is_read else b"")
+            sort = (fields[0], fields[2] if fields[0] in READS else b"")
             sorts.setdefault(sort, []).append(row)
     for sort, rows in sorts.items():
         count = min(len(rows), 4 if sort[1] else 20)
@@ -147,8 +146,8 @@ def rows_of(program):
 
 
 def cases():
-    """Each program with each small input: a program of rows has one row a run, some of each sort
-    and one that differs."""
+    """Each program with each small input: that of the rows has one row a run, some of each sort
+    and two that differ."""
     # an input, `-> STATUS ANSWER`, and an empty line where another input follows
     lines = re.split(rb"(?m)^-> (\d) (.*\n)\n?", contents(f"{here}/lines"))
     for text, status, answer in zip(lines[::3], lines[1::3], lines[2::3]):
@@ -156,13 +155,12 @@ def cases():
     if lines[-1]:
         sys.exit(f"{here}/lines: no answer stands behind {lines[-1]!r}")
     yield Case("memory_checks", b"", (contents(f"{top}/crates/memory_checks/stdout"), 0))
-    for program in PROGRAMS_OF_ROWS:
-        for row in rows_of(program):
-            yield Case(program, row + b"\n", AGREES)
+    for row in some_rows():
+        yield Case("check_rows", row + b"\n", AGREES)
     differs = b"line 1: copy: got None, wanted ()\n0 rows agree, 1 differ\n", 1
-    yield Case("content_rows", b"copy\tNone\t()\n", differs)
+    yield Case("check_rows", b"copy\tNone\t()\n", differs)
     differs = b"line 1: plain: got ok None, wanted ok ()\n0 rows agree, 1 differ\n", 1
-    yield Case("reading_rows", b"plain\tNone\tok ()\n", differs)
+    yield Case("check_rows", b"plain\tNone\tok ()\n", differs)
 
 
 def table(name):
@@ -201,7 +199,7 @@ def sort_case(sort, count):
     """An operation on an input of so many items."""
     text = written_out(sort.text, count)
     answer = written_out(sort.answer, count)
-    if sort.program in PROGRAMS_OF_ROWS:
+    if sort.program == "check_rows":
         return Case(sort.program, f"{text}\t{answer}\n".encode(), AGREES)
     lines = text.replace("; ", "\n")
     return Case(sort.program, f"{lines}\n".encode(), (f"{answer}\n".encode(), 0))

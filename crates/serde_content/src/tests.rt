@@ -1,5 +1,5 @@
 //! What needs a type, a serialiser or a session of its own, with expected values written by hand.
-//! All else is rows, which `content_rows` and `reading_rows` run.
+//! All else is rows, which `check_rows` runs.
 
 mod for_people;
 mod hostile;

@@ -1,0 +1,59 @@
+//! The two flags of a deserializer.
+
+use crate::failure::{Failure, Result};
+use serde_content::Deserializer;
+use std::alloc::Global;
+
+/// The two flags of a deserializer.
+#[derive(Clone, Copy, PartialEq, Eq)]
+pub struct Flags {
+    /// What is read was written for people.
+    pub human_readable: bool,
+    /// Numbers are coerced.
+    pub coerces: bool,
+}
+
+/// The flags that this word tells.
+pub fn read_flags(word: &str) -> Result<Flags> {
+    let (human_readable, coerces) = match word {
+        "-" => (false, false),
+        "h" => (true, false),
+        "c" => (false, true),
+        "hc" => (true, true),
+        _ => return Err(Failure::NoRow),
+    };
+    Ok(Flags {
+        human_readable,
+        coerces,
+    })
+}
+
+/// The word of these flags.
+pub fn flags_word(flags: Flags) -> &'static str {
+    match (flags.human_readable, flags.coerces) {
+        (false, false) => "-",
+        (true, false) => "h",
+        (false, true) => "c",
+        (true, true) => "hc",
+    }
+}
+
+/// The deserializer with these flags set.
+pub fn with_flags<'de, 'n>(mut from: Deserializer<'de, 'n>, flags: Flags) -> Deserializer<'de, 'n> {
+    if flags.human_readable {
+        from = from.human_readable();
+    }
+    if flags.coerces {
+        from = from.coerce_numbers();
+    }
+    from
+}
+
+/// The flags of a deserializer: numbers are coerced where it equals itself with numbers coerced.
+pub fn flags_of(alloc: Global, from: &Deserializer<'_, '_>) -> Result<Flags> {
+    let coerced = from.try_clone(alloc)?.coerce_numbers();
+    Ok(Flags {
+        human_readable: from.is_human_readable(),
+        coerces: *from == coerced,
+    })
+}

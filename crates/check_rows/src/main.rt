@@ -1,0 +1,35 @@
+//! Asks the libraries for the answer of each worked case of the standard input, and tells which
+//! differ.
+#![tactic(auto)]
+
+mod access;
+mod call;
+mod cursor;
+mod deserializer;
+mod expectation;
+mod failure;
+mod flags;
+mod kind;
+mod methods;
+mod names;
+mod number;
+mod operations;
+mod order;
+mod parted;
+mod piece;
+mod printable;
+mod quoted;
+mod request;
+mod row;
+mod run;
+mod samples;
+mod show;
+mod show_call;
+mod tree;
+mod unfold;
+
+use std::process::ExitCode;
+
+fn main(rt: HostRuntime) -> ExitCode {
+    ExitCode::from(run::run(&rt))
+}

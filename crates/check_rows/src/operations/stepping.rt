@@ -1,0 +1,137 @@
+//! Accesses, step by step.
+
+use crate::cursor::Cursor;
+use crate::deserializer::{read_deserializer, write_handed};
+use crate::failure::{Failure, Result};
+use crate::flags::read_flags;
+use crate::parted::Parted;
+use crate::piece::read_pieces;
+use crate::printable::write_listed;
+use crate::request::read_request;
+use serde_content::de::{Deserialize, Map, Seq};
+use std::alloc::Global;
+use std::fmt::Debug;
+
+/// What an access answers to each step.
+pub fn access(out: &mut String, columns: &mut Parted<'_>) -> Result<()> {
+    let alloc = *out.allocator();
+    let flags = read_flags(columns.next()?)?;
+    let request = read_request(columns.next()?)?;
+    let steps = columns.next()?;
+    let pieces = read_pieces(alloc, columns.next()?)?;
+    let from = read_deserializer(&mut Cursor::new(alloc, pieces.as_slice()), flags)?;
+    match request.word {
+        "seq" => write_seq_steps(out, steps, from.deserialize_seq(alloc)?),
+        "map" => write_map_steps(out, steps, from.deserialize_map(alloc)?),
+        "struct" => {
+            let entries = from.deserialize_struct(alloc, request.name, &[])?;
+            write_map_steps(out, steps, entries)
+        }
+        _ => Err(Failure::NoRow),
+    }
+}
+
+/// Adds the answer of the step at this place.
+fn write_step(out: &mut String, place: usize, answer: Result<String>) -> Result<()> {
+    out.push_str(if place == 0 { "" } else { "; " })?;
+    let text = match answer {
+        Ok(text) => {
+            out.push_str("ok ")?;
+            text
+        }
+        Err(Failure::Refused(kind)) => {
+            out.push_str("refused ")?;
+            format!(in *out.allocator(); "{kind}")?
+        }
+        Err(failure) => return Err(failure),
+    };
+    Ok(write_listed(out, text.as_str())?)
+}
+
+/// A datum as it prints.
+fn told<T: Debug + Drop>(alloc: Global, datum: serde_content::Result<T>) -> Result<String> {
+    let datum = datum?;
+    Ok(format!(in alloc; "{datum:?}")?)
+}
+
+/// A size that is hinted at.
+fn size(alloc: Global, hint: Option<usize>) -> Result<String> {
+    match hint {
+        Some(size) => Ok(format!(in alloc; "{size}")?),
+        None => Ok(String::from_str(alloc, "None")?),
+    }
+}
+
+/// Adds what a sequence answers to each step.
+fn write_seq_steps<'de, 'n: 'de>(
+    out: &mut String,
+    steps: &str,
+    mut items: Seq<'de, 'n>,
+) -> Result<()> {
+    let alloc = *out.allocator();
+    for (place, step) in steps.split("; ").enumerate() {
+        let answer = match step {
+            "size_hint" => size(alloc, items.size_hint()),
+            "next_element<u8>" => told(alloc, items.next_element::<u8>(alloc)),
+            _ => return Err(Failure::NoRow),
+        };
+        write_step(out, place, answer)?;
+    }
+    Ok(())
+}
+
+/// Adds what a map answers to each step.
+fn write_map_steps<'de, 'n: 'de>(
+    out: &mut String,
+    steps: &str,
+    mut entries: Map<'de, 'n>,
+) -> Result<()> {
+    let alloc = *out.allocator();
+    for (place, step) in steps.split("; ").enumerate() {
+        let answer = match step {
+            "size_hint" => size(alloc, entries.size_hint()),
+            "next_key<()>" => told(alloc, entries.next_key::<()>(alloc)),
+            "next_key<bool>" => told(alloc, entries.next_key::<bool>(alloc)),
+            "next_key<u64>" => told(alloc, entries.next_key::<u64>(alloc)),
+            "next_key<i128>" => told(alloc, entries.next_key::<i128>(alloc)),
+            "next_key<String>" => told(alloc, entries.next_key::<String>(alloc)),
+            "next_value<bool>" => told(alloc, entries.next_value::<bool>(alloc)),
+            "next_value<u8>" => told(alloc, entries.next_value::<u8>(alloc)),
+            "next_entry<(), u8>" => next_entry::<(), u8>(alloc, &mut entries),
+            "next_entry<bool, u8>" => next_entry::<bool, u8>(alloc, &mut entries),
+            "next_entry<String, bool>" => next_entry::<String, bool>(alloc, &mut entries),
+            "next_entry<String, u8>" => next_entry::<String, u8>(alloc, &mut entries),
+            "next_entry_deserializers" => next_deserializers(alloc, &mut entries),
+            _ => return Err(Failure::NoRow),
+        };
+        write_step(out, place, answer)?;
+    }
+    Ok(())
+}
+
+/// The next entry as what reads its key and what reads its value.
+fn next_deserializers<'de, 'n: 'de>(alloc: Global, entries: &mut Map<'de, 'n>) -> Result<String> {
+    let mut out = String::new(alloc);
+    match entries.next_entry_deserializers(alloc)? {
+        None => out.push_str("None")?,
+        Some((key, value)) => {
+            out.push_str("Some(")?;
+            write_handed(&mut out, key)?;
+            out.push_str(" => ")?;
+            write_handed(&mut out, value)?;
+            out.push(')')?;
+        }
+    }
+    Ok(out)
+}
+
+/// The next entry as values of these types.
+fn next_entry<'de, 'n: 'de, K: Deserialize<'de> + Debug, V: Deserialize<'de> + Debug>(
+    alloc: Global,
+    entries: &mut Map<'de, 'n>,
+) -> Result<String> {
+    match entries.next_entry::<K, V>(alloc)? {
+        None => Ok(String::from_str(alloc, "None")?),
+        Some((key, value)) => Ok(format!(in alloc; "Some({key:?} => {value:?})")?),
+    }
+}

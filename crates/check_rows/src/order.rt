@@ -1,0 +1,32 @@
+//! The order of two things, as a row tells it.
+
+use crate::failure::Result;
+use std::cmp::Ordering;
+
+/// Whether `==`, `<`, `partial_cmp` and `cmp` the other way round say what this order says.
+fn is_agreed<T: Ord>(left: &T, right: &T, order: Ordering) -> bool {
+    (left == right) == order.is_eq()
+        && (left < right) == order.is_lt()
+        && left.partial_cmp(right) == Some(order)
+        && right.cmp(left) == order.reverse()
+}
+
+/// The order, or nothing where the comparisons contradict each other.
+pub fn order<T: Ord>(left: &T, right: &T) -> Option<Ordering> {
+    Some(left.cmp(right)).filter(|order| is_agreed(left, right, *order))
+}
+
+/// The order, where it is `Equal` just if a law says so.
+pub fn if_lawful(order: Option<Ordering>, equal: bool) -> Option<Ordering> {
+    order.filter(|order| order.is_eq() == equal)
+}
+
+/// Adds the word of an order.
+pub fn write_order(out: &mut String, order: Option<Ordering>) -> Result<()> {
+    Ok(out.push_str(match order {
+        None => "contradiction",
+        Some(Ordering::Less) => "less",
+        Some(Ordering::Equal) => "equal",
+        Some(Ordering::Greater) => "greater",
+    })?)
+}
