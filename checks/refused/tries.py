@@ -13,7 +13,7 @@ from typing import NamedTuple
 top, room, folder = sys.argv[1:]
 here = f"{top}/checks/refused"
 PROGRAMS_OF_ROWS = ("content_rows", "reading_rows")
-PROGRAMS = ("content_cli", "memory_checks", *PROGRAMS_OF_ROWS)
+PROGRAMS = ("content_cli", "check_memory", *PROGRAMS_OF_ROWS)
 AGREES = (b"1 rows agree, 0 differ\n", 0)
 OUT_OF_MEMORY = (b"out of memory\n", 3)
 READ_FAILED = {"content_cli": (b"read failed\n", 4)}
@@ -155,7 +155,7 @@ def cases():
         yield Case("content_cli", text, (answer, int(status)))
     if lines[-1]:
         sys.exit(f"{here}/lines: no answer stands behind {lines[-1]!r}")
-    yield Case("memory_checks", b"", (contents(f"{top}/crates/memory_checks/stdout"), 0))
+    yield Case("check_memory", b"", (contents(f"{top}/crates/check_memory/stdout"), 0))
     for program in PROGRAMS_OF_ROWS:
         for row in rows_of(program):
             yield Case(program, row + b"\n", AGREES)
