@@ -12,7 +12,7 @@ from typing import NamedTuple
 
 top, room, folder = sys.argv[1:]
 here = f"{top}/checks/refused"
-PROGRAMS = ("content_cli", "memory_checks", "check_rows")
+PROGRAMS = ("content_cli", "check_memory", "check_rows")
 # the operations that read: of their rows, the request or the type is of the sort too
 READS = (b"access", b"ask", b"enum", b"into", b"order", b"read", b"round_trip")
 AGREES = (b"1 rows agree, 0 differ\n", 0)
@@ -154,7 +154,7 @@ def cases():
         yield Case("content_cli", text, (answer, int(status)))
     if lines[-1]:
         sys.exit(f"{here}/lines: no answer stands behind {lines[-1]!r}")
-    yield Case("memory_checks", b"", (contents(f"{top}/crates/memory_checks/stdout"), 0))
+    yield Case("check_memory", b"", (contents(f"{top}/crates/check_memory/stdout"), 0))
     for row in some_rows():
         yield Case("check_rows", row + b"\n", AGREES)
     differs = b"line 1: copy: got None, wanted ()\n0 rows agree, 1 differ\n", 1

@@ -1,8 +1,8 @@
 use Rattle.std.proofs.Common.{◌∷◌, [], refl, arith}
 use Rattle.content_ser.specs.Calls.Event as event
 use Rattle.content_ser.specs.Grammar.Spells.{spells_series, elements_end}
-use Rattle.callers.proofs.Unplaced.{no_sequence}
-use Rattle.callers.proofs.building.unit_in_a_sequence.Goals as goal
+use Rattle.check_callers.proofs.Unplaced.{no_sequence}
+use Rattle.check_callers.proofs.building.unit_in_a_sequence.Goals as goal
 
 pub returns : goal.returns
 returns c =

@@ -1,6 +1,6 @@
 use Rattle.content_tree.specs.Values.Value.{tree_of}
-use Rattle.callers.proofs.Points.{point_calls, point_tree, point_spelled, read_back}
-use Rattle.callers.proofs.returning.same_point.Goals as goal
+use Rattle.check_callers.proofs.Points.{point_calls, point_tree, point_spelled, read_back}
+use Rattle.check_callers.proofs.returning.same_point.Goals as goal
 
 pub returns : goal.returns
 returns c =

@@ -1,8 +1,18 @@
-//! The values that are read, sent and compared. What holds something holds the number 7.
+//! The values that are copied, compared and read. What holds something holds the number 7.
 
 use crate::tally::Made;
-use serde_content::{CowStr, Data, Enum, Struct, Value};
+use serde_content::{CowBytes, CowStr, Data, Enum, Struct, Value};
 use std::alloc::Global;
+
+/// A text that is owned.
+pub fn text(alloc: Global) -> Made<CowStr<'static>> {
+    Ok(CowStr::Owned(String::from_str(alloc, "ab")?))
+}
+
+/// Bytes that are owned.
+pub fn bytes(alloc: Global) -> Made<CowBytes<'static>> {
+    Ok(CowBytes::Owned(vec![in alloc; 1u8, 2]?))
+}
 
 /// One item.
 pub fn items(alloc: Global) -> Made<Vec<Value<'static>>> {
@@ -10,8 +20,8 @@ pub fn items(alloc: Global) -> Made<Vec<Value<'static>>> {
 }
 
 /// A map of one entry.
-pub fn map(alloc: Global, key: &'static str, value: Value<'static>) -> Made<Value<'static>> {
-    Ok(Value::Map(vec![in alloc; (Value::from(key), value)]?))
+pub fn map(alloc: Global, key: &'static str) -> Made<Value<'static>> {
+    Ok(Value::Map(vec![in alloc; (Value::from(key), 7u8.into())]?))
 }
 
 /// One value.
@@ -29,11 +39,6 @@ pub fn places(alloc: Global) -> Made<Data<'static>> {
 pub fn fields(alloc: Global) -> Made<Data<'static>> {
     let fields = vec![in alloc; (CowStr::Borrowed("x"), 7u8.into())]?;
     Ok(Data::Struct { fields })
-}
-
-/// A present optional value.
-pub fn some(alloc: Global, value: Value<'static>) -> Made<Value<'static>> {
-    Ok(Value::Option(Some(Box::new(alloc, value)?)))
 }
 
 /// A struct, with no box.
