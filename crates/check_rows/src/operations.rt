@@ -5,6 +5,7 @@ mod building;
 mod comparing;
 mod converting;
 mod copying;
+mod looking;
 mod printing;
 mod reading;
 mod returning;
@@ -75,8 +76,11 @@ fn write_of_pieces(out: &mut String, operation: &str, pieces: &mut Pieces<'_>) -
         "error" => printing::error(out, pieces),
         "expected" => printing::expected(out, pieces),
         "from" => converting::from(out, pieces),
+        "get" => looking::get(out, pieces),
+        "get_str" => looking::get_str(out, pieces),
         "image" => printing::image(out, pieces),
         "kind" => printing::kind(out, pieces),
+        "lend" => looking::lend(out, pieces),
         "number_from" => converting::number_from(out, pieces),
         "own" => copying::own(out, pieces),
         "own_data" => copying::own_data(out, pieces),
