@@ -12,7 +12,7 @@ pub use content_tree::{
     ValueDisplay,
 };
 pub use round::{RoundTrip, round_trip};
-pub use to_value::to_value;
+pub use values::to_value;
 
 pub mod de;
 pub mod laws;
@@ -21,4 +21,4 @@ pub mod samples;
 pub mod ser;
 #[cfg(test)]
 mod tests;
-mod to_value;
+mod values;

@@ -10,7 +10,7 @@ ghost use Rattle.content_de.specs.Sources.Deserializer.{subject};
 ghost use Rattle.content_de.specs.Sources.Origin.{tree_under};
 ghost use Rattle.serde_content.specs.RoundTrip.{ComesBack, CoercionKeeps, flags};
 
-use crate::to_value::to_value;
+use crate::values::to_value;
 use content_de::{Deserialize, Deserializer};
 use content_ser::Serialize;
 use content_tree::{NamedValue, Result, Value};

@@ -1,6 +1,6 @@
 use Rattle.std.proofs.Common.{None}
 use Rattle.content_build.proofs.Serializing.{sends_err, sends_ok, without_limit}
-use Rattle.serde_content.proofs.to_value.to_value.Goals as goal
+use Rattle.serde_content.proofs.values.to_value.Goals as goal
 
 pub returns-in_err-serialize : goal.returns-in_err-serialize
 returns-in_err-serialize g c =
