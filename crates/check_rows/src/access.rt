@@ -4,7 +4,7 @@ use crate::deserializer::{write_handed, write_inside};
 use crate::failure::{Failure, Result};
 use crate::flags::{Flags, flags_word};
 use crate::show::{write_comma, write_text};
-use serde_content::de::{EnumAccess, Map, Node, Seq, VariantAccess};
+use serde_content::de::{Map, Node, Seq, VariantAccess};
 use serde_content::{CowStr, Deserializer, Error, ErrorKind, Expected, Found};
 use std::alloc::Global;
 
@@ -15,11 +15,7 @@ fn write_opening(out: &mut String, word: &str, flags: Flags) -> Result<()> {
 }
 
 /// Adds the items of a sequence.
-pub fn write_seq<'de, 'n: 'de>(
-    out: &mut String,
-    flags: Flags,
-    mut items: Seq<'de, 'n>,
-) -> Result<()> {
+pub fn write_seq(out: &mut String, flags: Flags, mut items: Seq<'_, 'static>) -> Result<()> {
     write_opening(out, "seq", flags)?;
     for place in 0..usize::MAX {
         let Some(item) = items.next_deserializer() else {
@@ -32,11 +28,7 @@ pub fn write_seq<'de, 'n: 'de>(
 }
 
 /// Adds the entries of a map, of each its key and then its value.
-pub fn write_map<'de, 'n: 'de>(
-    out: &mut String,
-    flags: Flags,
-    mut entries: Map<'de, 'n>,
-) -> Result<()> {
+pub fn write_map(out: &mut String, flags: Flags, mut entries: Map<'_, 'static>) -> Result<()> {
     let alloc = *out.allocator();
     write_opening(out, "map", flags)?;
     for place in 0..usize::MAX {
@@ -51,19 +43,22 @@ pub fn write_map<'de, 'n: 'de>(
     Ok(out.push(')')?)
 }
 
-/// The variant that is there: requested under a name, or as whatever is there.
-fn open<'de, 'n: 'de>(
+/// The tag of the variant that is there, and what it holds: requested under a name, or as whatever
+/// is there.
+fn open<'de>(
     alloc: Global,
-    from: Deserializer<'de, 'n>,
+    from: &Deserializer<'de, 'static>,
     name: Option<&'static str>,
-) -> Result<EnumAccess<'de, 'n>> {
-    match name {
-        Some(name) => Ok(from.deserialize_enum(alloc, name, &[])?),
+) -> Result<(Deserializer<'de, 'static>, VariantAccess<'de, 'static>)> {
+    let from = from.try_clone(alloc)?;
+    let access = match name {
+        Some(name) => from.deserialize_enum(alloc, name, &[])?,
         None => match from.deserialize_any(alloc)? {
-            Node::Enum(access) => Ok(access),
-            _ => Err(Failure::NoRow),
+            Node::Enum(access) => access,
+            _ => return Err(Failure::NoRow),
         },
-    }
+    };
+    Ok(access.variant_deserializer(alloc)?)
 }
 
 /// What was found, and the name of the enum that was expected.
@@ -84,11 +79,11 @@ fn refusal_of(error: Error) -> Result<(Found, String)> {
 /// What a variant refuses when it is asked for another sort than its own: the image of what it
 /// holds, and the name of the enum. Behind that stands what a newtype variant would hold, if it
 /// would.
-fn refused<'de, 'n: 'de>(
+fn refused<'de>(
     alloc: Global,
-    variant: VariantAccess<'de, 'n>,
-    same: VariantAccess<'de, 'n>,
-) -> Result<((Found, String), Option<Deserializer<'de, 'n>>)> {
+    variant: VariantAccess<'de, 'static>,
+    same: VariantAccess<'de, 'static>,
+) -> Result<((Found, String), Option<Deserializer<'de, 'static>>)> {
     match same.newtype_deserializer(alloc) {
         Ok(inner) => match variant.unit_variant(alloc) {
             Ok(()) => Err(Failure::NoRow),
@@ -108,12 +103,12 @@ fn has_image(alloc: Global, from: &Deserializer<'_, '_>, image: &Found) -> Resul
 
 /// Adds what a variant holds: nothing, the value of a map's entry, or the node of an enum. `found`
 /// is the image of that, `inner` what a newtype variant would hold, and `node` what was asked.
-fn write_held<'de, 'n: 'de>(
+fn write_held(
     out: &mut String,
     flags: Flags,
     found: &Found,
-    inner: Option<Deserializer<'de, 'n>>,
-    node: Deserializer<'de, 'n>,
+    inner: Option<Deserializer<'_, 'static>>,
+    node: Deserializer<'_, 'static>,
 ) -> Result<()> {
     let alloc = *out.allocator();
     if let Some(inner) = inner {
@@ -133,23 +128,33 @@ fn write_held<'de, 'n: 'de>(
     }
 }
 
-/// Adds the variant of an enum, requested under a name or as whatever is there: the name that
-/// errors say was expected, the tag, and what the variant holds.
-pub fn write_enum<'de, 'n: 'de>(
+/// Adds the name that errors say was expected, and the tag.
+fn write_tag(
     out: &mut String,
     flags: Flags,
-    from: Deserializer<'de, 'n>,
-    name: Option<&'static str>,
+    expected: String,
+    tag: Deserializer<'_, 'static>,
 ) -> Result<()> {
-    let alloc = *out.allocator();
-    let (tag, variant) = open(alloc, from.try_clone(alloc)?, name)?.variant_deserializer(alloc)?;
-    let (_tag, same) = open(alloc, from.try_clone(alloc)?, name)?.variant_deserializer(alloc)?;
-    let ((found, expected), inner) = refused(alloc, variant, same)?;
     write_opening(out, "enum", flags)?;
     write_text(out, 's', &CowStr::Owned(expected))?;
     out.push_str("; ")?;
     write_handed(out, tag)?;
-    out.push_str("; ")?;
+    Ok(out.push_str("; ")?)
+}
+
+/// Adds the variant of an enum, requested under a name or as whatever is there: the name that
+/// errors say was expected, the tag, and what the variant holds.
+pub fn write_enum(
+    out: &mut String,
+    flags: Flags,
+    from: Deserializer<'_, 'static>,
+    name: Option<&'static str>,
+) -> Result<()> {
+    let alloc = *out.allocator();
+    let (tag, variant) = open(alloc, &from, name)?;
+    let (_tag, same) = open(alloc, &from, name)?;
+    let ((found, expected), inner) = refused(alloc, variant, same)?;
+    write_tag(out, flags, expected, tag)?;
     write_held(out, flags, &found, inner, from)?;
     Ok(out.push(')')?)
 }

@@ -1,24 +1,28 @@
 //! Deserializers as rows have them.
 
+use crate::cursor::Cursor;
 use crate::failure::{Failure, Result};
 use crate::flags::{Flags, flags_of, flags_word, with_flags};
 use crate::piece::{Piece, Pieces, take_mark, take_name, take_parsed};
 use crate::show::{write_text, write_tree};
 use crate::tree::read_tree;
 use serde_content::{CowStr, Data, Deserializer, Enum, Value};
+use std::alloc::Global;
 
 /// A deserializer of a tree, or of the name of a variant, which is for people always.
 pub fn read_deserializer<'a>(
-    pieces: &mut Pieces<'a>,
+    alloc: Global,
+    pieces: &'a [Piece],
     flags: Flags,
 ) -> Result<Deserializer<'a, 'static>> {
+    let mut pieces: Pieces<'a> = Cursor::new(alloc, pieces);
     let from = match pieces.rest() {
         [Piece::Word(word), after @ ..] if word.as_str() == "id" => {
             pieces.move_to(after);
-            read_name(pieces, flags)?
+            read_name(&mut pieces, flags)?
         }
         _ => {
-            let value: Value<'a> = read_tree(pieces)?;
+            let value: Value<'a> = read_tree(&mut pieces)?;
             with_flags(Deserializer::new(value), flags)
         }
     };
@@ -46,7 +50,7 @@ fn read_name<'a>(pieces: &mut Pieces<'a>, flags: Flags) -> Result<Deserializer<'
 }
 
 /// Adds what reads a name: its text, and its index.
-fn write_name<'de, 'n: 'de>(out: &mut String, name: Deserializer<'de, 'n>) -> Result<()> {
+fn write_name(out: &mut String, name: Deserializer<'_, 'static>) -> Result<()> {
     let alloc = *out.allocator();
     let index = name.try_clone(alloc)?.deserialize_u64(alloc)?;
     let text = name.deserialize_str(alloc)?;
@@ -56,7 +60,7 @@ fn write_name<'de, 'n: 'de>(out: &mut String, name: Deserializer<'de, 'n>) -> Re
 }
 
 /// Adds flags, a colon and what is read.
-pub fn write_handed<'de, 'n: 'de>(out: &mut String, from: Deserializer<'de, 'n>) -> Result<()> {
+pub fn write_handed(out: &mut String, from: Deserializer<'_, 'static>) -> Result<()> {
     let flags = flags_of(*out.allocator(), &from)?;
     out.push_str(flags_word(flags))?;
     out.push(':')?;
@@ -68,11 +72,7 @@ pub fn write_handed<'de, 'n: 'de>(out: &mut String, from: Deserializer<'de, 'n>)
 
 /// Adds what is read inside an access with these flags, which stand before it only where its own
 /// are others; a name is for people.
-pub fn write_inside<'de, 'n: 'de>(
-    out: &mut String,
-    flags: Flags,
-    from: Deserializer<'de, 'n>,
-) -> Result<()> {
+pub fn write_inside(out: &mut String, flags: Flags, from: Deserializer<'_, 'static>) -> Result<()> {
     let own = flags_of(*out.allocator(), &from)?;
     let of_name = Flags {
         human_readable: true,

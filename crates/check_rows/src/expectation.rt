@@ -1,6 +1,7 @@
 //! Expectations of a row.
 
 use crate::failure::{Failure, Result};
+use crate::named::case_named;
 use crate::piece::{Case, Piece, Pieces, take_mark, take_parsed, take_word};
 use serde_content::{DataType, Expected};
 
@@ -27,28 +28,14 @@ pub fn read_expected(pieces: &mut Pieces<'_>) -> Result<Expected> {
 
 /// The expectation that this word names.
 fn expected_of(word: &str) -> Result<Expected> {
-    match word {
-        "Unit" => Ok(Expected::Unit),
-        "Bool" => Ok(Expected::Bool),
-        "Char" => Ok(Expected::Char),
-        "String" => Ok(Expected::String),
-        "StaticStr" => Ok(Expected::StaticStr),
-        "Bytes" => Ok(Expected::Bytes),
-        "Seq" => Ok(Expected::Seq),
-        "Map" => Ok(Expected::Map),
-        "Identifier" => Ok(Expected::Identifier),
-        "I8" => Ok(Expected::I8),
-        "U8" => Ok(Expected::U8),
-        "I16" => Ok(Expected::I16),
-        "U16" => Ok(Expected::U16),
-        "I32" => Ok(Expected::I32),
-        "U32" => Ok(Expected::U32),
-        "I64" => Ok(Expected::I64),
-        "U64" => Ok(Expected::U64),
-        "I128" => Ok(Expected::I128),
-        "U128" => Ok(Expected::U128),
-        _ => Err(Failure::NoRow),
-    }
+    case_named!(
+        word,
+        Expected,
+        [
+            Unit, Bool, Char, String, StaticStr, Bytes, Seq, Map, Identifier, I8, U8, I16, U16,
+            I32, U32, I64, U64, I128, U128,
+        ]
+    )
 }
 
 /// A name and a type in brackets, each of which may be `-`.
@@ -69,11 +56,5 @@ fn read_named(pieces: &mut Pieces<'_>) -> Result<(Option<String>, Option<DataTyp
 
 /// The type that this word names.
 pub fn type_of(word: &str) -> Result<DataType> {
-    match word {
-        "Unit" => Ok(DataType::Unit),
-        "NewType" => Ok(DataType::NewType),
-        "Tuple" => Ok(DataType::Tuple),
-        "Struct" => Ok(DataType::Struct),
-        _ => Err(Failure::NoRow),
-    }
+    case_named!(word, DataType, [Unit, NewType, Tuple, Struct])
 }

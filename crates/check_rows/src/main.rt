@@ -11,6 +11,7 @@ mod failure;
 mod flags;
 mod kind;
 mod methods;
+mod named;
 mod names;
 mod number;
 mod operations;

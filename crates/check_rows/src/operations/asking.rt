@@ -1,7 +1,6 @@
 //! Requests, and what they answer.
 
 use crate::access::{write_enum, write_map, write_seq};
-use crate::cursor::Cursor;
 use crate::deserializer::{read_deserializer, write_handed};
 use crate::failure::{Failure, Result};
 use crate::flags::{Flags, read_flags};
@@ -19,17 +18,17 @@ pub fn ask(out: &mut String, columns: &mut Parted<'_>) -> Result<()> {
     let flags = read_flags(columns.next()?)?;
     let request = read_request(columns.next()?)?;
     let pieces = read_pieces(alloc, columns.next()?)?;
-    let from = read_deserializer(&mut Cursor::new(alloc, pieces.as_slice()), flags)?;
+    let from = read_deserializer(alloc, pieces.as_slice(), flags)?;
     out.push_str("ok ")?;
     write_parts(out, flags, &request, from)
 }
 
 /// Adds the answer to a request, of one for what stands inside here.
-fn write_parts<'de, 'n: 'de>(
+fn write_parts(
     out: &mut String,
     flags: Flags,
     request: &Request<'_>,
-    from: Deserializer<'de, 'n>,
+    from: Deserializer<'_, 'static>,
 ) -> Result<()> {
     let alloc = *out.allocator();
     let name = request.name;
@@ -55,7 +54,7 @@ fn write_parts<'de, 'n: 'de>(
 }
 
 /// Adds what may be held.
-fn write_option<'de, 'n: 'de>(out: &mut String, held: Option<Deserializer<'de, 'n>>) -> Result<()> {
+fn write_option(out: &mut String, held: Option<Deserializer<'_, 'static>>) -> Result<()> {
     match held {
         None => Ok(out.push_str("none")?),
         Some(held) => {
@@ -77,10 +76,10 @@ fn write_value(out: &mut String, tree: Value<'_>) -> Result<()> {
 }
 
 /// Adds the answer to a request for a datum.
-fn write_leaf<'de, 'n: 'de>(
+fn write_leaf(
     out: &mut String,
     request: &Request<'_>,
-    from: Deserializer<'de, 'n>,
+    from: Deserializer<'_, 'static>,
 ) -> Result<()> {
     let alloc = *out.allocator();
     match request.word {
@@ -109,11 +108,7 @@ fn write_leaf<'de, 'n: 'de>(
 }
 
 /// Adds what is there, whatever it is.
-fn write_node<'de, 'n: 'de>(
-    out: &mut String,
-    flags: Flags,
-    from: Deserializer<'de, 'n>,
-) -> Result<()> {
+fn write_node(out: &mut String, flags: Flags, from: Deserializer<'_, 'static>) -> Result<()> {
     let alloc = *out.allocator();
     let same = from.try_clone(alloc)?;
     out.push_str("node ")?;
@@ -143,7 +138,7 @@ pub fn variant(out: &mut String, columns: &mut Parted<'_>) -> Result<()> {
     let name = columns.name()?;
     let request = read_request(columns.next()?)?;
     let pieces = read_pieces(alloc, columns.next()?)?;
-    let from = read_deserializer(&mut Cursor::new(alloc, pieces.as_slice()), flags)?;
+    let from = read_deserializer(alloc, pieces.as_slice(), flags)?;
     let access = from.deserialize_enum(alloc, name, &[])?;
     let (_tag, variant) = access.variant_deserializer(alloc)?;
     out.push_str("ok ")?;

@@ -1,20 +1,21 @@
 //! The order of two things.
 
 use crate::call::read_calls;
-use crate::cursor::Cursor;
 use crate::deserializer::read_deserializer;
 use crate::expectation::{read_expected, type_of};
 use crate::failure::{Failure, Result};
-use crate::flags::read_flags;
+use crate::flags::{Flags, read_flags};
 use crate::kind::read_kind;
 use crate::order::{if_lawful, order, write_order};
 use crate::parted::Parted;
-use crate::piece::{Pieces, read_pieces, take_if_mark, take_mark, take_parsed, take_word};
+use crate::piece::{Piece, Pieces, read_pieces, take_if_mark, take_mark, take_parsed, take_word};
 use crate::tree::{read_image, read_tree};
 use serde_content::laws::{
     compare_deserializers, equal_by_contents, equal_deserializers, equal_images, equal_values,
 };
 use serde_content::{Error, Found, Serializer, Value};
+use std::alloc::Global;
+use std::cmp::Ordering;
 
 /// Of two trees.
 pub fn values(out: &mut String, pieces: &mut Pieces<'_>) -> Result<()> {
@@ -121,13 +122,28 @@ pub fn deserializers(out: &mut String, columns: &mut Parted<'_>) -> Result<()> {
     let left = read_pieces(alloc, columns.next()?)?;
     let right_flags = read_flags(columns.next()?)?;
     let right = read_pieces(alloc, columns.next()?)?;
-    let left = read_deserializer(&mut Cursor::new(alloc, left.as_slice()), left_flags)?;
-    let right = read_deserializer(&mut Cursor::new(alloc, right.as_slice()), right_flags)?;
+    let order = order_of_pieces(
+        alloc,
+        left.as_slice(),
+        left_flags,
+        right.as_slice(),
+        right_flags,
+    )?;
+    write_order(out, order)
+}
+
+/// The order of the deserializers of these pieces, each under its flags, where the laws say so too.
+fn order_of_pieces<'a>(
+    alloc: Global,
+    left: &'a [Piece],
+    left_flags: Flags,
+    right: &'a [Piece],
+    right_flags: Flags,
+) -> Result<Option<Ordering>> {
+    let left = read_deserializer(alloc, left, left_flags)?;
+    let right = read_deserializer(alloc, right, right_flags)?;
     let order = if_lawful(order(&left, &right), equal_deserializers(&left, &right));
-    write_order(
-        out,
-        order.filter(|order| compare_deserializers(&left, &right) == *order),
-    )
+    Ok(order.filter(|order| compare_deserializers(&left, &right) == *order))
 }
 
 /// Whether two calls are equal, of which the second is also lent: `true`, `false`, or that `==` and

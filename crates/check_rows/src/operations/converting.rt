@@ -3,14 +3,15 @@
 use crate::cursor::Cursor;
 use crate::deserializer::{read_deserializer, write_handed};
 use crate::failure::{Failure, Result};
-use crate::flags::read_flags;
+use crate::flags::{Flags, read_flags};
 use crate::number::{with_whole, write_number};
 use crate::parted::Parted;
-use crate::piece::{Pieces, read_pieces, take_word};
+use crate::piece::{Piece, Pieces, read_pieces, take_word};
 use crate::show::write_tree;
 use crate::tree::read_tree;
 use serde_content::de::IntoDeserializer;
 use serde_content::{CowBytes, CowStr, Deserializer, Number, Value};
+use std::alloc::Global;
 
 /// The value from what a tree holds, by the type that is named.
 pub fn from(out: &mut String, pieces: &mut Pieces<'_>) -> Result<()> {
@@ -81,13 +82,21 @@ pub fn into(out: &mut String, columns: &mut Parted<'_>) -> Result<()> {
     let form = columns.next()?;
     let flags = read_flags(columns.next()?)?;
     let pieces = read_pieces(alloc, columns.next()?)?;
-    let mut pieces = Cursor::new(alloc, pieces.as_slice());
     let from = match form {
-        "deserializer" => read_deserializer(&mut pieces, flags)?.into_deserializer(alloc)?,
-        _ => of_tree(&mut pieces, form)?,
+        "deserializer" => of_deserializer(alloc, pieces.as_slice(), flags)?,
+        _ => of_tree(&mut Cursor::new(alloc, pieces.as_slice()), form)?,
     };
     out.push_str("ok ")?;
     write_handed(out, from)
+}
+
+/// The deserializer that one with these flags becomes.
+fn of_deserializer<'a>(
+    alloc: Global,
+    pieces: &'a [Piece],
+    flags: Flags,
+) -> Result<Deserializer<'a, 'static>> {
+    Ok(read_deserializer(alloc, pieces, flags)?.into_deserializer(alloc)?)
 }
 
 /// The deserializer of a tree in this form.

@@ -1,9 +1,9 @@
 //! Values of a type.
 
-use crate::cursor::Cursor;
 use crate::deserializer::read_deserializer;
 use crate::failure::{Failure, Result, Written};
 use crate::flags::read_flags;
+use crate::named::with_type;
 use crate::parted::Parted;
 use crate::piece::read_pieces;
 use crate::printable::write_printed;
@@ -20,34 +20,26 @@ pub fn read(out: &mut String, columns: &mut Parted<'_>) -> Result<()> {
     let flags = read_flags(columns.next()?)?;
     let typ = columns.next()?;
     let pieces = read_pieces(alloc, columns.next()?)?;
-    let from = read_deserializer(&mut Cursor::new(alloc, pieces.as_slice()), flags)?;
+    let from = read_deserializer(alloc, pieces.as_slice(), flags)?;
     out.push_str("ok ")?;
     match typ {
-        "()" => write_as::<()>(out, from),
-        "bool" => write_as::<bool>(out, from),
-        "i8" => write_as::<i8>(out, from),
-        "u8" => write_as::<u8>(out, from),
-        "i16" => write_as::<i16>(out, from),
-        "u16" => write_as::<u16>(out, from),
-        "i32" => write_as::<i32>(out, from),
-        "u32" => write_as::<u32>(out, from),
-        "i64" => write_as::<i64>(out, from),
-        "u64" => write_as::<u64>(out, from),
-        "i128" => write_as::<i128>(out, from),
-        "u128" => write_as::<u128>(out, from),
-        "isize" => write_as::<isize>(out, from),
-        "usize" => write_as::<usize>(out, from),
-        "String" => write_as::<String>(out, from),
-        "&str" => write_as::<&str>(out, from),
-        "&[u8]" => write_as::<&[u8]>(out, from),
         "CowStr" => write_value(out, Value::String(from.deserialize::<CowStr>(alloc)?)),
         "char" => write_value(out, Value::Char(from.deserialize::<char>(alloc)?)),
         "Number" => write_value(out, Value::Number(from.deserialize::<Number>(alloc)?)),
         "Value" => write_value(out, from.deserialize::<Value<'static>>(alloc)?),
         "ValueVisitor" => write_value(out, ValueVisitor.read(alloc, from)?),
+        "Option<Value>" => match from.deserialize::<Option<Value<'static>>>(alloc)? {
+            None => write_value(out, Value::Option(None)),
+            Some(held) => write_value(out, Value::Option(Some(Box::new(alloc, held)?))),
+        },
         "Point" => Ok(write_point(out, &from.deserialize(alloc)?)?),
         "Shape" => Ok(write_shape(out, &from.deserialize(alloc)?)?),
-        _ => write_holder(out, typ, from),
+        "BTreeMap<String, u8>" => write_map_as::<String, u8>(out, from),
+        "BTreeMap<String, Vec<u8>>" => write_map_as::<String, Vec<u8>>(out, from),
+        "BTreeMap<u8, bool>" => write_map_as::<u8, bool>(out, from),
+        "BTreeMap<u8, u8>" => write_map_as::<u8, u8>(out, from),
+        "BTreeMap<i8, i8>" => write_map_as::<i8, i8>(out, from),
+        _ => write_printed_type(out, typ, from),
     }
 }
 
@@ -56,63 +48,34 @@ pub fn plain(out: &mut String, columns: &mut Parted<'_>) -> Result<()> {
     let alloc = *out.allocator();
     let pieces = read_pieces(alloc, columns.next()?)?;
     let flags = read_flags("-")?;
-    let from = read_deserializer(&mut Cursor::new(alloc, pieces.as_slice()), flags)?;
+    let from = read_deserializer(alloc, pieces.as_slice(), flags)?;
     out.push_str("ok ")?;
     write_value(out, from.deserialize::<Value<'static>>(alloc)?)
 }
 
-/// Adds the value of a type that holds others.
-fn write_holder<'de, 'n: 'de>(
-    out: &mut String,
-    typ: &str,
-    from: Deserializer<'de, 'n>,
-) -> Result<()> {
-    let alloc = *out.allocator();
-    match typ {
-        "Box<u8>" => write_as::<Box<u8>>(out, from),
-        "Option<()>" => write_as::<Option<()>>(out, from),
-        "Option<i16>" => write_as::<Option<i16>>(out, from),
-        "Option<String>" => write_as::<Option<String>>(out, from),
-        "Option<&str>" => write_as::<Option<&str>>(out, from),
-        "Option<Value>" => match from.deserialize::<Option<Value<'static>>>(alloc)? {
-            None => write_value(out, Value::Option(None)),
-            Some(held) => write_value(out, Value::Option(Some(Box::new(alloc, held)?))),
-        },
-        "Option<Option<()>>" => write_as::<Option<Option<()>>>(out, from),
-        "Vec<()>" => write_as::<Vec<()>>(out, from),
-        "Vec<bool>" => write_as::<Vec<bool>>(out, from),
-        "Vec<u8>" => write_as::<Vec<u8>>(out, from),
-        "Vec<i16>" => write_as::<Vec<i16>>(out, from),
-        "BTreeMap<String, u8>" => write_map_as::<String, u8>(out, from),
-        "BTreeMap<String, Vec<u8>>" => write_map_as::<String, Vec<u8>>(out, from),
-        "BTreeMap<u8, bool>" => write_map_as::<u8, bool>(out, from),
-        "BTreeMap<u8, u8>" => write_map_as::<u8, u8>(out, from),
-        "BTreeMap<i8, i8>" => write_map_as::<i8, i8>(out, from),
-        "(bool,)" => write_as::<(bool,)>(out, from),
-        "(u8,)" => write_as::<(u8,)>(out, from),
-        "(bool, bool)" => write_as::<(bool, bool)>(out, from),
-        "(bool, usize)" => write_as::<(bool, usize)>(out, from),
-        "(u8, u8)" => write_as::<(u8, u8)>(out, from),
-        "(u8, bool)" => write_as::<(u8, bool)>(out, from),
-        "(bool, (), u8)" => write_as::<(bool, (), u8)>(out, from),
-        "(u8, u8, u8, u8)" => write_as::<(u8, u8, u8, u8)>(out, from),
-        _ => Err(Failure::NoRow),
-    }
+/// Adds the value of a type that is shown as it prints.
+fn write_printed_type(out: &mut String, typ: &str, from: Deserializer<'_, 'static>) -> Result<()> {
+    with_type!(typ, write_as(out, from), [
+        (), bool, i8, u8, i16, u16, i32, u32, i64, u64, i128, u128, isize, usize, String, &str,
+        &[u8], Box<u8>, Option<()>, Option<i16>, Option<String>, Option<&str>, Option<Option<()>>,
+        Vec<()>, Vec<bool>, Vec<u8>, Vec<i16>, (bool,), (u8,), (bool, bool), (bool, usize),
+        (u8, u8), (u8, bool), (bool, (), u8), (u8, u8, u8, u8),
+    ], Err(Failure::NoRow))
 }
 
 /// Adds a value of this type as it prints.
-fn write_as<'de, 'n: 'de, T: Deserialize<'de> + Debug>(
+fn write_as<'de, T: Deserialize<'de> + Debug>(
     out: &mut String,
-    from: Deserializer<'de, 'n>,
+    from: Deserializer<'de, 'static>,
 ) -> Result<()> {
     let value = from.deserialize::<T>(*out.allocator())?;
     Ok(write_debug(out, &value)?)
 }
 
 /// Adds a map.
-fn write_map_as<'de, 'n: 'de, K: Deserialize<'de> + Debug + Ord, V: Deserialize<'de> + Debug>(
+fn write_map_as<'de, K: Deserialize<'de> + Debug + Ord, V: Deserialize<'de> + Debug>(
     out: &mut String,
-    from: Deserializer<'de, 'n>,
+    from: Deserializer<'de, 'static>,
 ) -> Result<()> {
     let map = from.deserialize::<BTreeMap<K, V>>(*out.allocator())?;
     Ok(write_entries(out, &map)?)

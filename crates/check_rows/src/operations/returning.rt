@@ -3,6 +3,7 @@
 use crate::cursor::Cursor;
 use crate::failure::{Failure, Result};
 use crate::flags::{Flags, read_flags};
+use crate::named::with_type;
 use crate::operations::reading::{write_debug, write_entries};
 use crate::parted::Parted;
 use crate::piece::{Pieces, read_pieces};
@@ -66,33 +67,14 @@ fn write_map_as<'a, K: RoundTrip<'a> + Debug + Ord, V: RoundTrip<'a> + Debug>(
 fn write_back(out: &mut String, typ: &str, pieces: &mut Pieces<'_>, flags: Flags) -> Result<()> {
     let alloc = pieces.alloc();
     match typ {
-        "i8" => write_as::<i8>(out, pieces, flags),
-        "u8" => write_as::<u8>(out, pieces, flags),
-        "i16" => write_as::<i16>(out, pieces, flags),
-        "u16" => write_as::<u16>(out, pieces, flags),
-        "i32" => write_as::<i32>(out, pieces, flags),
-        "u32" => write_as::<u32>(out, pieces, flags),
-        "i64" => write_as::<i64>(out, pieces, flags),
-        "u64" => write_as::<u64>(out, pieces, flags),
-        "i128" => write_as::<i128>(out, pieces, flags),
-        "u128" => write_as::<u128>(out, pieces, flags),
-        "()" => write_as::<()>(out, pieces, flags),
-        "bool" => write_as::<bool>(out, pieces, flags),
-        "char" => write_as::<char>(out, pieces, flags),
-        "String" => write_as::<String>(out, pieces, flags),
-        "Option<()>" => write_as::<Option<()>>(out, pieces, flags),
-        "Option<String>" => write_as::<Option<String>>(out, pieces, flags),
-        "Vec<bool>" => write_as::<Vec<bool>>(out, pieces, flags),
-        "Vec<i16>" => write_as::<Vec<i16>>(out, pieces, flags),
-        "(bool,)" => write_as::<(bool,)>(out, pieces, flags),
-        "(u8,)" => write_as::<(u8,)>(out, pieces, flags),
-        "(bool, bool)" => write_as::<(bool, bool)>(out, pieces, flags),
-        "(bool, usize)" => write_as::<(bool, usize)>(out, pieces, flags),
-        "(bool, char, String)" => write_as::<(bool, char, String)>(out, pieces, flags),
-        "BTreeMap<char, bool>" => write_map_as::<char, bool>(out, pieces, flags),
-        "BTreeMap<u8, u8>" => write_map_as::<u8, u8>(out, pieces, flags),
         "Point" => Ok(write_point(out, &sent_back(alloc, &read_point(pieces)?, flags)?)?),
         "Shape" => Ok(write_shape(out, &sent_back(alloc, &read_shape(pieces)?, flags)?)?),
-        _ => Err(Failure::NoRow),
+        "BTreeMap<char, bool>" => write_map_as::<char, bool>(out, pieces, flags),
+        "BTreeMap<u8, u8>" => write_map_as::<u8, u8>(out, pieces, flags),
+        _ => with_type!(typ, write_as(out, pieces, flags), [
+            (), bool, i8, u8, i16, u16, i32, u32, i64, u64, i128, u128, char, String, Option<()>,
+            Option<String>, Vec<bool>, Vec<i16>, (bool,), (u8,), (bool, bool), (bool, usize),
+            (bool, char, String),
+        ], Err(Failure::NoRow)),
     }
 }

@@ -1,6 +1,5 @@
 //! Accesses, step by step.
 
-use crate::cursor::Cursor;
 use crate::deserializer::{read_deserializer, write_handed};
 use crate::failure::{Failure, Result};
 use crate::flags::read_flags;
@@ -19,7 +18,7 @@ pub fn access(out: &mut String, columns: &mut Parted<'_>) -> Result<()> {
     let request = read_request(columns.next()?)?;
     let steps = columns.next()?;
     let pieces = read_pieces(alloc, columns.next()?)?;
-    let from = read_deserializer(&mut Cursor::new(alloc, pieces.as_slice()), flags)?;
+    let from = read_deserializer(alloc, pieces.as_slice(), flags)?;
     match request.word {
         "seq" => write_seq_steps(out, steps, from.deserialize_seq(alloc)?),
         "map" => write_map_steps(out, steps, from.deserialize_map(alloc)?),
@@ -63,11 +62,7 @@ fn size(alloc: Global, hint: Option<usize>) -> Result<String> {
 }
 
 /// Adds what a sequence answers to each step.
-fn write_seq_steps<'de, 'n: 'de>(
-    out: &mut String,
-    steps: &str,
-    mut items: Seq<'de, 'n>,
-) -> Result<()> {
+fn write_seq_steps(out: &mut String, steps: &str, mut items: Seq<'_, 'static>) -> Result<()> {
     let alloc = *out.allocator();
     for (place, step) in steps.split("; ").enumerate() {
         let answer = match step {
@@ -81,11 +76,7 @@ fn write_seq_steps<'de, 'n: 'de>(
 }
 
 /// Adds what a map answers to each step.
-fn write_map_steps<'de, 'n: 'de>(
-    out: &mut String,
-    steps: &str,
-    mut entries: Map<'de, 'n>,
-) -> Result<()> {
+fn write_map_steps(out: &mut String, steps: &str, mut entries: Map<'_, 'static>) -> Result<()> {
     let alloc = *out.allocator();
     for (place, step) in steps.split("; ").enumerate() {
         let answer = match step {
@@ -110,7 +101,7 @@ fn write_map_steps<'de, 'n: 'de>(
 }
 
 /// The next entry as what reads its key and what reads its value.
-fn next_deserializers<'de, 'n: 'de>(alloc: Global, entries: &mut Map<'de, 'n>) -> Result<String> {
+fn next_deserializers(alloc: Global, entries: &mut Map<'_, 'static>) -> Result<String> {
     let mut out = String::new(alloc);
     match entries.next_entry_deserializers(alloc)? {
         None => out.push_str("None")?,
@@ -126,9 +117,9 @@ fn next_deserializers<'de, 'n: 'de>(alloc: Global, entries: &mut Map<'de, 'n>) -
 }
 
 /// The next entry as values of these types.
-fn next_entry<'de, 'n: 'de, K: Deserialize<'de> + Debug, V: Deserialize<'de> + Debug>(
+fn next_entry<'de, K: Deserialize<'de> + Debug, V: Deserialize<'de> + Debug>(
     alloc: Global,
-    entries: &mut Map<'de, 'n>,
+    entries: &mut Map<'de, 'static>,
 ) -> Result<String> {
     match entries.next_entry::<K, V>(alloc)? {
         None => Ok(String::from_str(alloc, "None")?),
