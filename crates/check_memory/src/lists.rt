@@ -14,7 +14,7 @@ pub fn run(tally: &mut Tally, alloc: Global) -> Made<()> {
 
 /// Whether memory ran out at a call before this place.
 fn ran_out(refusal: &CallsError, end: usize) -> bool {
-    *refusal.error.kind() == OutOfMemory && refusal.at < end
+    matches!(refusal.error.kind(), OutOfMemory) && refusal.at < end
 }
 
 /// Whether a list is taken of which so many calls spell a tree: memory may run out at its end too.
@@ -29,12 +29,12 @@ fn taken<T: Drop>(answer: Result<T, CallsError>, length: usize) -> Made<bool> {
 }
 
 /// Whether a list is refused at this place: memory may run out before.
-fn refused<T: Drop>(answer: Result<T, CallsError>, at: usize, cause: ErrorKind) -> Made<bool> {
+fn refused<T: Drop>(answer: Result<T, CallsError>, at: usize, cause: &ErrorKind) -> Made<bool> {
     match answer {
         Ok(_) => Ok(false),
         Err(refusal) => match ran_out(&refusal, at) {
             true => Err(AllocError),
-            false => Ok(refusal.at == at && *refusal.error.kind() == cause),
+            false => Ok(refusal.at == at && refusal.error.kind() == cause),
         },
     }
 }
@@ -81,9 +81,9 @@ fn whole(tally: &mut Tally, alloc: Global) -> Made<()> {
     tally.promised("from_calls of a sequence", sequence?);
     let option = taken(from_calls(alloc, &nested()), 5);
     tally.promised("from_calls of an option", option?);
-    let key = refused(from_calls(alloc, &pair(Call::Key)), 5, Misplaced);
+    let key = refused(from_calls(alloc, &pair(Call::Key)), 5, &Misplaced);
     tally.promised("from_calls of a key in a sequence", key?);
-    let map = refused(from_calls(alloc, &open_map()), 4, Unfinished);
+    let map = refused(from_calls(alloc, &open_map()), 4, &Unfinished);
     tally.promised("from_calls of an open map", map?);
     Ok(())
 }
@@ -91,11 +91,11 @@ fn whole(tally: &mut Tally, alloc: Global) -> Made<()> {
 fn others(tally: &mut Tally, alloc: Global) -> Made<()> {
     let first = taken(from_calls_prefix(alloc, &two_trees()), 4);
     tally.promised("from_calls_prefix of two trees", first?);
-    let key = refused(from_calls_prefix(alloc, &pair(Call::Key)), 5, Misplaced);
+    let key = refused(from_calls_prefix(alloc, &pair(Call::Key)), 5, &Misplaced);
     tally.promised("from_calls_prefix of a key in a sequence", key?);
     let sequence = taken(from_calls_within(alloc, &pair(Call::End), 2), 6);
     tally.promised("from_calls_within of a sequence", sequence?);
-    let deep = refused(from_calls_within(alloc, &nested(), 2), 2, Misplaced);
+    let deep = refused(from_calls_within(alloc, &nested(), 2), 2, &Misplaced);
     tally.promised("from_calls_within of a deep option", deep?);
     Ok(())
 }

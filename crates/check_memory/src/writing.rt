@@ -18,10 +18,10 @@ pub fn run(tally: &mut Tally, alloc: Global) -> Made<()> {
 }
 
 /// Whether a call was refused for this cause.
-fn is_refused<T: Drop>(answer: Result<T>, cause: ErrorKind) -> bool {
+fn is_refused<T: Drop>(answer: Result<T>, cause: &ErrorKind) -> bool {
     match answer {
         Ok(_) => false,
-        Err(error) => error.into_kind() == cause,
+        Err(error) => error.kind() == cause,
     }
 }
 
@@ -49,9 +49,9 @@ fn calls(tally: &mut Tally, alloc: Global) -> Made<()> {
 
 /// Whether a builder refuses this call as out of place, fails by it, and refuses what follows.
 fn refuses(mut builder: Builder<'static>, call: Call<'static>) -> bool {
-    let first = is_refused(replay(&[call], &mut builder), Misplaced);
-    let next = is_refused(builder.serialize_unit(), Failed);
-    first && next && is_refused(builder.finish(), Failed)
+    let first = is_refused(replay(&[call], &mut builder), &Misplaced);
+    let next = is_refused(builder.serialize_unit(), &Failed);
+    first && next && is_refused(builder.finish(), &Failed)
 }
 
 fn at_first(tally: &mut Tally, alloc: Global) {
@@ -60,7 +60,7 @@ fn at_first(tally: &mut Tally, alloc: Global) {
     let builder = shallow(alloc);
     tally.promised("Some past a limit", refuses(builder, Call::SomeCall));
     let answer = Builder::new(alloc, false).finish();
-    tally.promised("finish of no calls", is_refused(answer, Unfinished));
+    tally.promised("finish of no calls", is_refused(answer, &Unfinished));
 }
 
 /// A builder in a sequence, where no element is announced; none can be.
@@ -82,13 +82,13 @@ fn in_a_sequence(tally: &mut Tally, alloc: Global) -> Made<()> {
     let builder = in_sequence(alloc)?;
     tally.promised("Element past a limit", refuses(builder, Call::Element));
     let answer = in_sequence(alloc)?.finish();
-    tally.promised("finish of a sequence", is_refused(answer, Unfinished));
+    tally.promised("finish of a sequence", is_refused(answer, &Unfinished));
     Ok(())
 }
 
 /// What an answer comes to that can only be out of memory, where the rest is right.
 fn short(error: &Error, is_right: bool) -> Made<bool> {
-    match *error.kind() == OutOfMemory && is_right {
+    match matches!(error.kind(), OutOfMemory) && is_right {
         true => Err(AllocError),
         false => Ok(false),
     }
@@ -104,7 +104,7 @@ fn records(alloc: Global, calls: &[Call<'static>]) -> Made<bool> {
     let mut recorder = Recorder::new(alloc, false);
     for (at, call) in calls.iter().enumerate() {
         if let Err(error) = recorder.call(call.lend()) {
-            let is_failed = is_refused(recorder.serialize_unit(), Failed);
+            let is_failed = is_refused(recorder.serialize_unit(), &Failed);
             return short(&error, is_failed && has(&recorder, calls, at));
         }
     }
@@ -117,7 +117,7 @@ fn prints_misplaced(alloc: Global) -> Made<bool> {
     let mut builder = in_sequence(alloc)?;
     match builder.collect_str(alloc, &7u8) {
         Ok(()) => Ok(false),
-        Err(error) if *error.kind() == Misplaced => Ok(builder.is_failed()),
+        Err(error) if matches!(error.kind(), Misplaced) => Ok(builder.is_failed()),
         Err(error) => short(&error, builder.end().is_ok()),
     }
 }
