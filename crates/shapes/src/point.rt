@@ -10,7 +10,7 @@ ghost use Rattle.content_de.specs.Reads.Own.{StructGives, FieldThen, NoField};
 ghost use Rattle.serde_content.specs.Laws.Leaves.{i32_back, integer_keeps};
 ghost use Rattle.serde_content.specs.Laws.Records.{field_back, fields_end_back, struct_back};
 ghost use Rattle.serde_content.specs.Laws.Records.{field_keeps, fields_end_keeps, struct_keeps};
-ghost use Rattle.serde_content.specs.Laws.Rows.{both_hold};
+ghost use Rattle.serde_content.specs.Laws.Series.{both_hold};
 
 use serde_content::de::{Deserialize, next_field};
 use serde_content::ser::{Call, Parts, Serialize, Serializer};
