@@ -1,16 +1,31 @@
 //! Printed texts.
 
+use crate::cursor::Cursor;
 use crate::expectation::{read_expected, type_of};
 use crate::failure::{Failure, Result};
 use crate::kind::read_kind;
 use crate::piece::{Pieces, take_word};
 use crate::printable::write_printed;
 use crate::tree::{read_image, read_tree};
-use serde_content::{Error, ErrorKind, Unexpected, Value};
+use serde_content::{Error, ErrorKind, Found, Unexpected, Value};
 
-/// Of an image.
+/// Whether the value prints as its image does.
+fn prints_as<'a>(pieces: &mut Pieces<'a>, image: &Found) -> Result<bool> {
+    let alloc = pieces.alloc();
+    let value: Value<'a> = read_tree(pieces)?;
+    let shown = format!(in alloc; "{}", value.display())?;
+    Ok(shown == format!(in alloc; "{image}")?)
+}
+
+/// Of an image; the value that has it prints the same.
 pub fn image(out: &mut String, pieces: &mut Pieces<'_>) -> Result<()> {
-    Ok(write_printed(out, &read_image(pieces)?)?)
+    let mut same = Cursor::new(pieces.alloc(), pieces.rest());
+    let image = read_image(pieces)?;
+    if matches!(image, Found::Identifier(_)) || prints_as(&mut same, &image)? {
+        Ok(write_printed(out, &image)?)
+    } else {
+        Ok(out.push_str("another text")?)
+    }
 }
 
 /// Of an expectation.
