@@ -65,13 +65,13 @@ fn open<'de>(
 fn refusal_of(error: Error) -> Result<(Found, String)> {
     match error.into_kind() {
         ErrorKind::OutOfMemory => Err(Failure::OutOfMemory),
-        ErrorKind::Unexpected {
-            found,
-            expected: Expected::Enum {
+        ErrorKind::Unexpected { found, expected } => match expected {
+            Expected::Enum {
                 name: Some(name),
                 typ: _,
-            },
-        } => Ok((found, name)),
+            } => Ok((found, name)),
+            _ => Err(Failure::NoRow),
+        },
         _ => Err(Failure::NoRow),
     }
 }

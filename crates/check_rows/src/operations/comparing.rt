@@ -143,7 +143,11 @@ fn order_of_pieces<'a>(
     let left = read_deserializer(alloc, left, left_flags)?;
     let right = read_deserializer(alloc, right, right_flags)?;
     let order = if_lawful(order(&left, &right), equal_deserializers(&left, &right));
-    Ok(order.filter(|order| compare_deserializers(&left, &right) == *order))
+    let by_law = compare_deserializers(&left, &right);
+    match order {
+        Some(order) if order == by_law => Ok(Some(order)),
+        _ => Ok(None),
+    }
 }
 
 /// Whether two calls are equal, of which the second is also lent: `true`, `false`, or that `==` and

@@ -4,7 +4,7 @@ use crate::failure::{Failure, Result};
 use crate::piece::{Pieces, take_word};
 use crate::show::{write_comma, write_tree};
 use crate::tree::read_tree;
-use serde_content::{CowBytes, CowStr, NamedValue, Value};
+use serde_content::{CowBytes, CowStr, NamedValue, Number, Value};
 
 /// The value behind a key.
 pub fn get(out: &mut String, pieces: &mut Pieces<'_>) -> Result<()> {
@@ -27,30 +27,34 @@ pub fn lend(out: &mut String, pieces: &mut Pieces<'_>) -> Result<()> {
     let typ = take_word(pieces)?;
     let value = read_tree(pieces)?;
     match typ {
-        "bool" => write_made(out, value.as_bool().map(|it| Value::from(it))),
-        "number" => write_made(out, value.as_number().map(|it| Value::from(it))),
-        "i64" => write_made(out, value.as_i64().map(|it| Value::from(it))),
-        "u64" => write_made(out, value.as_u64().map(|it| Value::from(it))),
-        "i128" => write_made(out, value.as_i128().map(|it| Value::from(it))),
-        "u128" => write_made(out, value.as_u128().map(|it| Value::from(it))),
-        "char" => write_made(out, value.as_char().map(|it| Value::from(it))),
-        "str" => write_made(
-            out,
-            value.as_str().map(|it| Value::String(CowStr::Borrowed(it))),
-        ),
-        "bytes" => write_made(
-            out,
-            value
-                .as_bytes()
-                .map(|it| Value::Bytes(CowBytes::Borrowed(it))),
-        ),
+        "bool" => match value.as_bool() {
+            Some(flag) => write_lent(out, Some(&Value::Bool(flag))),
+            None => write_lent(out, None),
+        },
+        "number" => write_number(out, value.as_number()),
+        "i64" => write_number(out, value.as_i64().map(|number| Number::I64(number))),
+        "u64" => write_number(out, value.as_u64().map(|number| Number::U64(number))),
+        "i128" => write_number(out, value.as_i128().map(|number| Number::I128(number))),
+        "u128" => write_number(out, value.as_u128().map(|number| Number::U128(number))),
+        "char" => match value.as_char() {
+            Some(character) => write_lent(out, Some(&Value::Char(character))),
+            None => write_lent(out, None),
+        },
+        "str" => match value.as_str() {
+            Some(text) => write_lent(out, Some(&Value::String(CowStr::Borrowed(text)))),
+            None => write_lent(out, None),
+        },
+        "bytes" => match value.as_bytes() {
+            Some(bytes) => write_lent(out, Some(&Value::Bytes(CowBytes::Borrowed(bytes)))),
+            None => write_lent(out, None),
+        },
         "seq" => match value.as_seq() {
             Some(items) => write_items(out, items),
-            None => Ok(out.push_str("none")?),
+            None => write_lent(out, None),
         },
         "map" => match value.as_map() {
             Some(pairs) => write_pairs(out, pairs),
-            None => Ok(out.push_str("none")?),
+            None => write_lent(out, None),
         },
         _ => Err(Failure::NoRow),
     }
@@ -64,11 +68,11 @@ fn write_lent(out: &mut String, value: Option<&NamedValue<'_, '_>>) -> Result<()
     }
 }
 
-/// Adds a value that was made, or that there is none.
-fn write_made(out: &mut String, value: Option<Value<'_>>) -> Result<()> {
-    match value {
-        Some(value) => Ok(write_tree(out, &value)?),
-        None => Ok(out.push_str("none")?),
+/// Adds a number, or that there is none.
+fn write_number(out: &mut String, number: Option<Number>) -> Result<()> {
+    match number {
+        Some(number) => write_lent(out, Some(&Value::Number(number))),
+        None => write_lent(out, None),
     }
 }
 

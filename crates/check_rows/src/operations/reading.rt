@@ -64,18 +64,18 @@ fn write_printed_type(out: &mut String, typ: &str, from: Deserializer<'_, 'stati
 }
 
 /// Adds a value of this type as it prints.
-fn write_as<'de, T: Deserialize<'de> + Debug>(
+fn write_as<'de, 'n: 'de, T: Deserialize<'de> + Debug>(
     out: &mut String,
-    from: Deserializer<'de, 'static>,
+    from: Deserializer<'de, 'n>,
 ) -> Result<()> {
     let value = from.deserialize::<T>(*out.allocator())?;
     Ok(write_debug(out, &value)?)
 }
 
 /// Adds a map.
-fn write_map_as<'de, K: Deserialize<'de> + Debug + Ord, V: Deserialize<'de> + Debug>(
+fn write_map_as<'de, 'n: 'de, K: Deserialize<'de> + Debug + Ord, V: Deserialize<'de> + Debug>(
     out: &mut String,
-    from: Deserializer<'de, 'static>,
+    from: Deserializer<'de, 'n>,
 ) -> Result<()> {
     let map = from.deserialize::<BTreeMap<K, V>>(*out.allocator())?;
     Ok(write_entries(out, &map)?)

@@ -117,9 +117,9 @@ fn next_deserializers(alloc: Global, entries: &mut Map<'_, 'static>) -> Result<S
 }
 
 /// The next entry as values of these types.
-fn next_entry<'de, K: Deserialize<'de> + Debug, V: Deserialize<'de> + Debug>(
+fn next_entry<'de, 'n: 'de, K: Deserialize<'de> + Debug, V: Deserialize<'de> + Debug>(
     alloc: Global,
-    entries: &mut Map<'de, 'static>,
+    entries: &mut Map<'de, 'n>,
 ) -> Result<String> {
     match entries.next_entry::<K, V>(alloc)? {
         None => Ok(String::from_str(alloc, "None")?),
