@@ -1,5 +1,5 @@
-//! Whole numbers as a line writes them. There is a function
-//! for each type: of a type that is a parameter `parse` says nothing of the number.
+//! Numbers as a line writes them. There is a function for each type: of a type that is a parameter
+//! `parse` says nothing of the number.
 
 ghost use Rattle.std.specs.Prelude.{◌≡◌, ◌||◌};
 ghost use Rattle.std.specs.Str.{all_ascii_digits};

@@ -2,4 +2,3 @@
 pub mod Origin
 pub mod Deserializer
 pub mod Order
-pub mod Wide

@@ -49,7 +49,8 @@ pub fn two_parts<'de, 'n: 'de, A: Deserialize<'de>, B: Deserialize<'de>>(
     alloc: Global,
     mut from: Seq<'de, 'n>,
 ) -> Result<(A, B)>
-    ensures { Reads (part_then 2 0 A.refusal (part_then 2 1 B.refusal no_part) (seq_view from.entry))
+    ensures { Reads
+        (part_then 2 0 A.refusal (part_then 2 1 B.refusal no_part) (seq_view from.entry))
         (λ p. PartThen A.gives p.0 (PartThen B.gives p.1 NoPart) (seq_view from.entry)) result }
 {
     let first = next_part(alloc, &mut from, 2, 0)?;

@@ -1,5 +1,5 @@
-//! The printed text of images. That of values is a walk of its own, `display/value.rt`, over another
-//! type; both print leaves by what stands here.
+//! The printed text of images. That of values is a walk of its own, `display/value.rt`, over
+//! another type; both print leaves by what stands here.
 
 #![tactic(auto, using(crate::proofs::Printing::two_writes, crate::proofs::Printing::three_writes, crate::proofs::Printing::four_writes))]
 

@@ -4,8 +4,8 @@
 
 ghost use Rattle.std.specs.Prelude.{◌≡◌, pos, option_map};
 ghost use Rattle.content_tree.specs.Values.Lookups.{boolean_in, number_in, value_in, character_in};
-ghost use Rattle.content_tree.specs.Values.Lookups.{text_in, bytes_in, items_in, pairs_in, field_in};
-ghost use Rattle.content_tree.specs.Values.Lookups.{is_text, last_field, last_value, lookup};
+ghost use Rattle.content_tree.specs.Values.Lookups.{text_in, bytes_in, items_in, pairs_in};
+ghost use Rattle.content_tree.specs.Values.Lookups.{field_in, is_text, last_field, last_value, lookup};
 ghost use Rattle.content_tree.specs.Values.Lookups.{lookup_text};
 ghost use Rattle.content_tree.specs.Values.Ranges.{i64, u64, i128, u128};
 ghost use Rattle.content_tree.specs.Values.Value.{tree_of, tree_data_of, trees_view, pairs_view};

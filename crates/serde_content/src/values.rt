@@ -7,8 +7,8 @@ use content_ser::Serialize;
 use content_tree::{Result, Value};
 use std::alloc::Global;
 
-/// The tree that the value's calls spell, written for people or not: what
-/// [`Serializer::serialize`](crate::Serializer::serialize) answers without a limit, at any lifetime.
+/// The tree that the value's calls spell, written for people or not, at any lifetime: what
+/// [`Serializer::serialize`](crate::Serializer::serialize) answers without a limit.
 /// A generic function that reads what it sends needs that, as `Value<'static>` isn't shortened.
 ///
 /// # Errors

@@ -1,5 +1,5 @@
-//! Requests for numbers: a pair for each kind, as no trait leads from a type to its case of `Number`
-//! and a macro can't write methods.
+//! Requests for numbers: a pair for each kind, as no trait leads from a type to its case of
+//! `Number` and a macro can't write methods.
 
 #![tactic(auto, using(crate::proofs::Values::values))]
 

@@ -1,5 +1,5 @@
-//! The calls of the walk and of the standard library's types, with their errors put aside: the named
-//! methods of `Serializer` answer an `Error`, and would clear room for one at each level.
+//! The calls of the walk and of the standard library's types, with their errors put aside: the
+//! named methods of `Serializer` answer an `Error`, and would clear room for one at each level.
 //!
 //! Those that open or close something, and the leaves, are functions of their own that aren't
 //! inlined: what they need takes stack while the call runs, and none at the levels of the walk
