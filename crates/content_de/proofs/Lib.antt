@@ -7,3 +7,5 @@ pub mod Ties
 pub mod Plains
 pub mod PlainLaws
 pub mod Coercion
+pub mod Named
+pub mod KeyTrees

@@ -3,3 +3,4 @@ pub mod Seq
 pub mod Map
 pub mod Enum
 pub mod Node
+pub mod ByName

@@ -5,3 +5,4 @@ pub mod Standard
 pub mod Tuples
 pub mod Maps
 pub mod Own
+pub mod ByName

@@ -2,6 +2,7 @@
 
 #![tactic(auto)]
 
+mod by_name;
 mod coerce;
 mod deserialize;
 mod deserializer;
@@ -10,8 +11,10 @@ mod impls;
 mod into;
 pub mod laws;
 mod map;
+mod named_fields;
 mod node;
 mod open;
+mod other_fields;
 mod parts;
 mod placed;
 mod plain;
@@ -22,11 +25,13 @@ mod seq;
 mod source;
 mod variant_access;
 
+pub use by_name::FieldsByName;
 pub use deserialize::Deserialize;
 pub use deserializer::Deserializer;
 pub use enum_access::EnumAccess;
 pub use into::IntoDeserializer;
 pub use map::Map;
+pub use named_fields::{end_fields, field_or, named_field, skip_fields};
 pub use node::Node;
 pub use parts::{next_field, next_part, two_parts};
 pub use plain::ValueVisitor;

@@ -34,9 +34,9 @@ pub(crate) enum Entries<'de, 'n> {
 /// number is the field's place.
 #[derive(Drop)]
 pub struct Map<'de, 'n> {
-    entries: Entries<'de, 'n>,
-    key_taken: bool,
-    flags: Flags,
+    pub(crate) entries: Entries<'de, 'n>,
+    pub(crate) key_taken: bool,
+    pub(crate) flags: Flags,
 }
 
 impl<'de, 'n> Map<'de, 'n> {

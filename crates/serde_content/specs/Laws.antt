@@ -5,3 +5,4 @@ pub mod Series
 pub mod Maps
 pub mod Records
 pub mod Variants
+pub mod ByName

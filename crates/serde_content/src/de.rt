@@ -1,6 +1,6 @@
 //! Reading: what a value is read by, and what can be read.
 
 pub use content_de::{
-    Deserialize, EnumAccess, IntoDeserializer, Map, Node, Seq, VariantAccess, next_field,
-    next_part, two_parts,
+    Deserialize, EnumAccess, FieldsByName, IntoDeserializer, Map, Node, Seq, VariantAccess,
+    end_fields, field_or, named_field, next_field, next_part, skip_fields, two_parts,
 };

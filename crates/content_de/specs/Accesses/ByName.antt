@@ -1,0 +1,55 @@
+-- What is left to be taken by name.
+use Rattle.std.specs.Prelude.{ℕ, List, [], ◌∷◌, ◌++◌, map, Option, Some, None, option_map}
+use Rattle.std.specs.Map.{lookup, remove_entry}
+use Rattle.content_tree.specs.Values.Text.{text_of}
+use Rattle.content_tree.specs.Values.Tree.{Tree, text, unit}
+use Rattle.content_tree.specs.Values.Value.{tree_of, pair_tree}
+use Rattle.content_tree.specs.Values.Lookups.{is_text}
+use Rattle.content_tree.specs.declared.cow.CowStr.{CowStr}
+use Rattle.content_tree.specs.declared.value.NamedValue.{NamedValue}
+use Rattle.content_de.specs.Sources.Origin.{Origin, of_tree, of_identifier, Flags, Subject, tree_under}
+use Rattle.content_de.specs.Sources.Deserializer.{flags_of}
+use Rattle.content_de.specs.Accesses.Map.{MapLeft}
+use Rattle.content_de.specs.declared.by_name.Left.{Left}
+use Rattle.content_de.specs.declared.by_name.Left.TheVariants as left
+use Rattle.content_de.specs.declared.by_name.FieldsByName.{FieldsByName}
+
+-- the entries that are left, each a key and a value, with the flags
+pub record FieldsLeft : Type 0 where
+  pub entries : List (Tree × Tree)
+  pub flags : Flags
+
+-- a key as a tree: a field's name is a text
+abbrev pub key_tree : Origin → Tree
+key_tree (of_tree t) = t
+key_tree (of_identifier n i) = text n
+
+-- the entries of a map, each key as a tree
+abbrev pub by_name : MapLeft → FieldsLeft
+by_name m = record { entries = map (λ e. (key_tree e.0, e.1)) m.entries; flags = m.flags }
+
+-- the value of the first entry whose key is this text
+abbrev pub field_named : List ℕ → FieldsLeft → Option Subject
+field_named name f = option_map (tree_under f.flags) (lookup (is_text name) f.entries)
+
+-- the other entries, in order
+abbrev pub without_field : List ℕ → FieldsLeft → FieldsLeft
+without_field name f = record { entries = remove_entry (is_text name) f.entries; flags = f.flags }
+
+-- a field as an entry
+abbrev pub field_entry : CowStr × NamedValue → Tree × Tree
+field_entry f = (text (text_of f.0), tree_of f.1)
+
+-- the value whose key was handed out: a unit stands there
+abbrev pub keyless_entry : Option NamedValue → List (Tree × Tree)
+keyless_entry None = []
+keyless_entry (Some v) = (unit, tree_of v) ∷ []
+
+-- pairs or fields as entries
+abbrev pub entries_of : Left → List (Tree × Tree)
+entries_of (left.Pairs q) = map pair_tree q.items
+entries_of (left.Fields q) = map field_entry q.items
+
+-- what a `FieldsByName` stands for
+abbrev pub fields_left : FieldsByName → FieldsLeft
+fields_left f = record { entries = keyless_entry f.keyless ++ entries_of f.left; flags = flags_of f.flags }

@@ -1,0 +1,242 @@
+//! Entries taken by name, wherever they stand.
+
+ghost use Rattle.std.specs.Prelude.{◌≡◌, ◌<◌, ℕ, Bool, List, Some, None, IfSome, IfNone, option_map};
+ghost use Rattle.std.specs.Prelude.{is_some, length, map, slice_index_or, ⊤};
+ghost use Rattle.std.specs.List.{remove};
+ghost use Rattle.std.specs.Map.{lookup, remove_entry};
+ghost use Rattle.content_tree.specs.Values.Text.{text_of};
+ghost use Rattle.content_tree.specs.Values.Tree as tree;
+ghost use Rattle.content_tree.specs.Values.Value.{tree_of};
+ghost use Rattle.content_tree.specs.Values.Lookups.{is_text};
+ghost use Rattle.content_de.specs.declared.map.Entries.TheVariants as entries;
+ghost use Rattle.content_de.specs.Sources.Deserializer.{flags_of, subject};
+ghost use Rattle.content_de.specs.Accesses.Map.{map_view, entries_under, entries_view};
+ghost use Rattle.content_de.specs.Accesses.ByName.{by_name, entries_of, field_named, fields_left};
+ghost use Rattle.content_de.specs.Accesses.ByName.{without_field};
+ghost use Rattle.content_de.specs.Reads.Read.{Reads};
+ghost use Rattle.content_de.specs.Reads.ByName.{first_other, no_others};
+
+use crate::deserializer::Deserializer;
+use crate::map::{Entries, Map};
+use crate::other_fields::{no_name, other_key, other_name};
+use crate::placed::Fields;
+use crate::source::Flags;
+use content_tree::{CowStr, NamedValue, Result};
+use std::alloc::Global;
+use std::collections::VecDeque;
+
+/// The pairs of a map, or the fields of a struct or a variant.
+#[derive(Drop)]
+pub(crate) enum Left<'de, 'n> {
+    /// The pairs of a map.
+    Pairs(VecDeque<(NamedValue<'de, 'n>, NamedValue<'de, 'n>)>),
+    /// The fields of a struct or a variant.
+    Fields(VecDeque<(CowStr<'n>, NamedValue<'de, 'n>)>),
+}
+
+/// The entries of a map, a struct or a variant that are left, taken by name, wherever they stand.
+#[derive(Drop)]
+pub struct FieldsByName<'de, 'n> {
+    pub(crate) keyless: Option<NamedValue<'de, 'n>>,
+    pub(crate) left: Left<'de, 'n>,
+    pub(crate) flags: Flags,
+}
+
+impl<'de, 'n> Left<'de, 'n> {
+    /// The value of the first entry of this name, taken away.
+    fn take_first(&mut self, name: &str) -> Option<NamedValue<'de, 'n>>
+        ensures value { option_map tree_of result
+            ≡ lookup (is_text name.now) (entries_of self.old) }
+        ensures rest { entries_of self.new ≡ remove_entry (is_text name.now) (entries_of self.old) }
+    {
+        match self {
+            Left::Pairs(pairs) => take_first(pairs, name),
+            Left::Fields(fields) => take_first(fields, name),
+        }
+    }
+
+    /// Whether an entry has this name.
+    fn has(&self, name: &str) -> bool
+        ensures { result ≡ is_some (lookup (is_text name.now) (entries_of self.now)) }
+    {
+        match self {
+            Left::Pairs(pairs) => place_of(pairs, name).is_some(),
+            Left::Fields(fields) => place_of(fields, name).is_some(),
+        }
+    }
+
+    /// The refusal of the first key that is left.
+    fn end(self, alloc: Global, known: &[&str]) -> Result<()>
+        ensures { Reads (first_other (map (λ name. name.now) known.now) (entries_of self.entry))
+            (λ u. ⊤) result }
+    {
+        match self {
+            Left::Pairs(mut pairs) => match pairs.pop_front() {
+                Some((key, _value)) => Err(other_key(alloc, key, known)),
+                None => Ok(()),
+            },
+            Left::Fields(mut fields) => match fields.pop_front() {
+                Some((name, _value)) => Err(other_name(alloc, name.as_str(), known)),
+                None => Ok(()),
+            },
+        }
+    }
+}
+
+impl<'de, 'n> Map<'de, 'n> {
+    /// The entries that are left, to be taken by name: a pair whose key is a text has that name. It
+    /// takes no memory.
+    pub fn by_name(self) -> FieldsByName<'de, 'n>
+        ensures { fields_left result ≡ by_name (map_view self.entry) }
+    {
+        let Map {
+            entries,
+            key_taken,
+            flags,
+        } = self;
+        match entries {
+            Entries::Pairs(pairs) => FieldsByName {
+                keyless: None,
+                left: Left::Pairs(pairs),
+                flags,
+            },
+            Entries::Fields(fields) => FieldsByName::of_fields(fields, key_taken, flags),
+        }
+    }
+}
+
+impl<'de, 'n> FieldsByName<'de, 'n> {
+    /// Fields, of which the first key may have been handed out.
+    fn of_fields(fields: Fields<'de, 'n>, key_taken: bool, flags: Flags) -> FieldsByName<'de, 'n>
+        ensures { fields_left result ≡ by_name (entries_under (flags_of flags)
+            (entries_view (entries.Fields fields.entry) key_taken)) }
+    {
+        let Fields { mut left, place: _ } = fields;
+        if !key_taken {
+            return FieldsByName {
+                keyless: None,
+                left: Left::Fields(left),
+                flags,
+            };
+        }
+        match left.pop_front() {
+            Some((_name, value)) => FieldsByName {
+                keyless: Some(value),
+                left: Left::Fields(left),
+                flags,
+            },
+            None => FieldsByName {
+                keyless: None,
+                left: Left::Fields(left),
+                flags,
+            },
+        }
+    }
+
+    /// Whether an entry has this name.
+    pub(crate) fn has(&self, name: &str) -> bool
+        ensures { result ≡ is_some (field_named name.now (fields_left self.now)) }
+    {
+        self.left.has(name)
+    }
+
+    /// The value of the first entry of this name, which is taken away, or none; the others stay in
+    /// order. It takes no memory, and constant time where the entry is the first.
+    pub fn take_named(&mut self, name: &str) -> Option<Deserializer<'de, 'n>>
+        ensures value { option_map subject result ≡ field_named name.now (fields_left self.old) }
+        ensures rest { fields_left self.new ≡ without_field name.now (fields_left self.old) }
+    {
+        match self.left.take_first(name) {
+            Some(value) => Some(Deserializer::inside(value, self.flags)),
+            None => None,
+        }
+    }
+
+    /// The refusal of the first key that is left.
+    pub(crate) fn end(self, alloc: Global, known: &[&str]) -> Result<()>
+        ensures { Reads (no_others (map (λ name. name.now) known.now) (fields_left self.entry))
+            (λ u. ⊤) result }
+    {
+        let FieldsByName {
+            keyless,
+            left,
+            flags: _,
+        } = self;
+        match keyless {
+            Some(_value) => Err(no_name(alloc, NamedValue::Unit)),
+            None => left.end(alloc, known),
+        }
+    }
+}
+
+/// A key that may be a text.
+trait Key: Drop {
+    /// Whether the key is this text.
+    ghost is_text: { List ℕ → Self → Bool };
+
+    /// Whether the key is this text.
+    fn is(&self, name: &str) -> bool
+        ensures { result ≡ is_text name.now self.now };
+}
+
+impl Key for CowStr<'_> {
+    ghost is_text = { λ name key. is_text name (tree.text (text_of key)) };
+
+    fn is(&self, name: &str) -> bool {
+        self.as_str() == name
+    }
+}
+
+impl Key for NamedValue<'_, '_> {
+    ghost is_text = { λ name key. is_text name (tree_of key) };
+
+    fn is(&self, name: &str) -> bool {
+        match self {
+            NamedValue::String(text) => text.as_str() == name,
+            _ => false,
+        }
+    }
+}
+
+/// The value of the first entry whose key is this text, taken away.
+#[tactic(auto, using(crate::proofs::Named::all_stay))]
+fn take_first<K: Key, V: Drop>(entries: &mut VecDeque<(K, V)>, name: &str) -> Option<V>
+    ensures value { result ≡ lookup (K.is_text name.now) entries.old.items }
+    ensures rest { entries.new.items ≡ remove_entry (K.is_text name.now) entries.old.items }
+{
+    match place_of(entries, name) {
+        Some(place) => second(entries.remove(place)),
+        None => None,
+    }
+}
+
+/// The place of the first entry whose key is this text.
+#[tactic(auto, using(crate::proofs::Named::named))]
+fn place_of<K: Key, V>(entries: &VecDeque<(K, V)>, name: &str) -> Option<usize>
+    ensures there { is_some (lookup (K.is_text name.now) entries.now.items) ≡ is_some result }
+    ensures none { IfNone result (lookup (K.is_text name.now) entries.now.items ≡ None) }
+    ensures place { IfSome result (λ i. i < length entries.now.items) }
+    ensures value { IfSome result (λ i. (d : K × V) → lookup (K.is_text name.now) entries.now.items
+        ≡ Some (slice_index_or entries.now.items i d).1) }
+    ensures others { IfSome result (λ i. remove_entry (K.is_text name.now) entries.now.items
+        ≡ remove entries.now.items i) }
+{
+    let mut place = 0;
+    while place < entries.len() {
+        if entries[place].0.is(name) {
+            return Some(place);
+        }
+        place += 1;
+    }
+    None
+}
+
+/// The second of the two.
+fn second<A: Drop, B: Drop>(both: Option<(A, B)>) -> Option<B>
+    ensures { result ≡ option_map (λ b. b.1) both }
+{
+    match both {
+        Some((_first, second)) => Some(second),
+        None => None,
+    }
+}

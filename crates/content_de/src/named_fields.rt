@@ -1,0 +1,108 @@
+//! What a type reads by name: each field wherever it stands, and what is left over.
+
+ghost use Rattle.std.specs.Prelude.{◌≡◌, ◌≢◌, Some, None, ⊤, map};
+ghost use Rattle.content_tree.specs.Errors.Cause.{out_of_memory};
+ghost use Rattle.content_de.specs.Outcomes.{cause};
+ghost use Rattle.content_de.specs.Accesses.ByName.{field_named, fields_left, without_field};
+ghost use Rattle.content_de.specs.Reads.Read.{Reads};
+ghost use Rattle.content_de.specs.Reads.ByName.{found_refusal, FoundGives, missing_field};
+ghost use Rattle.content_de.specs.Reads.ByName.{no_others, others_skipped};
+
+use crate::by_name::FieldsByName;
+use crate::deserialize::Deserialize;
+use crate::other_fields::duplicate_field;
+use content_tree::{Error, ErrorKind, Result};
+use std::alloc::Global;
+
+/// The field of this name, wherever it stands, for a type of a caller's own. The entry is taken
+/// away also where its reading is refused.
+///
+/// # Errors
+///
+/// That of the type's first refusal; where there is none of that name ``missing field `NAME` ``;
+/// out of memory in its place.
+pub fn named_field<'de, 'n: 'de, T: Deserialize<'de>>(
+    alloc: Global,
+    from: &mut FieldsByName<'de, 'n>,
+    name: &str,
+) -> Result<T>
+    ensures value { Reads
+        (found_refusal (Some (missing_field name.now)) T.refusal
+        (field_named name.now (fields_left from.old)))
+        (FoundGives (λ a. ⊥) T.gives (field_named name.now (fields_left from.old))) result }
+    ensures rest { fields_left from.new ≡ without_field name.now (fields_left from.old) }
+{
+    match from.take_named(name) {
+        Some(value) => T::deserialize(alloc, value),
+        None => Err(missing_field(alloc, name)),
+    }
+}
+
+/// The same, or this value where there is no field of that name.
+///
+/// # Errors
+///
+/// That of the type's first refusal; out of memory in its place.
+pub fn field_or<'de, 'n: 'de, T: Deserialize<'de>>(
+    alloc: Global,
+    from: &mut FieldsByName<'de, 'n>,
+    name: &str,
+    missing: T,
+) -> Result<T>
+    ensures value { Reads
+        (found_refusal None T.refusal (field_named name.now (fields_left from.old)))
+        (FoundGives (λ a. a ≡ missing) T.gives
+        (field_named name.now (fields_left from.old))) result }
+    ensures rest { fields_left from.new ≡ without_field name.now (fields_left from.old) }
+{
+    match from.take_named(name) {
+        Some(value) => T::deserialize(alloc, value),
+        None => Ok(missing),
+    }
+}
+
+/// The end of fields that are taken by name, for a type of a caller's own that skips others: no
+/// entry that is left may have a name of `known` again.
+///
+/// # Errors
+///
+/// The first of these names that an entry has: ``duplicate field `NAME` ``; out of memory in its
+/// place.
+pub fn skip_fields(alloc: Global, from: FieldsByName<'_, '_>, known: &[&str]) -> Result<()>
+    ensures { Reads (others_skipped (map (λ name. name.now) known.now) (fields_left from.entry))
+        (λ u. ⊤) result }
+{
+    for name in known {
+        if from.has(name) {
+            return Err(duplicate_field(alloc, name));
+        }
+    }
+    Ok(())
+}
+
+/// The end of fields that are taken by name, for a type of a caller's own that has no others: no
+/// entry may be left.
+///
+/// # Errors
+///
+/// That of the first key that is left: ``duplicate field `NAME` `` where it is one of `known`, else
+/// ``unknown field `NAME`, expected one of `A`, `B`, `C` ``, and what was found where it is no
+/// text; out of memory in its place.
+pub fn end_fields(alloc: Global, from: FieldsByName<'_, '_>, known: &[&str]) -> Result<()>
+    ensures { Reads (no_others (map (λ name. name.now) known.now) (fields_left from.entry))
+        (λ u. ⊤) result }
+{
+    from.end(alloc, known)
+}
+
+/// The error of a field that isn't there.
+#[cold]
+#[inline(never)]
+fn missing_field(alloc: Global, name: &str) -> Error
+    ensures { cause result ≢ out_of_memory → cause result ≡ missing_field name.now }
+{
+    match format!(in alloc; "missing field `{name}`") {
+        Ok(text) => Error::from(ErrorKind::Custom(text)),
+        Err(refused) => Error::from(refused),
+    }
+}
