@@ -4,6 +4,7 @@ use Rattle.std.specs.Prelude.{refl, ⊤}
 use Rattle.std.specs.Map.{lookup, remove_entry}
 use Rattle.std.proofs.Common.{ap, subst, sym}
 use Rattle.std.proofs.lemmas.Slice.Eq.{bytes_eq-Decides}
+use Rattle.content_tree.specs.Values.Text.{static_name}
 use Rattle.content_tree.specs.Values.Tree as tree
 use Rattle.content_tree.specs.Values.Tree.{Tree, Fields}
 use Rattle.content_tree.specs.Values.Lookups.{is_text}
@@ -60,11 +61,11 @@ abbrev pub EntryGives : {A : Type 0} → List ℕ → (A → Type 0) → Gives A
 EntryGives name missing gives a others f = FoundGives missing gives (field_named name f) a × others (without_field name f)
 
 -- the first entry has the name
-entry_first : {A Y : Type 0} {refusal : Refusal} {gives : Gives A} {others : FieldsLeft → Option Cause} {given : Y → FieldsLeft → Type 0} {passes : A → Type 0} {such : Y → Type 0}
+entry_first : {A Y : Type 0} {passes : A → Type 0} {such : Y → Type 0} (refusal : Refusal) (gives : Gives A) (others : FieldsLeft → Option Cause) (given : Y → FieldsLeft → Type 0)
     (name : List ℕ) (absent : Option Cause) (missing : A → Type 0) (see : Y → A) (f : Flags) (k t : Tree) (es : List (Tree × Tree)) → is_text name k ≡ true
     → GivesOnly (refusal (tree_under f t)) (gives (tree_under f t)) passes → GivesOnly (others (named_under f es)) (λ y. given y (named_under f es)) such
     → GivesOnly (entry_refusal name absent refusal others (named_under f ((k, t) ∷ es))) (λ y. EntryGives name missing gives (see y) (given y) (named_under f ((k, t) ∷ es))) (λ y. passes (see y) × such y)
-entry_first name absent missing see f k t es is one last = rw is (record {
+entry_first refusal gives others given name absent missing see f k t es is one last = rw is (record {
   free = both_free one.free last.free;
   only = λ y h. (one.only (see y) h.0, last.only y h.1);
 })
@@ -74,10 +75,10 @@ entry_back : {A Y : Type 0} {exists : A → Type 0} {script : ScriptOf A} {refus
     {given : Y → FieldsLeft → Type 0} {such : Y → Type 0} (name : List ℕ) (absent : Option Cause) (missing : A → Type 0) → ComesBack exists script refusal gives eq → (x : A) → exists x → (see : Y → A)
     → NamedBack rest others given such
     → NamedBack (field_first name (script x) rest) (entry_refusal name absent refusal others) (λ y. EntryGives name missing gives (see y) (given y)) (λ y. (eq x (see y) ≡ true) × such y)
-entry_back name absent missing back x real see more = record {
+entry_back {refusal} {gives} {others} {given} name absent missing back x real see more = record {
   of_flags = λ f.
       fields_more_such
-      (λ t fs one last. entry_first name absent missing see f _ t (named_entries fs) ((bytes_eq-Decides name name).1 refl) one last)
+      (λ t fs one last. entry_first refusal gives others given name absent missing see f (tree.text (static_name name)) t (named_entries fs) ((bytes_eq-Decides name name).1 refl) one last)
       (back.of_value x real f) (more.of_flags f);
 }
 
