@@ -6,3 +6,5 @@ pub mod Tuples
 pub mod Maps
 pub mod Own
 pub mod ByName
+pub mod Attempts
+pub mod Tagged

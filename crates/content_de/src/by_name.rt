@@ -1,12 +1,14 @@
 //! Entries taken by name, wherever they stand.
 
 ghost use Rattle.std.specs.Prelude.{◌≡◌, ◌<◌, ℕ, Bool, List, Some, None, IfSome, IfNone, option_map};
-ghost use Rattle.std.specs.Prelude.{is_some, length, map, slice_index_or, ⊤};
+ghost use Rattle.std.specs.Prelude.{is_some, length, map, slice_index_or, ⊤, IfOk, IfErr, ◌++◌};
+ghost use Rattle.content_tree.specs.Errors.Kind.{IsOutOfMemory};
+ghost use Rattle.content_de.specs.Accesses.ByName.{rest_of, keyless_entry, field_entry};
 ghost use Rattle.std.specs.List.{remove};
 ghost use Rattle.std.specs.Map.{lookup, remove_entry};
 ghost use Rattle.content_tree.specs.Values.Text.{text_of};
 ghost use Rattle.content_tree.specs.Values.Tree as tree;
-ghost use Rattle.content_tree.specs.Values.Value.{tree_of};
+ghost use Rattle.content_tree.specs.Values.Value.{tree_of, pair_tree};
 ghost use Rattle.content_tree.specs.Values.Lookups.{is_text};
 ghost use Rattle.content_de.specs.declared.map.Entries.TheVariants as entries;
 ghost use Rattle.content_de.specs.Sources.Deserializer.{flags_of, subject};
@@ -62,6 +64,24 @@ impl<'de, 'n> Left<'de, 'n> {
         match self {
             Left::Pairs(pairs) => place_of(pairs, name).is_some(),
             Left::Fields(fields) => place_of(fields, name).is_some(),
+        }
+    }
+
+    /// All as pairs, behind the value whose key was handed out, where there is one.
+    fn into_pairs(
+        self,
+        alloc: Global,
+        keyless: Option<NamedValue<'de, 'n>>,
+    ) -> Result<Vec<(NamedValue<'de, 'n>, NamedValue<'de, 'n>)>>
+    where
+        'n: 'de,
+        ensures value { IfOk result (λ ps. map pair_tree ps.items
+            ≡ keyless_entry keyless.entry ++ entries_of self.entry) }
+        ensures memory { IfErr result (λ e. IsOutOfMemory e) }
+    {
+        match self {
+            Left::Pairs(pairs) => pairs_behind(keyless, pairs),
+            Left::Fields(fields) => fields_behind(alloc, keyless, fields),
         }
     }
 
@@ -152,6 +172,27 @@ impl<'de, 'n> FieldsByName<'de, 'n> {
         }
     }
 
+    /// What is left, to be read as a map: a field's name is a text there. It takes memory only
+    /// where fields of a struct or a variant are left.
+    ///
+    /// # Errors
+    ///
+    /// Out of memory, where an allocation failed.
+    pub fn rest(self, alloc: Global) -> Result<Deserializer<'de, 'n>>
+    where
+        'n: 'de,
+        ensures value { IfOk result (λ d. subject d ≡ rest_of (fields_left self.entry)) }
+        ensures memory { IfErr result (λ e. IsOutOfMemory e) }
+    {
+        let FieldsByName {
+            keyless,
+            left,
+            flags,
+        } = self;
+        let pairs = left.into_pairs(alloc, keyless)?;
+        Ok(Deserializer::inside(NamedValue::Map(pairs), flags))
+    }
+
     /// The refusal of the first key that is left.
     pub(crate) fn end(self, alloc: Global, known: &[&str]) -> Result<()>
         ensures { Reads (no_others (map (λ name. name.now) known.now) (fields_left self.entry))
@@ -229,6 +270,43 @@ fn place_of<K: Key, V>(entries: &VecDeque<(K, V)>, name: &str) -> Option<usize>
         place += 1;
     }
     None
+}
+
+/// These pairs, behind the value whose key was handed out, where there is one.
+fn pairs_behind<'de, 'n>(
+    keyless: Option<NamedValue<'de, 'n>>,
+    pairs: VecDeque<(NamedValue<'de, 'n>, NamedValue<'de, 'n>)>,
+) -> Result<Vec<(NamedValue<'de, 'n>, NamedValue<'de, 'n>)>>
+    ensures value { IfOk result (λ ps. map pair_tree ps.items
+        ≡ keyless_entry keyless.entry ++ map pair_tree pairs.entry.items) }
+    ensures memory { IfErr result (λ e. IsOutOfMemory e) }
+{
+    let mut pairs = pairs;
+    if let Some(value) = keyless {
+        pairs.push_front((NamedValue::Unit, value))?;
+    }
+    Ok(pairs.into_vec())
+}
+
+/// These fields as pairs, each name a text, behind that value.
+fn fields_behind<'de, 'n: 'de>(
+    alloc: Global,
+    keyless: Option<NamedValue<'de, 'n>>,
+    fields: VecDeque<(CowStr<'n>, NamedValue<'de, 'n>)>,
+) -> Result<Vec<(NamedValue<'de, 'n>, NamedValue<'de, 'n>)>>
+    ensures value { IfOk result (λ ps. map pair_tree ps.items
+        ≡ keyless_entry keyless.entry ++ map field_entry fields.entry.items) }
+    ensures memory { IfErr result (λ e. IsOutOfMemory e) }
+{
+    let mut fields = fields;
+    let mut pairs = Vec::new(alloc);
+    if let Some(value) = keyless {
+        pairs.push((NamedValue::Unit, value))?;
+    }
+    while let Some((name, value)) = fields.pop_front() {
+        pairs.push((NamedValue::String(name), value))?;
+    }
+    Ok(pairs)
 }
 
 /// The second of the two.

@@ -2,6 +2,7 @@
 
 #![tactic(auto)]
 
+mod attempts;
 mod by_name;
 mod coerce;
 mod deserialize;
@@ -25,13 +26,14 @@ mod seq;
 mod source;
 mod variant_access;
 
+pub use attempts::attempt;
 pub use by_name::FieldsByName;
 pub use deserialize::Deserialize;
 pub use deserializer::Deserializer;
 pub use enum_access::EnumAccess;
 pub use into::IntoDeserializer;
 pub use map::Map;
-pub use named_fields::{end_fields, field_or, named_field, skip_fields};
+pub use named_fields::{end_fields, field_or, named_field, skip_fields, tag_field};
 pub use node::Node;
 pub use parts::{next_field, next_part, two_parts};
 pub use plain::ValueVisitor;

@@ -2,7 +2,9 @@
 
 ghost use Rattle.std.specs.Prelude.{◌≡◌, ◌≢◌, Some, None, ⊤, map};
 ghost use Rattle.content_tree.specs.Errors.Cause.{out_of_memory};
-ghost use Rattle.content_de.specs.Outcomes.{cause};
+ghost use Rattle.content_tree.specs.Values.Text.{text_of};
+ghost use Rattle.content_de.specs.Outcomes.{Answers, cause};
+ghost use Rattle.content_de.specs.Reads.Tagged.{tag_at};
 ghost use Rattle.content_de.specs.Accesses.ByName.{field_named, fields_left, without_field};
 ghost use Rattle.content_de.specs.Reads.Read.{Reads};
 ghost use Rattle.content_de.specs.Reads.ByName.{found_refusal, FoundGives, missing_field};
@@ -11,7 +13,7 @@ ghost use Rattle.content_de.specs.Reads.ByName.{no_others, others_skipped};
 use crate::by_name::FieldsByName;
 use crate::deserialize::Deserialize;
 use crate::other_fields::duplicate_field;
-use content_tree::{Error, ErrorKind, Result};
+use content_tree::{CowStr, Error, ErrorKind, Result};
 use std::alloc::Global;
 
 /// The field of this name, wherever it stands, for a type of a caller's own. The entry is taken
@@ -58,6 +60,27 @@ pub fn field_or<'de, 'n: 'de, T: Deserialize<'de>>(
     match from.take_named(name) {
         Some(value) => T::deserialize(alloc, value),
         None => Ok(missing),
+    }
+}
+
+/// The text of the field of this name, for an enum of a caller's own that it tags. It takes no
+/// memory.
+///
+/// # Errors
+///
+/// What was found where it is no text; where there is no such field ``missing field `NAME` ``; out
+/// of memory in its place.
+pub fn tag_field<'de, 'n: 'de>(
+    alloc: Global,
+    from: &mut FieldsByName<'de, 'n>,
+    name: &str,
+) -> Result<CowStr<'de>>
+    ensures value { Answers text_of (tag_at name.now (fields_left from.old)) result }
+    ensures rest { fields_left from.new ≡ without_field name.now (fields_left from.old) }
+{
+    match from.take_named(name) {
+        Some(value) => value.deserialize_str(alloc),
+        None => Err(missing_field(alloc, name)),
     }
 }
 

@@ -6,3 +6,4 @@ pub mod Maps
 pub mod Records
 pub mod Variants
 pub mod ByName
+pub mod Tagged

@@ -3,7 +3,8 @@ use Rattle.std.specs.Prelude.{ℕ, List, [], ◌∷◌, ◌++◌, map, Option, S
 use Rattle.std.specs.Map.{lookup, remove_entry}
 use Rattle.content_tree.specs.Values.Text.{text_of}
 use Rattle.content_tree.specs.Values.Tree.{Tree, text, unit}
-use Rattle.content_tree.specs.Values.Value.{tree_of, pair_tree}
+use Rattle.content_tree.specs.Values.Tree as tree
+use Rattle.content_tree.specs.Values.Value.{tree_of, pair_tree, pairs_of}
 use Rattle.content_tree.specs.Values.Lookups.{is_text}
 use Rattle.content_tree.specs.declared.cow.CowStr.{CowStr}
 use Rattle.content_tree.specs.declared.value.NamedValue.{NamedValue}
@@ -53,3 +54,7 @@ entries_of (left.Fields q) = map field_entry q.items
 -- what a `FieldsByName` stands for
 abbrev pub fields_left : FieldsByName → FieldsLeft
 fields_left f = record { entries = keyless_entry f.keyless ++ entries_of f.left; flags = flags_of f.flags }
+
+-- the entries that are left as a map
+abbrev pub rest_of : FieldsLeft → Subject
+rest_of f = tree_under f.flags (tree.map (pairs_of f.entries))

@@ -83,11 +83,11 @@ enum_refusal name variants s = refusal_then (enum_at name s)
     (λ e. refusal_then (text_from (tag_of e).origin) (λ tag. variants tag.content e.variant))
 
 -- the variant of this name, and else one of the others
-abbrev pub variant_or : List ℕ → (VariantLeft → Option Cause) → (List ℕ → VariantLeft → Option Cause) → List ℕ → VariantLeft → Option Cause
+abbrev pub variant_or : {A : Type 0} → List ℕ → (A → Option Cause) → (List ℕ → A → Option Cause) → List ℕ → A → Option Cause
 variant_or name refusal others tag v = cond (bytes_eq tag name) (refusal v) (others tag v)
 
 -- no variant has this name
-abbrev pub no_variant : List ℕ → VariantLeft → Option Cause
+abbrev pub no_variant : {A : Type 0} → List ℕ → A → Option Cause
 no_variant tag v = Some (custom (codes "unknown variant"))
 
 -- the variant of this name, which holds this

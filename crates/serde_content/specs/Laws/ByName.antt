@@ -97,7 +97,7 @@ pub named_or_back : {A Y : Type 0} {exists : A → Type 0} {script : ScriptOf A}
 named_or_back name missing back x real see more = entry_back name None missing back x real see more
 
 -- a field's key as a tree is its text
-entries_by_name : (place : ℕ) (fs : Fields) → named_entries fs ≡ map (λ e. (key_tree e.0, e.1)) (entries_of_fields place fs)
+pub entries_by_name : (place : ℕ) (fs : Fields) → named_entries fs ≡ map (λ e. (key_tree e.0, e.1)) (entries_of_fields place fs)
 entries_by_name place tree.no_fields = refl
 entries_by_name place (tree.field_then k t fs) = ap (λ es. (tree.text k, t) ∷ es) (entries_by_name (suc place) fs)
 

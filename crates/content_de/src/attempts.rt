@@ -1,0 +1,33 @@
+//! One try of a type on what is read, which stays.
+
+ghost use Rattle.content_de.specs.Sources.Deserializer.{subject};
+ghost use Rattle.content_de.specs.Reads.Attempts.{Tries};
+
+use crate::deserialize::Deserialize;
+use crate::deserializer::Deserializer;
+use content_tree::{ErrorKind, Result};
+use std::alloc::Global;
+
+/// A value of the type, read from a copy of what is there, or none where that is refused; for an
+/// untagged enum of a caller's own, which tries one type after another.
+///
+/// # Errors
+///
+/// Out of memory, where an allocation failed.
+pub fn attempt<'de, 'n: 'de, T: Deserialize<'de>>(
+    alloc: Global,
+    from: &Deserializer<'de, 'n>,
+) -> Result<Option<T>>
+    ensures { Tries (T.refusal (subject from.now)) (T.gives (subject from.now)) result }
+{
+    let copy = from.try_clone(alloc)?;
+    match T::deserialize(alloc, copy) {
+        Ok(value) => Ok(Some(value)),
+        Err(error) => {
+            if matches!(error.kind(), ErrorKind::OutOfMemory) {
+                return Err(error);
+            }
+            Ok(None)
+        }
+    }
+}
