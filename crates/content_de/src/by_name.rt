@@ -1,6 +1,7 @@
 //! Entries taken by name, wherever they stand.
 
 ghost use Rattle.std.specs.Prelude.{◌≡◌, ◌<◌, ℕ, Bool, List, Some, None, IfSome, IfNone, option_map};
+ghost use Rattle.std.specs.Prelude.{IsTrue};
 ghost use Rattle.std.specs.Prelude.{is_some, length, map, slice_index_or, ⊤, IfOk, IfErr, ◌++◌};
 ghost use Rattle.content_tree.specs.Errors.Kind.{IsOutOfMemory};
 ghost use Rattle.content_de.specs.Accesses.ByName.{rest_of, keyless_entry, field_entry};
@@ -14,7 +15,7 @@ ghost use Rattle.content_de.specs.declared.map.Entries.TheVariants as entries;
 ghost use Rattle.content_de.specs.Sources.Deserializer.{flags_of, subject};
 ghost use Rattle.content_de.specs.Accesses.Map.{map_view, entries_under, entries_view};
 ghost use Rattle.content_de.specs.Accesses.ByName.{by_name, entries_of, field_named, fields_left};
-ghost use Rattle.content_de.specs.Accesses.ByName.{without_field};
+ghost use Rattle.content_de.specs.Accesses.ByName.{without_field, PassesFirst};
 ghost use Rattle.content_de.specs.Reads.Read.{Reads};
 ghost use Rattle.content_de.specs.Reads.ByName.{first_other, no_others};
 
@@ -46,14 +47,15 @@ pub struct FieldsByName<'de, 'n> {
 
 impl<'de, 'n> Left<'de, 'n> {
     /// The value of the first entry of this name, taken away.
+    #[inline(always)]
     fn take_first(&mut self, name: &str) -> Option<NamedValue<'de, 'n>>
         ensures value { option_map tree_of result
             ≡ lookup (is_text name.now) (entries_of self.old) }
         ensures rest { entries_of self.new ≡ remove_entry (is_text name.now) (entries_of self.old) }
     {
         match self {
-            Left::Pairs(pairs) => take_first(pairs, name),
-            Left::Fields(fields) => take_first(fields, name),
+            Left::Pairs(pairs) => take_named(pairs, name),
+            Left::Fields(fields) => take_named(fields, name),
         }
     }
 
@@ -162,6 +164,7 @@ impl<'de, 'n> FieldsByName<'de, 'n> {
 
     /// The value of the first entry of this name, which is taken away, or none; the others stay in
     /// order. It takes no memory, and constant time where the entry is the first.
+    #[inline(always)]
     pub fn take_named(&mut self, name: &str) -> Option<Deserializer<'de, 'n>>
         ensures value { option_map subject result ≡ field_named name.now (fields_left self.old) }
         ensures rest { fields_left self.new ≡ without_field name.now (fields_left self.old) }
@@ -223,6 +226,7 @@ trait Key: Drop {
 impl Key for CowStr<'_> {
     ghost is_text = { λ name key. is_text name (tree.text (text_of key)) };
 
+    #[inline(always)]
     fn is(&self, name: &str) -> bool {
         self.as_str() == name
     }
@@ -231,6 +235,7 @@ impl Key for CowStr<'_> {
 impl Key for NamedValue<'_, '_> {
     ghost is_text = { λ name key. is_text name (tree_of key) };
 
+    #[inline(always)]
     fn is(&self, name: &str) -> bool {
         match self {
             NamedValue::String(text) => text.as_str() == name,
@@ -240,8 +245,48 @@ impl Key for NamedValue<'_, '_> {
 }
 
 /// The value of the first entry whose key is this text, taken away.
+#[inline(always)]
+fn take_named<K: Key, V: Drop>(entries: &mut VecDeque<(K, V)>, name: &str) -> Option<V>
+    ensures value { result ≡ lookup (K.is_text name.now) entries.old.items }
+    ensures rest { entries.new.items ≡ remove_entry (K.is_text name.now) entries.old.items }
+{
+    match take_front(entries, name) {
+        Some(value) => Some(value),
+        None => take_later(entries, name),
+    }
+}
+
+/// The value of the first entry, taken away where its key is this text.
+#[inline(always)]
+fn take_front<K: Key, V: Drop>(entries: &mut VecDeque<(K, V)>, name: &str) -> Option<V>
+    ensures value { IfSome result (λ v. lookup (K.is_text name.now) entries.old.items ≡ Some v) }
+    ensures others { IfSome result (λ v. entries.new.items
+        ≡ remove_entry (K.is_text name.now) entries.old.items) }
+    ensures kept { IfNone result (entries.new.items ≡ entries.old.items) }
+{
+    if !is_front(entries, name) {
+        return None;
+    }
+    match entries.pop_front() {
+        Some((_key, value)) => Some(value),
+        None => None,
+    }
+}
+
+/// Whether the key of the first entry is this text.
+#[inline(always)]
+fn is_front<K: Key, V>(entries: &VecDeque<(K, V)>, name: &str) -> bool
+    ensures { IsTrue result → PassesFirst (K.is_text name.now) entries.now.items }
+{
+    match entries.front() {
+        Some(entry) => entry.0.is(name),
+        None => false,
+    }
+}
+
+/// The value of the first entry whose key is this text, wherever it stands, taken away.
 #[tactic(auto, using(crate::proofs::Named::all_stay))]
-fn take_first<K: Key, V: Drop>(entries: &mut VecDeque<(K, V)>, name: &str) -> Option<V>
+fn take_later<K: Key, V: Drop>(entries: &mut VecDeque<(K, V)>, name: &str) -> Option<V>
     ensures value { result ≡ lookup (K.is_text name.now) entries.old.items }
     ensures rest { entries.new.items ≡ remove_entry (K.is_text name.now) entries.old.items }
 {

@@ -1,5 +1,6 @@
 -- What is left to be taken by name.
 use Rattle.std.specs.Prelude.{ℕ, List, [], ◌∷◌, ◌++◌, map, Option, Some, None, option_map}
+use Rattle.std.specs.Prelude.{◌≡◌, Bool, true}
 use Rattle.std.specs.Map.{lookup, remove_entry}
 use Rattle.content_tree.specs.Values.Text.{text_of}
 use Rattle.content_tree.specs.Values.Tree.{Tree, text, unit}
@@ -36,6 +37,11 @@ field_named name f = option_map (tree_under f.flags) (lookup (is_text name) f.en
 -- the other entries, in order
 abbrev pub without_field : List ℕ → FieldsLeft → FieldsLeft
 without_field name f = record { entries = remove_entry (is_text name) f.entries; flags = f.flags }
+
+-- the key of the first entry passes the test
+abbrev pub PassesFirst : {K X : Type 0} → (K → Bool) → List (K × X) → Type 0
+PassesFirst test [] = ⊥
+PassesFirst test (e ∷ es) = test e.0 ≡ true
 
 -- a field as an entry
 abbrev pub field_entry : CowStr × NamedValue → Tree × Tree
