@@ -9,6 +9,7 @@ use Rattle.content_tree.specs.declared.error.Error.{Error}
 use Rattle.content_tree.specs.declared.error.ErrorKind.{ErrorKind}
 use Rattle.content_tree.specs.declared.error.ErrorKind.TheVariants as error
 use Rattle.content_tree.specs.declared.value.NamedValue.{NamedValue}
+use Rattle.content_ser.specs.Grammar.Spells.{SpellsWhole}
 use Rattle.content_ser.specs.Scripts.Script.{Script, calls_of}
 use Rattle.content_ser.specs.Scripts.Standard.{ScriptOf}
 use Rattle.content_build.specs.Serializer.{Serialized}
@@ -27,13 +28,19 @@ pub sent_or_memory : {A : Type 0} {p : Tree → Type 0} (sc : Script) (e : Error
 sent_or_memory sc e (Ok y) such s is = absurd is
 sent_or_memory sc e (Err x) such s is = subst (λ z. IsOutOfMemory z) (sym is) (refused_for_memory sc e such s)
 
--- what is read of the tree that a value was sent as
+-- what is read of a tree that a value's calls spell
+pub returned_tree : {A : Type 0} {exists : A → Type 0} {script : ScriptOf A} {refusal : Refusal} {gives : Gives A} {eq : A → A → Bool} → ComesBack exists script refusal gives eq
+    → (x : A) → exists x → (f : Flags) (t : Tree) → SpellsWhole (calls_of (script x f.human_readable)) t
+    → GivesOnly (refusal (tree_under f t)) (gives (tree_under f t)) (λ y. eq x y ≡ true)
+returned_tree {script} {refusal} {gives} {eq} back x real f t spelled =
+    let b = back.of_value x real f in
+    subst (λ u. GivesOnly (refusal (tree_under f u)) (gives (tree_under f u)) (λ y. eq x y ≡ true)) (one_tree (calls_of (script x f.human_readable)) b.whole t b.spelled spelled) b.such
+
+-- what is read of the value that a value was sent as
 pub returned : {A : Type 0} {exists : A → Type 0} {script : ScriptOf A} {refusal : Refusal} {gives : Gives A} {eq : A → A → Bool} → ComesBack exists script refusal gives eq
     → (x : A) → exists x → (f : Flags) (v : NamedValue) → Serialized (script x f.human_readable) (Ok v)
     → GivesOnly (refusal (tree_under f (tree_of v))) (gives (tree_under f (tree_of v))) (λ y. eq x y ≡ true)
-returned {script} {refusal} {gives} {eq} back x real f v s =
-    let b = back.of_value x real f in
-    subst (λ t. GivesOnly (refusal (tree_under f t)) (gives (tree_under f t)) (λ y. eq x y ≡ true)) (one_tree (calls_of (script x f.human_readable)) b.whole (tree_of v) b.spelled s.1) b.such
+returned back x real f v s = returned_tree back x real f (tree_of v) s.1
 
 -- no cause but out of memory
 memory_only : (k : ErrorKind) → ((cause_of k ≡ out_of_memory → ⊥) → ⊥) → k ≡ error.OutOfMemory

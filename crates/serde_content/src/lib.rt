@@ -12,7 +12,7 @@ pub use content_tree::{
     ValueDisplay,
 };
 pub use round::{RoundTrip, round_trip};
-pub use values::to_value;
+pub use values::{from_value, to_value};
 
 pub mod de;
 pub mod laws;

@@ -73,7 +73,7 @@ pub fn round_trip<'de, T: RoundTrip<'de>>(
 }
 
 /// Reads this value under these flags.
-fn under<'de, 'n>(
+pub(crate) fn under<'de, 'n>(
     value: NamedValue<'de, 'n>,
     human_readable: bool,
     coerce: bool,

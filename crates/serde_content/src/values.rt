@@ -1,10 +1,19 @@
-//! Values of what can be serialised, at any lifetime.
+//! Values of what can be serialised, at any lifetime, and what they are values of.
 
+ghost use Rattle.std.specs.Prelude.{◌≡◌, true, false, IfOk, IfErr};
+ghost use Rattle.content_tree.specs.Errors.Kind.{IsOutOfMemory};
+ghost use Rattle.content_tree.specs.Values.Value.{tree_of};
+ghost use Rattle.content_ser.specs.Grammar.Spells.{SpellsWhole};
+ghost use Rattle.content_ser.specs.Scripts.Script.{calls_of};
 ghost use Rattle.content_build.specs.Serializer.{Serialized};
+ghost use Rattle.content_de.specs.Sources.Origin.{tree_under};
+ghost use Rattle.content_de.specs.Reads.Read.{Reads};
+ghost use Rattle.serde_content.specs.RoundTrip.{flags};
 
+use crate::round::{RoundTrip, under};
 use content_build::Builder;
 use content_ser::Serialize;
-use content_tree::{Result, Value};
+use content_tree::{NamedValue, Result, Value};
 use std::alloc::Global;
 
 /// The tree that the value's calls spell, written for people or not, at any lifetime: what
@@ -24,4 +33,34 @@ pub fn to_value<'v, T: Serialize>(
     let mut builder: Builder<'v> = Builder::new(alloc, human_readable);
     value.serialize(alloc, &mut builder)?;
     builder.finish()
+}
+
+/// The value read as a type, for people or not. Where it is what was sent of the type, an equal
+/// one comes back.
+///
+/// # Errors
+///
+/// That of the type's first refusal, which what was sent of it hasn't; out of memory in its place.
+///
+/// ```rust
+/// let value = to_value(alloc, &Some(7u8), false)?;
+/// let back: Option<u8> = from_value(alloc, value, false)?;
+/// assert!(rt; back == Some(7));
+/// ```
+pub fn from_value<'de, 'n: 'de, T: RoundTrip<'de>>(
+    alloc: Global,
+    value: NamedValue<'de, 'n>,
+    human_readable: bool,
+) -> Result<T>
+    ensures read { Reads (T.refusal (tree_under (flags human_readable false) (tree_of value.entry)))
+        (T.gives (tree_under (flags human_readable false) (tree_of value.entry))) result }
+    // where the value's tree is what the calls of x spell
+    ensures value { (x : T) → T.exists x
+        → SpellsWhole (calls_of (T.script x human_readable)) (tree_of value.entry)
+        → IfOk result (λ back. T.eq x back ≡ true) }
+    ensures memory { (x : T) → T.exists x
+        → SpellsWhole (calls_of (T.script x human_readable)) (tree_of value.entry)
+        → IfErr result (λ e. IsOutOfMemory e) }
+{
+    T::deserialize(alloc, under(value, human_readable, false))
 }

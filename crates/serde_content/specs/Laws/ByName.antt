@@ -2,7 +2,7 @@
 use Rattle.std.specs.Prelude.{◌≡◌, ℕ, suc, Bool, true, false, List, [], ◌∷◌, map, Option, None, Some, option_map}
 use Rattle.std.specs.Prelude.{refl, ⊤}
 use Rattle.std.specs.Map.{lookup, remove_entry}
-use Rattle.std.proofs.Common.{ap, subst, sym}
+use Rattle.std.proofs.Common.{ap, subst}
 use Rattle.std.proofs.lemmas.Slice.Eq.{bytes_eq-Decides}
 use Rattle.content_tree.specs.Values.Text.{static_name}
 use Rattle.content_tree.specs.Values.Tree as tree
@@ -12,10 +12,9 @@ use Rattle.content_tree.specs.Errors.Cause.{Cause}
 use Rattle.content_ser.specs.Scripts.Script.{Script}
 use Rattle.content_ser.specs.Scripts.Standard.{ScriptOf}
 use Rattle.content_ser.specs.Scripts.Own.{end_script, field_first}
-use Rattle.content_de.specs.Sources.Origin.{Origin, of_tree, Flags, tree_under}
+use Rattle.content_de.specs.Sources.Origin.{of_tree, Flags, tree_under}
 use Rattle.content_de.specs.Requests.Compounds.{entries_of_fields}
-use Rattle.content_de.specs.Accesses.Map.{MapLeft, entries_under}
-use Rattle.content_de.specs.Accesses.ByName.{FieldsLeft, by_name, key_tree, field_named, without_field}
+use Rattle.content_de.specs.Accesses.ByName.{FieldsLeft, key_tree, field_named, without_field}
 use Rattle.content_de.specs.Reads.Read.{Refusal, Gives, first_of}
 use Rattle.content_de.specs.Reads.ByName.{found_refusal, FoundGives, missing_field, named_then, named_or_then, duplicate_field}
 use Rattle.content_de.specs.Reads.ByName.{NamedThen, NamedOrThen, others_skipped, no_others, NoOthers}

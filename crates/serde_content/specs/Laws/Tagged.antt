@@ -1,5 +1,5 @@
 -- The variants of an enum whose tag is a field come back where what stands beside it does.
-use Rattle.std.specs.Prelude.{◌≡◌, ℕ, Bool, true, false, List, [], ◌∷◌, map, Option, None, Some, option_map}
+use Rattle.std.specs.Prelude.{◌≡◌, ℕ, Bool, true, false, List, map, Option, None, Some, option_map}
 use Rattle.std.specs.Prelude.{refl}
 use Rattle.std.specs.Map.{lookup, remove_entry}
 use Rattle.std.proofs.Common.{ap, subst, sym, ◌∙◌}
@@ -13,14 +13,13 @@ use Rattle.content_ser.specs.Grammar.Spells.{spells_record}
 use Rattle.content_ser.specs.Scripts.Script.{Script}
 use Rattle.content_ser.specs.Scripts.Standard.{only}
 use Rattle.content_ser.specs.Scripts.Own.{field_first, struct_script}
-use Rattle.content_de.specs.Sources.Origin.{of_tree, Flags, tree_under}
+use Rattle.content_de.specs.Sources.Origin.{Flags, tree_under}
 use Rattle.content_de.specs.Outcomes.{Outcome, taken, refused, refusal_then, IsTaken}
-use Rattle.content_de.specs.Requests.Leaves.{text_from}
 use Rattle.content_de.specs.Requests.Compounds.{entries_of_fields}
 use Rattle.content_de.specs.Accesses.ByName.{FieldsLeft, key_tree}
 use Rattle.content_de.specs.Reads.Read.{Refusal, Gives}
 use Rattle.content_de.specs.Reads.Tagged.{found_text, tag_at, tag_then, TagThen}
-use Rattle.serde_content.specs.RoundTrip.{SpellsSuch, GivesOnly, MayGive, flags}
+use Rattle.serde_content.specs.RoundTrip.{SpellsSuch, GivesOnly, flags}
 use Rattle.serde_content.specs.Laws.Spelled.{FieldsSuch, spelled_call, such_spelled, leaf_such}
 use Rattle.serde_content.specs.Laws.Spelled.{fields_more_such}
 use Rattle.serde_content.specs.Laws.ByName.{NamedBack, NamedKeep, named_entries, named_under}

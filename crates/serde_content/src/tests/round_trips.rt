@@ -1,18 +1,20 @@
 //! Values that come back, each through the bound.
 
 use crate::samples::{Point, Shape};
-use crate::{Number, RoundTrip, round_trip};
+use crate::{Number, RoundTrip, from_value, round_trip, to_value};
 use content_tree::Result as Answer;
 use std::alloc::Global;
 use std::test::Fail;
 
 /// Whether a value comes back under each pair of flags.
 fn comes_back<'de, T: RoundTrip<'de>>(alloc: Global, value: &T) -> Answer<bool> {
+    let back: T = from_value(alloc, to_value(alloc, value, true)?, true)?;
     Ok(
         round_trip(alloc, value, false, false)? == *value
             && round_trip(alloc, value, false, true)? == *value
             && round_trip(alloc, value, true, false)? == *value
-            && round_trip(alloc, value, true, true)? == *value,
+            && round_trip(alloc, value, true, true)? == *value
+            && back == *value,
     )
 }
 
