@@ -1,12 +1,11 @@
 //! Entries taken by name, wherever they stand.
 
-ghost use Rattle.std.specs.Prelude.{◌≡◌, ◌<◌, ℕ, Bool, List, Some, None, IfSome, IfNone, option_map};
-ghost use Rattle.std.specs.Prelude.{IsTrue};
-ghost use Rattle.std.specs.Prelude.{is_some, length, map, slice_index_or, ⊤, IfOk, IfErr, ◌++◌};
-ghost use Rattle.content_tree.specs.Errors.Kind.{IsOutOfMemory};
-ghost use Rattle.content_de.specs.Accesses.ByName.{rest_of, keyless_entry, field_entry};
+ghost use Rattle.std.specs.Prelude.{◌≡◌, ◌<◌, ◌++◌, ⊤, ℕ, Bool, List, Some, None, IsTrue};
+ghost use Rattle.std.specs.Prelude.{IfOk, IfErr, IfSome, IfNone, is_some, option_map};
+ghost use Rattle.std.specs.Prelude.{length, map, slice_index_or};
 ghost use Rattle.std.specs.List.{remove};
 ghost use Rattle.std.specs.Map.{lookup, remove_entry};
+ghost use Rattle.content_tree.specs.Errors.Kind.{IsOutOfMemory};
 ghost use Rattle.content_tree.specs.Values.Text.{text_of};
 ghost use Rattle.content_tree.specs.Values.Tree as tree;
 ghost use Rattle.content_tree.specs.Values.Value.{tree_of, pair_tree};
@@ -15,7 +14,8 @@ ghost use Rattle.content_de.specs.declared.map.Entries.TheVariants as entries;
 ghost use Rattle.content_de.specs.Sources.Deserializer.{flags_of, subject};
 ghost use Rattle.content_de.specs.Accesses.Map.{map_view, entries_under, entries_view};
 ghost use Rattle.content_de.specs.Accesses.ByName.{by_name, entries_of, field_named, fields_left};
-ghost use Rattle.content_de.specs.Accesses.ByName.{without_field, PassesFirst};
+ghost use Rattle.content_de.specs.Accesses.ByName.{without_field, rest_of, PassesFirst};
+ghost use Rattle.content_de.specs.Accesses.ByName.{keyless_entry, field_entry};
 ghost use Rattle.content_de.specs.Reads.Read.{Reads};
 ghost use Rattle.content_de.specs.Reads.ByName.{first_other, no_others};
 
@@ -38,6 +38,13 @@ pub(crate) enum Left<'de, 'n> {
 }
 
 /// The entries of a map, a struct or a variant that are left, taken by name, wherever they stand.
+///
+/// ```rust
+/// let mut fields = Deserializer::new(value).deserialize_map(alloc)?.by_name();
+/// let port: u16 = named_field(alloc, &mut fields, "port")?;
+/// let host: Option<String> = field_or(alloc, &mut fields, "host", None)?;
+/// end_fields(alloc, fields, &["port", "host"])?;
+/// ```
 #[derive(Drop)]
 pub struct FieldsByName<'de, 'n> {
     pub(crate) keyless: Option<NamedValue<'de, 'n>>,
