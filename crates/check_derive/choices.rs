@@ -1,0 +1,30 @@
+//! What tells variants apart otherwise: a field, or what they hold.
+
+use serde::{Deserialize, Serialize};
+
+/// A command, told by the field `kind`.
+#[derive(PartialEq, Eq, Serialize, Deserialize)]
+#[serde(tag = "kind", rename_all = "lowercase")]
+pub enum Command {
+    /// No data.
+    Stop,
+    /// There.
+    Move {
+        /// To the right.
+        x: i32,
+        /// Upwards, or not at all.
+        y: Option<i32>,
+    },
+}
+
+/// A setting, told by what it is.
+#[derive(Serialize, Deserialize)]
+#[serde(untagged)]
+pub enum Setting {
+    /// On or off.
+    Flag(bool),
+    /// From and to.
+    Range(u8, u8),
+    /// Names.
+    Names(Vec<String>),
+}

@@ -1,0 +1,362 @@
+//! What tells variants apart otherwise: a field, or what they hold.
+//!
+//! Written by `tools/derive` from `choices.rs`: change that file, and write this one anew.
+
+ghost use Rattle.std.specs.Prelude.{◌≡◌, ◌∷◌, [], ℤ, Option, None, Some, IsSome, codes, refl, ⊤};
+ghost use Rattle.content_tree.specs.Errors.Cause.{custom};
+ghost use Rattle.content_ser.specs.Scripts.Sends.{Sends};
+ghost use Rattle.content_ser.specs.Scripts.Standard.{tuple_script, element_first};
+ghost use Rattle.content_ser.specs.Scripts.Own.{field_first, end_script};
+ghost use Rattle.content_ser.specs.Laws.StandardScripts.{leaf_lawful, option_lawful, seq_lawful};
+ghost use Rattle.content_ser.specs.Laws.StandardScripts.{tuple_lawful, element_fits, end_fits};
+ghost use Rattle.content_ser.specs.Laws.OwnScripts.{field_fits, struct_end_fits, struct_lawful};
+ghost use Rattle.content_de.specs.Accesses.ByName.{fields_left};
+ghost use Rattle.content_de.specs.Reads.Read.{Reads};
+ghost use Rattle.content_de.specs.Reads.Attempts.{IsTakenAs, or_next};
+ghost use Rattle.content_de.specs.Reads.ByName.{read_by_name, named_then, named_or_then};
+ghost use Rattle.content_de.specs.Reads.ByName.{others_skipped, ReadByName, NamedThen, NamedOrThen};
+ghost use Rattle.content_de.specs.Reads.ByName.{NoOthers};
+ghost use Rattle.content_de.specs.Reads.Tagged.{tag_then, TagThen};
+ghost use Rattle.content_de.specs.Reads.Own.{variant_or, no_variant, struct_refusal, StructGives};
+ghost use Rattle.serde_content.specs.RoundTrip.{ComesBack, CoercionKeeps};
+ghost use Rattle.serde_content.specs.Laws.Leaves.{integer_keeps, i32_back};
+ghost use Rattle.serde_content.specs.Laws.Holders.{option_back, option_keeps};
+ghost use Rattle.serde_content.specs.Laws.Series.{both_hold};
+ghost use Rattle.serde_content.specs.Laws.Records.{struct_keeps};
+ghost use Rattle.serde_content.specs.Laws.ByName.{named_back, named_or_back, skipped_back};
+ghost use Rattle.serde_content.specs.Laws.ByName.{by_name_keeps, named_keeps, named_or_keeps};
+ghost use Rattle.serde_content.specs.Laws.ByName.{skipped_keeps};
+ghost use Rattle.serde_content.specs.Laws.Tagged.{tagged_script, tagged_back, tag_keeps};
+ghost use Rattle.serde_content.specs.Laws.Variants.{other_variant};
+ghost use Rattle.content_tree.specs.Values.Ranges as kind;
+ghost use Rattle.check_derive.specs.declared.choices.Command.TheVariants as command;
+ghost use Rattle.check_derive.specs.declared.choices.Setting.TheVariants as setting;
+
+use serde_content::de::{
+    Deserialize, FieldsByName, attempt, field_or, named_field, skip_fields, tag_field,
+};
+use serde_content::ser::{Call, Parts, Serialize, Serializer};
+use serde_content::{Deserializer, Error, Result, RoundTrip};
+use std::alloc::Global;
+
+/// A command, told by the field `kind`.
+#[derive(Drop, PartialEq, Eq)]
+pub enum Command {
+    /// No data.
+    Stop,
+    /// There.
+    Move {
+        /// To the right.
+        x: i32,
+        /// Upwards, or not at all.
+        y: Option<i32>,
+    },
+}
+
+/// Its contract tells proofs what a variant of signed numbers holds.
+fn make_command_move(x: i32, y: Option<i32>) -> Command
+    ensures { result ≡ command.Move x y }
+{
+    Command::Move { x, y }
+}
+
+/// Sends values of any types, so that its proof looks into none.
+fn send_command_move<S: Serializer, T1: Serialize, T2: Serialize>(
+    alloc: Global,
+    serializer: &mut S,
+    x1: &T1,
+    x2: &T2,
+) -> Result<()>
+    ensures { Sends S.step S.refuses (S.seen serializer.old)
+        (tagged_script (codes "Command") 3 (codes "kind") (codes "move")
+        (field_first (codes "x") (T1.script x1.now)
+        (field_first (codes "y") (T2.script x2.now)
+        end_script)))
+        result (S.seen serializer.new) }
+{
+    Call::Struct("Command", 3)
+        .with(Call::Field("kind"), &"move")
+        .with(Call::Field("x"), x1)
+        .with(Call::Field("y"), x2)
+        .end(alloc, serializer)
+}
+
+/// Fields, wherever they stand.
+fn read_command_move<'de, 'n: 'de>(
+    alloc: Global,
+    mut fields: FieldsByName<'de, 'n>,
+) -> Result<(i32, Option<i32>)>
+    ensures { Reads (
+        (named_then (codes "x") (⟦<i32 as Deserialize<'de>>⟧.refusal)
+        (named_or_then (codes "y") (⟦<Option<i32> as Deserialize<'de>>⟧.refusal)
+        (others_skipped (codes "kind" ∷ codes "x" ∷ codes "y" ∷ []))))
+        (fields_left fields.entry))
+        (λ z.
+        (NamedThen (codes "x") (⟦<i32 as Deserialize<'de>>⟧.gives) z.0
+        (NamedOrThen (codes "y") (λ (x : (Option ℤ)). x ≡ None)
+        (⟦<Option<i32> as Deserialize<'de>>⟧.gives) z.1
+        NoOthers))
+        (fields_left fields.entry)) result }
+{
+    let x = named_field(alloc, &mut fields, "x")?;
+    let y = field_or(alloc, &mut fields, "y", None)?;
+    skip_fields(alloc, fields, &["kind", "x", "y"])?;
+    Ok((x, y))
+}
+
+/// The variant that its tag names.
+fn read_command<'de, 'n: 'de>(alloc: Global, mut fields: FieldsByName<'de, 'n>) -> Result<Command>
+    ensures { Reads (tag_then (codes "kind")
+        (variant_or (codes "stop")
+        (others_skipped (codes "kind" ∷ []))
+        (variant_or (codes "move")
+        (named_then (codes "x") (⟦<i32 as Deserialize<'de>>⟧.refusal)
+        (named_or_then (codes "y") (⟦<Option<i32> as Deserialize<'de>>⟧.refusal)
+        (others_skipped (codes "kind" ∷ codes "x" ∷ codes "y" ∷ []))))
+        no_variant))
+        (fields_left fields.entry))
+        (elim [
+          | command.Stop ↦ TagThen (codes "kind") (codes "stop")
+              NoOthers (fields_left fields.entry)
+          | command.Move x1 x2 ↦ TagThen (codes "kind") (codes "move")
+              (NamedThen (codes "x") (⟦<i32 as Deserialize<'de>>⟧.gives) x1
+              (NamedOrThen (codes "y") (λ (x : (Option ℤ)). x ≡ None)
+              (⟦<Option<i32> as Deserialize<'de>>⟧.gives) x2
+              NoOthers)) (fields_left fields.entry)
+        ]) result }
+{
+    let tag = tag_field(alloc, &mut fields, "kind")?;
+    match tag.as_str() {
+        "stop" => {
+            skip_fields(alloc, fields, &["kind"])?;
+            Ok(Command::Stop)
+        }
+        "move" => {
+            let (x, y) = read_command_move(alloc, fields)?;
+            Ok(make_command_move(x, y))
+        }
+        _ => Err(Error::custom(alloc, "unknown variant")),
+    }
+}
+
+impl Serialize for Command {
+    ghost script = { elim [
+      | command.Stop ↦ tagged_script (codes "Command") 1 (codes "kind") (codes "stop")
+          end_script
+      | command.Move x1 x2 ↦ tagged_script (codes "Command") 3 (codes "kind")
+          (codes "move")
+          (field_first (codes "x") (⟦<i32 as Serialize>⟧.script x1)
+          (field_first (codes "y") (⟦<Option<i32> as Serialize>⟧.script x2)
+          end_script))
+    ] };
+
+    ghost lawful = { elim [
+      | command.Stop ↦ λ readable. struct_lawful
+          (field_fits (leaf_lawful refl)
+          struct_end_fits)
+      | command.Move x1 x2 ↦ λ readable. struct_lawful
+          (field_fits (leaf_lawful refl)
+          (field_fits (leaf_lawful refl)
+          (field_fits (option_lawful (λ x h. leaf_lawful refl) x2 readable)
+          struct_end_fits)))
+    ] };
+
+    fn serialize<S: Serializer>(&self, alloc: Global, serializer: &mut S) -> Result<()> {
+        match self {
+            Command::Stop => Call::Struct("Command", 1)
+                .with(Call::Field("kind"), &"stop")
+                .end(alloc, serializer),
+            Command::Move { x, y } => send_command_move(alloc, serializer, x, y),
+        }
+    }
+}
+
+impl<'de> Deserialize<'de> for Command {
+    ghost refusal = { struct_refusal (codes "Command")
+        (read_by_name (tag_then (codes "kind")
+        (variant_or (codes "stop")
+        (others_skipped (codes "kind" ∷ []))
+        (variant_or (codes "move")
+        (named_then (codes "x") (⟦<i32 as Deserialize<'de>>⟧.refusal)
+        (named_or_then (codes "y") (⟦<Option<i32> as Deserialize<'de>>⟧.refusal)
+        (others_skipped (codes "kind" ∷ codes "x" ∷ codes "y" ∷ []))))
+        no_variant)))) };
+
+    ghost gives = { λ s. elim [
+      | command.Stop ↦ StructGives (codes "Command") (ReadByName
+          (TagThen (codes "kind") (codes "stop")
+          NoOthers)) s
+      | command.Move x1 x2 ↦ StructGives (codes "Command") (ReadByName
+          (TagThen (codes "kind") (codes "move")
+          (NamedThen (codes "x") (⟦<i32 as Deserialize<'de>>⟧.gives) x1
+          (NamedOrThen (codes "y") (λ (x : (Option ℤ)). x ≡ None)
+          (⟦<Option<i32> as Deserialize<'de>>⟧.gives) x2
+          NoOthers)))) s
+    ] };
+
+    fn deserialize<'n: 'de>(alloc: Global, from: Deserializer<'de, 'n>) -> Result<Command> {
+        let fields = from
+            .deserialize_struct(alloc, "Command", &["kind"])?
+            .by_name();
+        read_command(alloc, fields)
+    }
+}
+
+impl<'de> RoundTrip<'de> for Command {
+    ghost exists = { elim [
+      | command.Stop ↦ ⊤
+      | command.Move x1 x2 ↦ ⟦<Option<i32> as RoundTrip<'de>>⟧.exists x2
+    ] };
+
+    fn known(&self) {
+        match self {
+            Command::Stop => {}
+            Command::Move { x: _, y } => {
+                y.known();
+            }
+        }
+    }
+
+    ghost comes_back = { record {
+      of_value = elim [
+        | command.Stop ↦ λ real f. tagged_back Self.refusal Self.gives
+            (skipped_back {Y = Unit {0}} (codes "kind" ∷ []))
+            f (λ fs. refl)
+            (λ fs only. elim [
+              | command.Stop ↦ λ it. refl
+              | command.Move y1 y2 ↦ λ it. other_variant it.0 refl
+            ])
+        | command.Move x1 x2 ↦ λ real f. tagged_back Self.refusal Self.gives
+            (named_back (codes "x") i32_back x1 tt (λ (z : ℤ × (Option ℤ)). z.0)
+            (named_or_back (codes "y") (λ (x : (Option ℤ)). x ≡ None)
+            (let law : ComesBack (⟦<Option<i32> as RoundTrip<'de>>⟧.exists)
+            (⟦<Option<i32> as Serialize>⟧.script) (⟦<Option<i32> as Deserialize<'de>>⟧.refusal)
+            (⟦<Option<i32> as Deserialize<'de>>⟧.gives) (⟦<Option<i32> as PartialEq>⟧.eq) =
+            (option_back i32_back) in law) x2 real (λ (z : ℤ × (Option ℤ)). z.1)
+            (skipped_back (codes "kind" ∷ codes "x" ∷ codes "y" ∷ []))))
+            f (λ fs. refl)
+            (λ fs only. elim [
+              | command.Stop ↦ λ it. other_variant it.0 refl
+              | command.Move y1 y2 ↦ λ it. let same = only (y1, y2) it.1 in both_hold same.0
+                  same.1.0
+            ])
+      ];
+    } };
+
+    ghost keeps = { record {
+      of_origin = λ o people. elim [
+        | command.Stop ↦ λ p.
+            let q = (struct_keeps (codes "Command") (by_name_keeps
+            (tag_keeps (codes "kind") (codes "stop")
+            (variant_or (codes "stop")
+            (others_skipped (codes "kind" ∷ []))
+            (variant_or (codes "move")
+            (named_then (codes "x") (⟦<i32 as Deserialize<'de>>⟧.refusal)
+            (named_or_then (codes "y") (⟦<Option<i32> as Deserialize<'de>>⟧.refusal)
+            (others_skipped (codes "kind" ∷ codes "x" ∷ codes "y" ∷ []))))
+            no_variant)) (λ f. refl)
+            (skipped_keeps {Y = Unit {0}} (codes "kind" ∷ []))))).of_origin o people tt
+            (record { free = p.free; given = p.given }) in
+            record { free = q.free; given = q.given }
+        | command.Move x1 x2 ↦ λ p.
+            let q = (struct_keeps (codes "Command") (by_name_keeps
+            (tag_keeps (codes "kind") (codes "move")
+            (variant_or (codes "stop")
+            (others_skipped (codes "kind" ∷ []))
+            (variant_or (codes "move")
+            (named_then (codes "x") (⟦<i32 as Deserialize<'de>>⟧.refusal)
+            (named_or_then (codes "y") (⟦<Option<i32> as Deserialize<'de>>⟧.refusal)
+            (others_skipped (codes "kind" ∷ codes "x" ∷ codes "y" ∷ []))))
+            no_variant)) (λ f. refl)
+            (named_keeps (codes "x") (λ (z : ℤ × (Option ℤ)). z.0) (integer_keeps kind.i32)
+            (named_or_keeps (codes "y") (λ (x : (Option ℤ)). x ≡ None)
+            (λ (z : ℤ × (Option ℤ)). z.1)
+            (let law : CoercionKeeps (⟦<Option<i32> as Deserialize<'de>>⟧.refusal)
+            (⟦<Option<i32> as Deserialize<'de>>⟧.gives) =
+            (option_keeps (integer_keeps kind.i32)) in law)
+            (skipped_keeps (codes "kind" ∷ codes "x" ∷ codes "y" ∷ []))))))).of_origin o people
+            (x1, x2)
+            (record { free = p.free; given = p.given }) in
+            record { free = q.free; given = q.given }
+      ];
+    } };
+}
+
+/// A setting, told by what it is.
+#[derive(Drop)]
+pub enum Setting {
+    /// On or off.
+    Flag(bool),
+    /// From and to.
+    Range(u8, u8),
+    /// Names.
+    Names(Vec<String>),
+}
+
+impl Serialize for Setting {
+    ghost script = { elim [
+      | setting.Flag x1 ↦ ⟦<bool as Serialize>⟧.script x1
+      | setting.Range x1 x2 ↦ tuple_script 2
+          (element_first (⟦<u8 as Serialize>⟧.script x1)
+          (element_first (⟦<u8 as Serialize>⟧.script x2)
+          end_script))
+      | setting.Names x1 ↦ ⟦<Vec<String> as Serialize>⟧.script x1
+    ] };
+
+    ghost lawful = { elim [
+      | setting.Flag x1 ↦ λ readable. leaf_lawful refl
+      | setting.Range x1 x2 ↦ λ readable. tuple_lawful
+          (element_fits (leaf_lawful refl)
+          (element_fits (leaf_lawful refl)
+          end_fits))
+      | setting.Names x1 ↦ λ readable. seq_lawful (λ x h. leaf_lawful refl) x1.items
+          readable
+    ] };
+
+    fn serialize<S: Serializer>(&self, alloc: Global, serializer: &mut S) -> Result<()> {
+        match self {
+            Setting::Flag(x1) => x1.serialize(alloc, serializer),
+            Setting::Range(x1, x2) => Call::Tuple(2)
+                .with(Call::Element, x1)
+                .with(Call::Element, x2)
+                .end(alloc, serializer),
+            Setting::Names(x1) => x1.serialize(alloc, serializer),
+        }
+    }
+}
+
+impl<'de> Deserialize<'de> for Setting {
+    ghost refusal = { λ s.
+        (or_next (⟦<bool as Deserialize<'de>>⟧.refusal s)
+        (or_next (⟦<(u8, u8) as Deserialize<'de>>⟧.refusal s)
+        (or_next (⟦<Vec<String> as Deserialize<'de>>⟧.refusal s)
+        (Some (custom (codes "data did not match any variant of untagged enum Setting")))))) };
+
+    ghost gives = { λ s. elim [
+      | setting.Flag x1 ↦ IsTakenAs (⟦<bool as Deserialize<'de>>⟧.refusal s)
+          (⟦<bool as Deserialize<'de>>⟧.gives s) x1
+      | setting.Range x1 x2 ↦ IsSome (⟦<bool as Deserialize<'de>>⟧.refusal s) ×
+          IsTakenAs (⟦<(u8, u8) as Deserialize<'de>>⟧.refusal s)
+          (⟦<(u8, u8) as Deserialize<'de>>⟧.gives s) (x1, x2)
+      | setting.Names x1 ↦ IsSome (⟦<bool as Deserialize<'de>>⟧.refusal s) ×
+          IsSome (⟦<(u8, u8) as Deserialize<'de>>⟧.refusal s) ×
+          IsTakenAs (⟦<Vec<String> as Deserialize<'de>>⟧.refusal s)
+          (⟦<Vec<String> as Deserialize<'de>>⟧.gives s) x1
+    ] };
+
+    fn deserialize<'n: 'de>(alloc: Global, from: Deserializer<'de, 'n>) -> Result<Setting> {
+        if let Some(x1) = attempt::<bool>(alloc, &from)? {
+            return Ok(Setting::Flag(x1));
+        }
+        if let Some((x1, x2)) = attempt::<(u8, u8)>(alloc, &from)? {
+            return Ok(Setting::Range(x1, x2));
+        }
+        if let Some(x1) = attempt::<Vec<String>>(alloc, &from)? {
+            return Ok(Setting::Names(x1));
+        }
+        Err(Error::custom(
+            alloc,
+            "data did not match any variant of untagged enum Setting",
+        ))
+    }
+}

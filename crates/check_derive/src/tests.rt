@@ -1,0 +1,82 @@
+//! Fields in another order, choices, and values that come back.
+
+use crate::choices::{Command, Setting};
+use crate::types::{Order, Place, Step};
+use serde_content::{Deserializer, Result as Answer, Serializer, Value, round_trip};
+use std::alloc::Global;
+use std::collections::BTreeMap;
+use std::test::Fail;
+
+/// A text of its own.
+fn text(alloc: Global, of: &str) -> Answer<String> {
+    Ok(String::from_str(alloc, of)?)
+}
+
+/// An order with something in each field.
+fn order(alloc: Global) -> Answer<Order> {
+    let place = Place {
+        street_name: text(alloc, "Mill Lane 3")?,
+        floor: Some(2),
+    };
+    let left = Step::Left {
+        with: text(alloc, "Ann")?,
+        place: Place {
+            street_name: text(alloc, "Mill Lane 4")?,
+            floor: None,
+        },
+    };
+    let mut goods = BTreeMap::new(alloc);
+    goods.insert(text(alloc, "nuts")?, 3)?;
+    Ok(Order {
+        id: 7,
+        to: place,
+        steps: vec![in alloc; Step::Open, Step::Weighed(950), Step::Moved(-1, 4), left]?,
+        goods,
+        size: (30, 20, 10),
+        note: Some(Box::new(alloc, text(alloc, "ring twice")?)?),
+    })
+}
+
+#[test]
+fn an_order_comes_back(rt: HostRuntime) -> Result<(), Fail> {
+    let alloc = rt.alloc();
+    let order = order(alloc)?;
+    assert!(rt; round_trip(alloc, &order, false, false)? == order);
+    Ok(())
+}
+
+#[test]
+fn fields_are_read_in_any_order(rt: HostRuntime) -> Result<(), Fail> {
+    let alloc = rt.alloc();
+    let place = vec![in alloc; (Value::from("streetName"), Value::from("Mill Lane 3"))]?;
+    let size = vec![in alloc; Value::from(30u16), Value::from(20u16), Value::from(10u16)]?;
+    let entries = vec![in alloc;
+        (Value::from("size"), Value::Seq(size)),
+        (Value::from("goods"), Value::Map(Vec::new(alloc))),
+        (Value::from("unknown"), Value::Unit),
+        (Value::from("to"), Value::Map(place)),
+        (Value::from("order-id"), Value::from(7u64)),
+    ]?;
+    let read: Order = Deserializer::new(Value::Map(entries)).deserialize(alloc)?;
+    assert!(rt; read.id == 7);
+    assert!(rt; read.size == (30, 20, 10));
+    assert!(rt; read.to.street_name.as_str() == "Mill Lane 3");
+    assert!(rt; read.to.floor == None);
+    assert!(rt; read.steps.len() == 0);
+    assert!(rt; read.goods.len() == 0);
+    Ok(())
+}
+
+#[test]
+fn choices_are_read(rt: HostRuntime) -> Result<(), Fail> {
+    let alloc = rt.alloc();
+    let there = Command::Move { x: 3, y: None };
+    let value = Serializer::new().serialize(alloc, &there)?;
+    let text = format!(in alloc; "{}", value.display())?;
+    assert!(rt; text.as_str() == "Command { kind: \"move\", x: 3i32, y: None }");
+    assert!(rt; round_trip(alloc, &there, false, false)? == there);
+    let range = Serializer::new().serialize(alloc, &Setting::Range(1, 2))?;
+    let read: Setting = Deserializer::new(range).deserialize(alloc)?;
+    assert!(rt; matches!(&read, Setting::Range(1, 2)));
+    Ok(())
+}

@@ -1,0 +1,129 @@
+"""Structs and enums, as they are declared."""
+from dataclasses import dataclass, field
+from typing import Dict, List, Optional, Tuple
+
+from .types import SIGNED, Type
+
+
+class Refused(Exception):
+    """What is not covered, at a line of the input."""
+
+    def __init__(self, line: int, reason: str):
+        super().__init__(reason)
+        self.line = line
+
+
+@dataclass
+class Named:
+    """What has a name, with the lines that stand before it and Serde's attributes; `wire` is the
+    name that is sent."""
+
+    name: str
+    line: int
+    head: List[str]
+    serde: Dict[str, str]
+    wire: str = ""
+
+
+@dataclass
+class Field(Named):
+    """A field; one by place has its place as its name. Where it may be missing, `missing` is what
+    code takes for it and what contracts say of that."""
+
+    type: Type = Type("()")
+    visible: str = ""
+    missing: Optional[Tuple[str, str]] = None
+
+    def absent(self) -> str:
+        """What may be given where it is missing, after a blank."""
+        return f" (λ (x : {self.type.seen()}). {self.missing[1]})" if self.missing else ""
+
+
+@dataclass
+class Data:
+    """What a struct or a variant holds: nothing, one value, values by place or by name; it is
+    closed where a name that it doesn't have is refused."""
+
+    style: str = "Unit"
+    fields: List[Field] = field(default_factory=list)
+    closed: bool = False
+
+    @property
+    def named(self) -> bool:
+        return self.style == "Struct"
+
+    def asked(self) -> List[Field]:
+        """The fields of which contracts must be told that they exist."""
+        return [f for f in self.fields if not f.type.plain]
+
+    def places(self) -> List[str]:
+        """The names of its values in code."""
+        taken = ("alloc", "fields", "serializer")
+        return [f"{f.name}_field" if f.name in taken else f.name if self.named else f"x{i + 1}"
+                for i, f in enumerate(self.fields)]
+
+    def made(self, name: str, places: List[str]) -> str:
+        """A value or a pattern of it."""
+        if not self.fields:
+            return name
+        if not self.named:
+            return f"{name}({', '.join(places)})"
+        inside = [p if f.name == p else f"{f.name}: {p}" for f, p in zip(self.fields, places)]
+        return f"{name} {{ {', '.join(inside)} }}"
+
+    def declared(self) -> str:
+        """The fields as a declaration has them."""
+        shown = [f.head + [f"{f.visible}{f'{f.name}: ' * self.named}{f.type.rust()}"] for f in self.fields]
+        inside = ",\n".join("\n".join(lines) for lines in shown)
+        return f" {{\n{inside},\n}}" if self.named else f"({inside})" if inside else ""
+
+
+@dataclass
+class Variant(Named):
+    """A variant of an enum."""
+
+    data: Data = field(default_factory=Data)
+
+    def signed(self) -> bool:
+        return any(f.type.name in SIGNED for f in self.data.fields)
+
+
+@dataclass
+class Item(Named):
+    """A struct or an enum, with the traits that it derives."""
+
+    sort: str = "struct"
+    visible: str = ""
+    derives: List[str] = field(default_factory=list)
+    data: Data = field(default_factory=Data)
+    variants: List[Variant] = field(default_factory=list)
+
+    def parts(self) -> List[Data]:
+        """The data of the struct, or of each variant."""
+        return [v.data for v in self.variants] or [self.data]
+
+    def fields(self) -> List[Field]:
+        return [f for data in self.parts() for f in data.fields]
+
+    def owns(self) -> List[Type]:
+        """The own types that it holds, once each."""
+        return list(dict.fromkeys(t for f in self.fields() for t in f.type.owns()))
+
+    def asked(self) -> bool:
+        return any(data.asked() for data in self.parts())
+
+    def comes_back(self) -> bool:
+        """Whether it derives all that RoundTrip stands on. A value of an untagged enum may be read as
+        another variant's."""
+        return "untagged" not in self.serde and {"Serialize", "Deserialize", "PartialEq", "Eq"} <= set(self.derives)
+
+    def declared(self) -> str:
+        """The declaration."""
+        kept = [d for d in self.derives if d not in ("Serialize", "Deserialize", "Drop")]
+        derives = ", ".join(kept if "Copy" in kept else ["Drop"] + kept)
+        lines = self.head + [f"#[derive({derives})]"]
+        start = f"{self.visible}{self.sort} {self.name}"
+        if self.sort == "struct":
+            return "\n".join(lines + [f"{start}{self.data.declared()}{'' if self.data.named else ';'}"])
+        inside = [line for v in self.variants for line in v.head + [f"{v.name}{v.data.declared()},"]]
+        return "\n".join(lines + [start + " {"] + inside + ["}"])

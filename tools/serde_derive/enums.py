@@ -1,0 +1,132 @@
+"""The impls of an enum that is tagged externally, and what those of others share with them."""
+from typing import Callable, List
+
+from .declarations import Data, Item, Variant
+from .holder import Holder
+from .text import DESERIALIZE, KNOWN, SERIALIZE, alias, all_hold, arm, bracketed, clause, codes, elim
+from .text import function, ghost, quoted, together
+from .types import nest, snake
+
+
+class EnumWriter:
+    """The impls of an enum, each member by cases."""
+
+    def __init__(self, item: Item):
+        self.item, self.name, self.cases = item, codes(item.wire), alias(item.name)
+        self.sends, self.reads = "Serialize" in item.derives, "Deserialize" in item.derives
+        self.variants = [(v, Holder("Variant", [item.wire, i, v.wire], v.data, item.name + v.name))
+                         for i, v in enumerate(item.variants)]
+
+    @staticmethod
+    def values(data: Data, letter: str = "x") -> List[str]:
+        return [f"{letter}{i + 1}" for i in range(len(data.fields))]
+
+    def case(self, v: Variant, letter: str = "x") -> str:
+        """A variant as a pattern of contracts."""
+        return " ".join([f"{self.cases}.{v.name}"] + self.values(v.data, letter)) + " ↦"
+
+    def each(self, term: Callable[[Variant, Holder, List[str]], str]) -> str:
+        return elim([f"{self.case(v)} {term(v, holder, self.values(v.data))}" for v, holder in self.variants])
+
+    def made(self, v: Variant, places: List[str]) -> str:
+        return v.data.made(f"{self.item.name}::{v.name}", places)
+
+    def functions(self) -> List[str]:
+        """Those that the impls call."""
+        return [text for v, holder in self.variants
+                for text in self.maker(v) * self.reads + holder.send_function() * self.sends
+                + self.reader(v, holder) * self.reads]
+
+    def reader(self, v: Variant, holder: Holder) -> List[str]:
+        """The function that reads a variant's fields, all values as one."""
+        types = [f.type.rust() for f in v.data.fields]
+        values = [f"z.{i}" for i in range(len(types))] if len(types) > 1 else ["z"]
+        return holder.read_functions(together(v.data.places()), together(types), values)
+
+    def maker(self, v: Variant) -> List[str]:
+        """The function that makes a variant of signed numbers."""
+        if not v.signed():
+            return []
+        places = v.data.places()
+        parameters = ", ".join(f"{p}: {f.type.rust()}" for p, f in zip(places, v.data.fields))
+        made = " ".join([f"{self.cases}.{v.name}"] + places)
+        return ["/// Its contract tells proofs what a variant of signed numbers holds.\n"
+                f"fn {self.maker_name(v)}({parameters}) -> {self.item.name}\n"
+                + clause("ensures", f"result ≡ {made}") + f"{{\n{self.made(v, places)}\n}}\n"]
+
+    def maker_name(self, v: Variant) -> str:
+        return f"make_{snake(self.item.name + v.name)}"
+
+    def match(self, arms: List[str]) -> List[str]:
+        return ["match self {"] + arms + ["}"]
+
+    def serialize(self) -> List[str]:
+        sent = [arm(self.made(v, v.data.places()), [h.send(v.data.places())]) for v, h in self.variants]
+        return [ghost("script", self.each(lambda v, holder, x: holder.script(x))),
+                ghost("lawful", self.each(lambda v, holder, x: f"λ readable. {holder.lawful(x)}")),
+                function(SERIALIZE, *self.match(sent))]
+
+    def deserialize(self) -> List[str]:
+        heads = [f"variant_or {codes(v.wire)} {bracketed(h.refusal())}" for v, h in self.variants]
+        arms = [arm(f'"{v.wire}"', h.read(self.making(v))) for v, h in self.variants]
+        return [ghost("refusal", f"enum_refusal {self.name}{nest(heads, 'no_variant')}"),
+                ghost("gives", "λ s. " + self.each(
+                    lambda v, h, x: f"EnumGives {self.name} {codes(v.wire)} {bracketed(h.gives(x))} s")),
+                function(DESERIALIZE.format(self.item.name),
+                         f'let access = from.deserialize_enum(alloc, "{self.item.wire}",'
+                         f" &[{quoted(self.item.variants)}])?;",
+                         "let (tag, variant) = access.variant::<CowStr<'de>>(alloc)?;",
+                         "match tag.as_str() {", *arms,
+                         '_ => Err(Error::custom(alloc, "unknown variant")),', "}")]
+
+    def making(self, v: Variant) -> Callable[[List[str]], str]:
+        """How the code makes a variant: by its own function, where it has one."""
+        if v.signed():
+            return lambda places: f"{self.maker_name(v)}({', '.join(places)})"
+        return lambda places: self.made(v, places)
+
+    def round_trip(self) -> List[str]:
+        known = []
+        for v in self.item.variants:
+            asked = [(p, f in v.data.asked()) for f, p in zip(v.data.fields, v.data.places())]
+            known.append(arm(self.made(v, [p if look else "_" for p, look in asked]),
+                             [f"{p}.known();" for p, look in asked if look]))
+        looks = self.item.asked()
+        return [ghost("exists", self.each(lambda v, holder, x: holder.exists(x)))] * looks + [
+            function(KNOWN, *self.match(known) * looks),
+            ghost("comes_back", f"record {{\nof_value = {self.each(self.back)};\n}}"),
+            ghost("keeps", f"record {{\nof_origin = λ o people. {self.each(self.keeps)};\n}}")]
+
+    def back(self, v: Variant, holder: Holder, values: List[str]) -> str:
+        """That a variant comes back."""
+        law = f"{holder.word}_back{holder.back(values, self.sees(holder))}"
+        return (f"λ real f. variant_back Self.refusal Self.gives {bracketed(law)}\nf (λ d. refl)\n"
+                f"(λ d only. {elim([self.read(v, w) for w in self.item.variants])})")
+
+    def read(self, sent: Variant, read: Variant) -> str:
+        """That a variant that was read is equal to the one that was sent."""
+        values = self.values(read.data, "y")
+        pattern = self.case(read, "y") + " λ it. "
+        if read is not sent:
+            return pattern + "other_variant it.0 refl"
+        if not values:
+            return pattern + "refl"
+        if self.alone(read):
+            return pattern + "only y1 it.1"
+        return pattern + f"let same = only {together(values)} it.1 in {all_hold(len(values), 'same')}"
+
+    def alone(self, v: Variant) -> bool:
+        """Whether its one value stands in no row."""
+        return v.data.style == "Newtype"
+
+    def keeps(self, v: Variant, holder: Holder, values: List[str]) -> str:
+        """That a variant is given with coercion where it is without."""
+        law = f"{holder.word}_keeps{holder.keeps(self.sees(holder))}"
+        return (f"λ p.\nlet q = variant_kept {self.name} {codes(v.wire)} _ (λ v. refl) {bracketed(law)}\n"
+                f"o people {together(values)} p.free p.given in\nrecord {{ free = q.0; given = q.1 }}")
+
+    @staticmethod
+    def sees(holder: Holder) -> List[str]:
+        """How each value is taken from all of them."""
+        seen = " × ".join(f.type.seen() for f in holder.fields)
+        return [f"(λ (z : {seen}). z{f'.{i}' * (holder.count > 1)})" for i in range(holder.count)]

@@ -1,0 +1,203 @@
+"""What is written of what a struct or a variant holds."""
+from typing import Callable, List, NamedTuple, Optional, Tuple
+
+from .declarations import Data
+from .text import clause, codes, fields_reader, together
+from .types import READ, TRIP, nest, snake
+
+
+class Row(NamedTuple):
+    """How values are written one after another: what stands for each, and the end."""
+
+    script: Tuple[str, str]
+    lawful: Tuple[str, str]
+    refusal: Tuple[str, str]
+    gives: Tuple[str, str]
+    back: Tuple[str, str]
+    keeps: Tuple[str, str]
+
+
+BY_PLACE = Row(
+    ("tuple_field_first {inner}", "end_script"),
+    ("tuple_field_fits {inner}", "tuple_end_fits"),
+    ("part_then {count} {place} {inner}", "no_part"),
+    ("PartThen {inner}", "NoPart"),
+    ("tuple_field_back {inner} {see} {count} {place}", "parts_end"),
+    ("part_keeps {see} {count} {place} {inner}", "parts_end_keeps"))
+BY_NAME = Row(
+    ("field_first {name} {inner}", "end_script"),
+    ("field_fits {inner}", "struct_end_fits"),
+    ("named{or_}_then {name} {inner}", "({left} {known})"),
+    ("Named{Or}Then {name}{missing} {inner}", "NoOthers"),
+    ("named{or_}_back {name}{missing} {inner} {see}", "({end}_back {known})"),
+    ("named{or_}_keeps {name}{missing} {see} {inner}", "({end}_keeps {known})"))
+
+
+class Holder:
+    """All that is written of what a struct or a variant holds. Its values are given by place, as
+    contracts or code name them."""
+
+    most = 2  # as many values are sent without a function of their own
+
+    def __init__(self, sort: str, names: list, data: Data, owner: str):
+        self.data, self.fields, self.count = data, data.fields, len(data.fields)
+        self.many = data.style in ("Struct", "Tuple")
+        self.camel = "Struct" if data.named and sort == "Struct" else data.style + sort
+        self.word = snake(self.camel)
+        self.names = " ".join(str(n) if isinstance(n, int) else codes(n) for n in names)
+        written = [str(n) if isinstance(n, int) else f'"{n}"' for n in names + [self.count] * self.many]
+        self.call = f"Call::{self.camel}({', '.join(written)})"
+        self.of_variant = sort == "Variant"
+        self.sender, self.reader = f"send_{snake(owner)}", f"read_{snake(owner)}"
+        self.names_known = [f.wire for f in data.fields]
+        self.head = "" if self.of_variant else " " + self.names
+        self.name = "" if self.of_variant else written[0]
+
+    @property
+    def known(self) -> str:
+        """The names of its fields in code."""
+        return "&[" + ", ".join(f'"{name}"' for name in self.names_known) + "]"
+
+    def row(self, member: str, inners: List[str], sees: Optional[List[str]] = None, start: int = 0) -> str:
+        """All its values in a member of the impls, or the one, after a blank or a line's end; or
+        those from a place on."""
+        if not self.many:
+            return "".join(f" {inner}" for inner in inners)
+        part, end = getattr(BY_NAME if self.data.named else BY_PLACE, member)
+        parts = [part.format(
+            inner=inner, see=see, place=place, count=self.count, name=codes(f.wire),
+            or_="_or" * bool(f.missing), Or="Or" * bool(f.missing), missing=f.absent())
+            for place, (f, inner, see) in enumerate(zip(self.fields[start:], inners, sees or inners))]
+        known = " ∷ ".join([codes(name)[1:-1] for name in self.names_known] + ["[]"])
+        words = ("no_others", "closed") if self.data.closed else ("others_skipped", "skipped")
+        return nest(parts, end.format(known=f"({known})", left=words[0], end=words[1]))
+
+    def by_name(self, word: str, row: str) -> str:
+        """A row of fields, which is read by name."""
+        return f" ({word}{row})" if self.data.named else row
+
+    def script(self, values: List[str], members: Optional[List[str]] = None) -> str:
+        """The calls that are made, by the scripts of its fields' types."""
+        members = members or [f.type.member("Serialize", "script") for f in self.fields]
+        inner = [f"({member} {value})" for member, value in zip(members, values)]
+        return f"{self.word}_script {self.names}{f' {self.count}' * self.many}{self.row('script', inner)}"
+
+    def lawful(self, values: List[str]) -> str:
+        """That they spell one tree."""
+        laws = [f"({f.type.lawful(v)})" for f, v in zip(self.fields, values)]
+        return f"{self.word}_lawful{self.row('lawful', laws)}"
+
+    def send(self, values: List[str]) -> str:
+        """The code that makes them: of more than two values, in a function of its own."""
+        if self.count > self.most:
+            return f"{self.sender}(alloc, serializer, {', '.join(values)})"
+        return self.chain(values)
+
+    def chain(self, values: List[str]) -> str:
+        """The calls, one after another."""
+        if not self.fields:
+            return f"{self.call}.send(serializer)"
+        if not self.many:
+            return f"{self.call}.around({values[0]}, alloc, serializer)"
+        calls = [f'Call::Field("{f.wire}")' if self.data.named else "Call::TupleField" for f in self.fields]
+        with_values = "".join(f".with({call}, {value})" for call, value in zip(calls, values))
+        return f"{self.call}{with_values}.end(alloc, serializer)"
+
+    def send_function(self) -> List[str]:
+        """The function that sends more than two values; its proof sees none of their types."""
+        if self.count <= self.most:
+            return []
+        places = range(1, self.count + 1)
+        types = ", ".join(["S: Serializer"] + [f"T{i}: Serialize" for i in places])
+        values = ", ".join(["alloc: Global", "serializer: &mut S"] + [f"x{i}: &T{i}" for i in places])
+        script = self.script([f"x{i}.now" for i in places], [f"T{i}.script" for i in places])
+        return ["/// Sends values of any types, so that its proof looks into none.\n"
+                f"fn {self.sender}<{types}>({values}) -> Result<()>\n"
+                + clause("ensures", f"Sends S.step S.refuses (S.seen serializer.old)\n({script})\n"
+                         "result (S.seen serializer.new)")
+                + f"{{\n{self.chain([f'x{i}' for i in places])}\n}}\n"]
+
+    def refusal_row(self) -> str:
+        return self.row("refusal", [f"({f.type.member(READ, 'refusal')})" for f in self.fields])
+
+    def refusal(self) -> str:
+        """What is refused of it."""
+        return f"{self.word}_refusal{self.head}{self.by_name('read_by_name', self.refusal_row())}"
+
+    def gives_row(self, values: List[str]) -> str:
+        return self.row("gives", [f"({f.type.member(READ, 'gives')}) {v}" for f, v in zip(self.fields, values)])
+
+    def gives(self, values: List[str]) -> str:
+        """What it may give."""
+        return f"{self.camel}Gives{self.head}{self.by_name('ReadByName', self.gives_row(values))}"
+
+    def read(self, make: Callable[[List[str]], str]) -> List[str]:
+        """The statements that read it and make a value of what came."""
+        more = {"Struct": self.known, "Tuple": str(self.count)}.get(self.data.style)
+        arguments = ", ".join(filter(None, ["alloc", self.name, more]))
+        start = f"{'variant.' if self.of_variant else 'from.deserialize_'}{self.word}({arguments})?"
+        places = self.data.places()
+        if not self.fields:
+            return [f"{start};", f"Ok({make([])})"]
+        if self.data.named:
+            lines = [f"let fields = {start}.by_name();"]
+            if not self.of_variant:
+                return lines + [f"{self.reader}(alloc, fields)"]
+            return lines + [f"let {together(places)} = {self.reader}(alloc, fields)?;", f"Ok({make(places)})"]
+        if self.many:
+            return [f"let mut parts = {start};"] + [
+                f"let {p} = next_part(alloc, &mut parts, {self.count}, {i})?;"
+                for i, p in enumerate(places)] + [f"Ok({make(places)})"]
+        if self.of_variant:
+            return [f"Ok({make([start])})"]
+        return [f"let inside = {start};", f"Ok({make(['inside.deserialize(alloc)?'])})"]
+
+    def read_functions(self, made: str, result: str, values: List[str]) -> List[str]:
+        """The functions that read fields by name, two each, since proofs give up at many: the first
+        makes a value of this type, of which contracts see these values, and the others a tuple."""
+        texts = []
+        for start in range(0, self.count if self.data.named else 0, 2):
+            rest, later = self.fields[start:], self.data.places()[start + 2:]
+            if start:
+                made, result = together(self.data.places()[start:]), together([f.type.rust() for f in rest])
+                values = [f"z.{i}" for i in range(len(rest))] if len(rest) > 1 else ["z"]
+            lines = []
+            for f, p in list(zip(rest, self.data.places()[start:]))[:2]:
+                reader, missing = ("field_or", f", {f.missing[0]}") if f.missing else ("named_field", "")
+                lines.append(f'let {p} = {reader}(alloc, &mut fields, "{f.wire}"{missing})?;')
+            lines.append(f"let {together(later)} = {self.reader_at(start + 2)}(alloc, fields)?;" if later else
+                         f"{'end' if self.data.closed else 'skip'}_fields(alloc, fields, {self.known})?;")
+            refusals = [f"({f.type.member(READ, 'refusal')})" for f in rest]
+            gives = [f"({f.type.member(READ, 'gives')}) {v}" for f, v in zip(rest, values)]
+            texts.insert(0, fields_reader(
+                "Fields, wherever they stand.", self.reader_at(start), result,
+                self.row("refusal", refusals, start=start),
+                f"λ z. {self.row('gives', gives, start=start)}\n(fields_left fields.entry)",
+                lines + [f"Ok({made})"]))
+        return texts
+
+    def reader_at(self, start: int) -> str:
+        return f"{self.reader}_from_{start + 1}" if start else self.reader
+
+    def back_row(self, values: List[str], sees: List[str]) -> str:
+        asked, laws = self.data.asked(), []
+        for f, value in zip(self.fields, values):
+            real = "tt" if f.type.plain else "real" if len(asked) == 1 else f"real.{asked.index(f)}"
+            laws.append(f"{f.type.typed_back()} {value} {real}")
+        return self.row("back", laws, sees)
+
+    def back(self, values: List[str], sees: List[str]) -> str:
+        """That what is sent comes back, where a fact `real` says what exists."""
+        return self.by_name("by_name_back", self.back_row(values, sees))
+
+    def keeps_row(self, sees: List[str]) -> str:
+        return self.row("keeps", [f.type.typed_keeps() for f in self.fields], sees)
+
+    def keeps(self, sees: List[str]) -> str:
+        """That what is given without coercion is given with it."""
+        return self.by_name("by_name_keeps", self.keeps_row(sees))
+
+    def exists(self, values: List[str]) -> str:
+        """The fact of which values exist."""
+        return " × ".join(f"{f.type.member(TRIP, 'exists')} {v}"
+                          for f, v in zip(self.fields, values) if not f.type.plain) or "⊤"

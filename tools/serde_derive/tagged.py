@@ -1,0 +1,118 @@
+"""What is written of a tagged enum: structs of which one field names the variant, and the others or
+one other hold its values."""
+import re
+from typing import List, Optional
+
+from .declarations import Data, Field, Item, Refused, Variant
+from .enums import EnumWriter
+from .holder import Holder
+from .text import DESERIALIZE, arm, codes, elim, fields_reader, function, ghost, together
+from .types import DEFAULTS, nest
+
+
+class TaggedHolder(Holder):
+    """What stands beside the tag of a variant: fields, or none."""
+
+    most = 1
+
+    def __init__(self, item: Item, tag: str, v: Variant, fields: List[Field]):
+        data = Data("Struct", fields, v.data.closed)
+        super().__init__("Struct", [item.wire], data, item.name + v.name)
+        self.names_known = [tag] + self.names_known
+        self.tag, self.variant = tag, v.wire
+        self.call = f'Call::Struct("{item.wire}", {self.count + 1}).with(Call::Field("{tag}"), &"{v.wire}")'
+
+    def script(self, values: List[str], members: Optional[List[str]] = None) -> str:
+        members = members or [f.type.member("Serialize", "script") for f in self.fields]
+        inner = [f"({member} {value})" for member, value in zip(members, values)]
+        head = f"tagged_script {self.names} {self.count + 1} {codes(self.tag)} {codes(self.variant)}"
+        return head + self.row("script", inner)
+
+    def lawful(self, values: List[str]) -> str:
+        laws = ["(leaf_lawful refl)"] + [f"({f.type.lawful(v)})" for f, v in zip(self.fields, values)]
+        return "struct_lawful" + nest([f"field_fits {law}" for law in laws], "struct_end_fits")
+
+    def chain(self, values: List[str]) -> str:
+        fields = "".join(f'.with(Call::Field("{f.wire}"), {v})' for f, v in zip(self.fields, values))
+        return f"{self.call}{fields}.end(alloc, serializer)"
+
+
+class TaggedWriter(EnumWriter):
+    """The impls of an enum that is tagged internally, or adjacently where it has a `content`."""
+
+    def __init__(self, item: Item):
+        super().__init__(item)
+        self.tag, self.content = item.serde["tag"], item.serde.get("content")
+        self.variants = [(v, TaggedHolder(item, self.tag, v, self.fields_of(v))) for v in item.variants]
+        self.reader_name = f"read_{self.cases}"
+
+    def fields_of(self, v: Variant) -> List[Field]:
+        """The fields beside the tag: the variant's own, or the one that holds its value."""
+        style, sort = ("Newtype", "adjacently") if self.content else ("Struct", "internally")
+        if v.data.style not in ("Unit", style):
+            held = "one value" if self.content else "values by name"
+            raise Refused(v.line, f"variant `{v.name}`: of an enum that is tagged {sort}, only variants with no values"
+                          f" and with {held} are covered")
+        if self.tag in [self.content] + [f.wire for f in v.data.fields]:
+            raise Refused(v.line, f"variant `{v.name}`: a field is called as the tag, `{self.tag}`")
+        if not self.content:
+            return v.data.fields
+        return [Field("x1", f.line, [], {}, self.content, f.type, missing=DEFAULTS["Option"] if f.type.name == "Option" else None)
+                for f in v.data.fields]
+
+    def alone(self, v: Variant) -> bool:
+        return False
+
+    def functions(self) -> List[str]:
+        return super().functions() + self.tag_reader() * self.reads
+
+    def refusals(self) -> str:
+        """What each variant refuses."""
+        heads = [f"variant_or {codes(v.wire)}{holder.refusal_row()}" for v, holder in self.variants]
+        return nest(heads, "no_variant")
+
+    def given(self, v: Variant, holder: Holder, values: List[str]) -> str:
+        return f"TagThen {codes(self.tag)} {codes(v.wire)}{holder.gives_row(values)}"
+
+    def tag_reader(self) -> List[str]:
+        """The function that reads the tag, and then the variant."""
+        arms = []
+        for v, holder in self.variants:
+            places = v.data.places()
+            end = "end" if v.data.closed else "skip"
+            read = f"let {together(places)} = {holder.reader}(alloc, fields)?;" if places else (
+                f"{end}_fields(alloc, fields, {holder.known})?;")
+            arms.append(arm(f'"{v.wire}"', [read, f"Ok({self.making(v)(places)})"]))
+        gives = self.each(lambda v, holder, x: f"{self.given(v, holder, x)} (fields_left fields.entry)")
+        return [fields_reader(
+            "The variant that its tag names.", self.reader_name, self.item.name,
+            f"tag_then {codes(self.tag)}{self.refusals()}", gives,
+            [f'let tag = tag_field(alloc, &mut fields, "{self.tag}")?;', "match tag.as_str() {", *arms,
+             '_ => Err(Error::custom(alloc, "unknown variant")),', "}"])]
+
+    def deserialize(self) -> List[str]:
+        name = codes(self.item.wire)
+        read = f"read_by_name (tag_then {codes(self.tag)}{self.refusals()})"
+        request = f'from.deserialize_struct(alloc, "{self.item.wire}", &["{self.tag}"])?'
+        return [ghost("refusal", f"struct_refusal {name} ({read})"),
+                ghost("gives", "λ s. " + self.each(
+                    lambda v, holder, x: f"StructGives {name} (ReadByName\n({self.given(v, holder, x)})) s")),
+                function(DESERIALIZE.format(self.item.name),
+                         f"let fields = {request}.by_name();", f"{self.reader_name}(alloc, fields)")]
+
+    @staticmethod
+    def unit(v: Variant, row: str) -> str:
+        """A row of no fields, with the type of what it gives."""
+        return row if v.data.fields else re.sub(r"\((skipped|closed)_(back|keeps) ", r"(\1_\2 {Y = Unit {0}} ", row)
+
+    def back(self, v: Variant, holder: Holder, values: List[str]) -> str:
+        row = self.unit(v, holder.back_row(values, self.sees(holder)))
+        return (f"λ real f. tagged_back Self.refusal Self.gives{row}\nf (λ fs. refl)\n"
+                f"(λ fs only. {elim([self.read(v, w) for w in self.item.variants])})")
+
+    def keeps(self, v: Variant, holder: Holder, values: List[str]) -> str:
+        row = self.unit(v, holder.keeps_row(self.sees(holder)))
+        return (f"λ p.\nlet q = (struct_keeps {codes(self.item.wire)} (by_name_keeps\n"
+                f"(tag_keeps {codes(self.tag)} {codes(v.wire)}{self.refusals()} (λ f. refl){row}))).of_origin o people"
+                f" {together(values)}\n(record {{ free = p.free; given = p.given }}) in\n"
+                "record { free = q.free; given = q.given }")

@@ -1,0 +1,91 @@
+"""Pieces of text that the impls are made of."""
+import re
+from typing import List
+
+from .types import snake
+from .words import ALIASES, WORDS
+
+
+SERIALIZE = "fn serialize<S: Serializer>(&self, alloc: Global, serializer: &mut S) -> Result<()>"
+DESERIALIZE = "fn deserialize<'n: 'de>(alloc: Global, from: Deserializer<'de, 'n>) -> Result<{}>"
+KNOWN = "fn known(&self)"
+
+
+def codes(name: str) -> str:
+    return f'(codes "{name}")'
+
+
+def quoted(named: list) -> str:
+    return ", ".join(f'"{one.wire}"' for one in named)
+
+
+def filled(line: str, width: int = 84) -> str:
+    """The line, broken within this width at the last blank that stands in the fewest brackets."""
+    depth, place, lowest = 0, 0, 0
+    for found in re.finditer(r'"[^"]*"|⟦[^⟧]*⟧|[({[]|[)}\]]| ', line):
+        if len(line) <= width or found.start() > width:
+            break
+        depth += (found.group() in "({[") - (found.group() in ")}]")
+        if found.group() == " " and found.start() > width // 3 and (not place or depth <= lowest):
+            place, lowest = found.start(), depth
+    return f"{line[:place]}\n{filled(line[place + 1:], width)}" if place else line
+
+
+def ghost(name: str, term: str) -> str:
+    return "\n".join(filled(line) for line in f"ghost {name} = {{ {term} }};".split("\n"))
+
+
+def clause(word: str, fact: str) -> str:
+    return "\n".join(filled(line) for line in f"{word} {{ {fact} }}".split("\n")) + "\n"
+
+
+def function(signature: str, *lines: str) -> str:
+    """A function; an allocator that it doesn't use is named so."""
+    body = "\n".join(lines)
+    return f"{signature if 'alloc' in body else signature.replace('alloc', '_alloc')} {{\n{body}\n}}"
+
+
+def fields_reader(about: str, name: str, result: str, refusal: str, gives: str, lines: List[str]) -> str:
+    """A function that reads fields by name, under a contract of what it refuses and may give."""
+    signature = f"fn {name}<'de, 'n: 'de>(alloc: Global, mut fields: FieldsByName<'de, 'n>) -> Result<{result}>"
+    reads = clause("ensures", f"Reads ({refusal}\n(fields_left fields.entry))\n({gives}) result")
+    return f"/// {about}\n{signature}\n{reads}{{\n" + "\n".join(lines) + "\n}\n"
+
+
+def arm(pattern: str, lines: List[str]) -> str:
+    """An arm of a match: in braces, but where it is one value that is short or a chain."""
+    text = f"{pattern} => {''.join(lines)},"
+    if len(lines) == 1 and ";" not in text and (len(text) <= 88 or ".end(" in text):
+        return text
+    return f"{pattern} => {{\n" + "\n".join(lines) + "\n}"
+
+
+def elim(lines: List[str]) -> str:
+    return "elim [\n" + "".join(f"| {line}\n" for line in lines) + "]"
+
+
+def bracketed(term: str) -> str:
+    return f"({term})" if " " in term else term
+
+
+def all_hold(count: int, such: str, place: int = 0) -> str:
+    """That all of so many tests hold, as a derived `==` makes them, from what is known of each."""
+    one = f"{such}{'.1' * place}.0"
+    if place == count - 1:
+        return one
+    others = all_hold(count, such, place + 1)
+    return f"both_hold {one} {bracketed(others)}"
+
+
+def together(values: List[str]) -> str:
+    """All values of a variant as one."""
+    return f"({', '.join(values)})" if len(values) > 1 else "".join(values) or "tt"
+
+
+BOUND = set("b d f h it m o only p people q readable real s same v x y z".split())
+
+
+def alias(name: str) -> str:
+    """What the cases of an enum are called, apart from the other names of contracts."""
+    short = snake(name)
+    return f"the_{short}" if short in BOUND or short in WORDS or short in ALIASES else short

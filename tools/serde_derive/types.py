@@ -1,0 +1,179 @@
+"""A field's type, and what is proved of it."""
+import re
+from dataclasses import dataclass
+from typing import Dict, Iterator, List, NamedTuple, Tuple
+
+
+class Laws(NamedTuple):
+    """What is proved of a kind of types, as terms with places for the same of its arguments."""
+
+    lawful: str  # the script of a value {x} is lawful, for people or not {h}
+    back: str  # its values come back
+    keeps: str  # what it gives without coercion it gives with it
+    seen: str  # the type as contracts see it
+
+
+def leaf(back: str, seen: str, keeps: str) -> Laws:
+    return Laws("leaf_lawful refl", back, keeps, seen)
+
+
+def heedless(word: str, gives: str, of: str) -> str:
+    """What doesn't turn on coercion."""
+    return f"(heedless_keeps (λ o. refusal_of ({word} o)) (λ o (x : {of}). {gives}))"
+
+
+def whole(name: str) -> Laws:
+    """A whole number's laws: those of a size are those of 64 bits."""
+    kind = name.replace("size", "64")
+    sort, seen = ("natural", "ℕ") if name[0] == "u" else ("integer", "ℤ")
+    return leaf(f"{kind}_back", seen, f"({sort}_keeps kind.{kind})")
+
+
+NUMBERS = {name: whole(name) for name in
+           [sign + bits for sign in "ui" for bits in ("8", "16", "32", "64", "128", "size")]}
+SIGNED = {name for name in NUMBERS if name[0] == "i"}
+LEAVES = {
+    "bool": leaf("bool_back", "Bool", heedless("bool_from", "bool_from o ≡ taken x", "Bool")),
+    "char": leaf("char_back", "ℕ", heedless("char_from", "char_from o ≡ taken x", "ℕ")),
+    "()": leaf("unit_back", "(Unit {{0}})", heedless("unit_from", "unit_from o ≡ taken x", "Unit {{0}}")),
+    "String": leaf("text_back", "(String Global)", heedless(
+        "text_from", "IsTaken (text_from o) (HasContent (string_bytes x))", "String Global")),
+    **NUMBERS,
+}
+HOLDERS = {
+    "Option": Laws("option_lawful {0} {x} {h}", "(option_back {0})", "(option_keeps {0})",
+                   "(Option {0})"),
+    "Vec": Laws("seq_lawful {0} {x}.items {h}", "(seen_back (λ v. v.items) (seq_back {0}))",
+                "(seen_keeps (λ v. v.items) (seq_keeps {0}))", "(Vec {0} Global)"),
+    "Box": Laws("{0}", "(seen_back (λ b. b.value) {0})", "(seen_keeps (λ b. b.value) {0})",
+                "(Box {0} Global)"),
+    "BTreeMap": Laws("map_lawful {0} {1} {x}.entries {h}",
+                     "(seen_back (λ m. m.entries) (map_back {total} {ties} {0} {1}))",
+                     "(seen_keeps (λ m. m.entries) (map_keeps ({order}) {0} {1}))",
+                     "(BTreeMap {0} {1} Global)"),
+}
+DEFAULTS = {
+    "bool": ("false", "x ≡ false"), "String": ("String::new(alloc)", "string_bytes x ≡ []"),
+    "Option": ("None", "x ≡ None"), "Vec": ("Vec::new(alloc)", "x.items ≡ []"),
+    "BTreeMap": ("BTreeMap::new(alloc)", "x.entries ≡ []"),
+    **{name: ("0", "x ≡ pos 0" if name in SIGNED else "x ≡ 0") for name in NUMBERS},
+}
+OWN = Laws("{own}_serialize.lawful-law {x} {h}", "{own}_round_trip.comes_back-law",
+           "{own}_round_trip.keeps-law", "{declared}")
+READ, TRIP = "Deserialize<'de>", "RoundTrip<'de>"
+
+
+@dataclass(frozen=True)
+class Type:
+    """A field's type: a leaf, a holder, a tuple, or one of the user's own.
+
+    An own type has a `home`, the path of the specifications of the module that declares it under
+    the name `declared`. It is `plain` where contracts take each of its values for one that exists.
+    """
+
+    name: str
+    arguments: Tuple["Type", ...] = ()
+    home: str = ""
+    declared: str = ""
+    plain: bool = False
+
+    @property
+    def laws(self) -> Laws:
+        return OWN if self.home else {**LEAVES, **HOLDERS}[self.name]
+
+    def rust(self) -> str:
+        """The type as Rust writes it."""
+        inside = ", ".join(a.rust() for a in self.arguments)
+        if self.name == "tuple":
+            return f"({inside}{',' * (len(self.arguments) == 1)})"
+        return f"{self.name}<{inside}>" if inside else self.name
+
+    def member(self, trait: str, member: str) -> str:
+        """A ghost member of the impl of a trait."""
+        return f"⟦<{self.rust()} as {trait}>⟧.{member}"
+
+    def lawful(self, x: str, h: str = "readable") -> str:
+        if self.name == "tuple":
+            laws = [a.lawful(f"{x}.{i}", h) for i, a in enumerate(self.arguments)]
+            return "tuple_lawful" + nest([f"element_fits ({law})" for law in laws], "end_fits")
+        if self.name == "Box":
+            return self.arguments[0].lawful(f"{x}.value", h)
+        inside = [f"(λ x h. {a.lawful('x', 'h')})" for a in self.arguments]
+        return self.laws.lawful.format(*inside, x=x, h=h, own=snake(self.declared))
+
+    def back(self) -> str:
+        inside, count = [a.back() for a in self.arguments], len(self.arguments)
+        if self.name != "tuple":
+            return self.laws.back.format(*inside, own=snake(self.declared), **self.ordered())
+        parts = nest([f"element_back {law} x.{i} real{f'.{i}' * (count > 1)} (λ y. y.{i}) {count} {i}"
+                      for i, law in enumerate(inside)], "parts_end")
+        return f"(record {{ of_value = λ x real f. tuple_back{parts}\nf (λ y h. {both(count, 'h')}) }})"
+
+    def keeps(self) -> str:
+        inside, count = [a.keeps() for a in self.arguments], len(self.arguments)
+        if self.name != "tuple":
+            return self.laws.keeps.format(*inside, own=snake(self.declared), **self.ordered())
+        return f"(tuple_keeps {count}" + nest(
+            [f"part_keeps (λ y. y.{i}) {count} {i} {law}" for i, law in enumerate(inside)],
+            "parts_end_keeps") + ")"
+
+    def typed_back(self) -> str:
+        """The same with its type, where the term alone does not tell it."""
+        if not self.arguments:
+            return self.back()
+        said = ((TRIP, "exists"), ("Serialize", "script"), (READ, "refusal"), (READ, "gives"), ("PartialEq", "eq"))
+        return self.typed("ComesBack", said, self.back())
+
+    def typed_keeps(self) -> str:
+        if not self.arguments:
+            return self.keeps()
+        return self.typed("CoercionKeeps", ((READ, "refusal"), (READ, "gives")), self.keeps())
+
+    def typed(self, word: str, members: Tuple[Tuple[str, str], ...], law: str) -> str:
+        said = " ".join(f"({self.member(trait, member)})" for trait, member in members)
+        return f"(let law : {word} {said} = {law} in law)"
+
+    def seen(self) -> str:
+        inside = [a.seen() for a in self.arguments]
+        if self.name == "tuple":
+            return f"({' × '.join(inside)})"
+        return self.laws.seen.format(*inside, declared=self.declared)
+
+    def ordered(self) -> Dict[str, str]:
+        """Of a map, the order of its keys: that it is total, and that equal keys are its ties."""
+        if self.name != "BTreeMap":
+            return {}
+        key = self.arguments[0]
+        own = snake(key.declared)
+        total, ties = (
+            (f"{own}_ord.total-law", f"{own}_ord.matches_eq-law") if key.home else
+            ("string_cmp_total", "(λ x y. texts_ties (string_bytes x) (string_bytes y))")
+            if key.name == "String" else
+            ("int_cmp_total", "(λ x y. refl)") if key.name in SIGNED else
+            ("nat_cmp_total", "unsigned_ties"))
+        return {"total": total, "ties": ties, "order": key.member("Ord", "cmp")}
+
+    def owns(self) -> Iterator["Type"]:
+        """The own types in it."""
+        if self.home:
+            yield self
+        for argument in self.arguments:
+            yield from argument.owns()
+
+
+def snake(name: str) -> str:
+    """A type's or a variant's name with a sign between its words."""
+    return re.sub(r"(?<!^)(?=[A-Z])", "_", name).lower()
+
+
+def nest(heads: List[str], end: str) -> str:
+    """Heads that each take the rest as their last argument, on lines of their own."""
+    return "\n" + "".join(f"({head}\n" for head in heads) + end + ")" * len(heads)
+
+
+def both(count: int, such: str) -> str:
+    """That all of so many tests hold, as a tuple's `==` makes them, from what is known of each."""
+    term = f"{such}.0"
+    for place in range(1, count):
+        term = f"both_hold {f'({term})' if place > 1 else term} {such}{'.1' * place}.0"
+    return term

@@ -1,0 +1,98 @@
+"""The words of contracts and the items of code, and the lines that bring them."""
+import re
+from typing import Dict, List
+
+from .names import pascal
+from .types import HOLDERS, LEAVES
+
+
+def word_table(text: str) -> Dict[str, str]:
+    """The module of each word, from lines of a module and its words."""
+    table = {}
+    for line in text.strip().split("\n"):
+        module, *words = line.split()
+        table.update({word: module for word in words})
+    return table
+
+
+STYLES = [f"{style}_{sort}" for style in ("unit", "newtype", "tuple", "struct") for sort in ("struct", "variant")]
+STYLES[STYLES.index("struct_struct")] = "struct"
+WORDS = word_table(f"""
+std.specs.Prelude ◌≡◌ ◌∷◌ [] ℕ ℤ Bool Option None Some IsSome false pos codes string_bytes refl ⊤
+std.specs.Cmp nat_cmp_total int_cmp_total unsigned_ties
+std.specs.Cmp.Lexicographic texts_ties
+std.specs.String string_cmp_total
+content_tree.specs.Values.Text static_name
+content_tree.specs.Errors.Cause custom
+content_ser.specs.Scripts.Sends Sends
+content_ser.specs.Scripts.Standard tuple_script element_first
+content_ser.specs.Scripts.Own field_first tuple_field_first end_script {' '.join(f'{s}_script' for s in STYLES)}
+content_ser.specs.Laws.StandardScripts leaf_lawful option_lawful seq_lawful map_lawful
+content_ser.specs.Laws.StandardScripts tuple_lawful element_fits end_fits
+content_ser.specs.Laws.OwnScripts field_fits struct_end_fits tuple_field_fits tuple_end_fits
+content_ser.specs.Laws.OwnScripts {' '.join(f'{s}_lawful' for s in STYLES)}
+content_de.specs.Outcomes refusal_of taken IsTaken
+content_de.specs.Requests.Leaves bool_from char_from unit_from text_from
+content_de.specs.Reads.Standard HasContent
+content_de.specs.Reads.Tuples part_then no_part PartThen NoPart
+content_de.specs.Accesses.ByName fields_left
+content_de.specs.Reads.Read Reads
+content_de.specs.Reads.Attempts IsTakenAs or_next
+content_de.specs.Reads.ByName read_by_name named_then named_or_then others_skipped no_others
+content_de.specs.Reads.ByName ReadByName NamedThen NamedOrThen NoOthers
+content_de.specs.Reads.Tagged tag_then TagThen
+content_de.specs.Reads.Own enum_refusal variant_or no_variant EnumGives
+content_de.specs.Reads.Own {' '.join(f'{s}_refusal {pascal(s)}Gives' for s in STYLES)}
+serde_content.specs.RoundTrip ComesBack CoercionKeeps
+serde_content.specs.Laws.Leaves heedless_keeps natural_keeps integer_keeps
+serde_content.specs.Laws.Leaves {' '.join(laws.back for laws in LEAVES.values())}
+serde_content.specs.Laws.Holders seen_back seen_keeps option_back option_keeps seq_back seq_keeps
+serde_content.specs.Laws.Maps map_back map_keeps
+serde_content.specs.Laws.Spelled leaf_such
+serde_content.specs.Laws.Series both_hold element_back tuple_back tuple_field_back tuple_struct_back parts_end
+serde_content.specs.Laws.Series part_keeps tuple_keeps tuple_struct_keeps parts_end_keeps
+serde_content.specs.Laws.Records struct_back struct_keeps newtype_struct_back newtype_struct_keeps
+serde_content.specs.Laws.ByName by_name_back named_back named_or_back skipped_back closed_back
+serde_content.specs.Laws.ByName by_name_keeps named_keeps named_or_keeps skipped_keeps closed_keeps
+serde_content.specs.Laws.Tagged tagged_script tagged_back tag_keeps
+serde_content.specs.Laws.Variants variant_back other_variant variant_kept
+serde_content.specs.Laws.Variants {' '.join(f'{s}_back {s}_keeps' for s in STYLES[1::2])}
+""")
+ALIASES = {"kind": "content_tree.specs.Values.Ranges", "tree": "content_tree.specs.Values.Tree"}
+SEEN = word_table("""
+std.specs.declared.alloc.Global Global
+std.specs.declared.string.String String
+std.specs.declared.vec.Vec Vec
+std.specs.declared.boxed.Box Box
+std.specs.declared.collections.BTreeMap BTreeMap
+""")
+USES = {
+    "serde_content": "CowStr Deserializer Error Result RoundTrip",
+    "serde_content::de": "Deserialize FieldsByName attempt end_fields field_or named_field next_part"
+                         " skip_fields tag_field",
+    "serde_content::ser": "Call Parts Serialize Serializer",
+    "std::alloc": "Global",
+    "std::collections": "BTreeMap",
+}
+IN_TEXT = {"[]": "[]", "custom": "(custom ", "Some": "(Some "}
+METHODS = {"Parts": r"\.(?:end|around)\("}
+TAKEN = {name for names in USES.values() for name in names.split()} | set(HOLDERS) | {"String", "Ok", "Err"}
+
+
+def words_of(text: str, table: Dict[str, str]) -> List[str]:
+    """The lines that bring the words of a text, in the table's order."""
+    used = set(re.findall(r"[^\W\d]\w*|[^\w\s]", text))
+    by_module: Dict[str, List[str]] = {}
+    for word, module in table.items():
+        if IN_TEXT[word] in text if word in IN_TEXT else word.strip("◌") in used:
+            by_module.setdefault(module, []).append(word)
+    lines = []
+    for module, words in by_module.items():
+        lines.append(f"ghost use Rattle.{module}.{{{words[0]}}};")
+        for word in words[1:]:
+            longer = lines[-1].replace("};", f", {word}}};")
+            if len(longer) <= 100:
+                lines[-1] = longer
+            else:
+                lines.append(f"ghost use Rattle.{module}.{{{word}}};")
+    return lines
