@@ -2,6 +2,7 @@
 #![tactic(auto)]
 
 pub mod choices;
+pub mod sorts;
 #[cfg(test)]
 mod tests;
 pub mod types;

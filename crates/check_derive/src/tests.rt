@@ -1,6 +1,7 @@
 //! Fields in another order, choices, and values that come back.
 
 use crate::choices::{Command, Setting};
+use crate::sorts::{Message, Stop};
 use crate::types::{Order, Place, Step};
 use serde_content::{Deserializer, Result as Answer, Serializer, Value, round_trip};
 use std::alloc::Global;
@@ -78,5 +79,17 @@ fn choices_are_read(rt: HostRuntime) -> Result<(), Fail> {
     let range = Serializer::new().serialize(alloc, &Setting::Range(1, 2))?;
     let read: Setting = Deserializer::new(range).deserialize(alloc)?;
     assert!(rt; matches!(&read, Setting::Range(1, 2)));
+    Ok(())
+}
+
+#[test]
+fn other_sorts_come_back(rt: HostRuntime) -> Result<(), Fail> {
+    let alloc = rt.alloc();
+    let said = Message::Text(text(alloc, "hello")?);
+    let value = Serializer::new().serialize(alloc, &said)?;
+    let shown = format!(in alloc; "{}", value.display())?;
+    assert!(rt; shown.as_str() == "Message { t: \"Text\", c: \"hello\" }");
+    assert!(rt; round_trip(alloc, &said, false, false)? == said);
+    assert!(rt; round_trip(alloc, &Stop(-1, None), false, false)? == Stop(-1, None));
     Ok(())
 }

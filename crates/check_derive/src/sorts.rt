@@ -1,0 +1,444 @@
+//! The other sorts of structs, a key of one's own, and a tag beside a field for what a variant holds.
+//!
+//! Written by `tools/derive` from `sorts.rs`: change that file, and write this one anew.
+
+ghost use Rattle.std.specs.Prelude.{◌≡◌, ◌∷◌, [], Bool, Option, codes, string_bytes, refl, ⊤};
+ghost use Rattle.content_tree.specs.Values.Text.{static_name};
+ghost use Rattle.content_ser.specs.Scripts.Own.{field_first, tuple_field_first, end_script};
+ghost use Rattle.content_ser.specs.Scripts.Own.{unit_struct_script, newtype_struct_script};
+ghost use Rattle.content_ser.specs.Scripts.Own.{tuple_struct_script};
+ghost use Rattle.content_ser.specs.Laws.StandardScripts.{leaf_lawful, option_lawful, map_lawful};
+ghost use Rattle.content_ser.specs.Laws.OwnScripts.{field_fits, struct_end_fits, tuple_field_fits};
+ghost use Rattle.content_ser.specs.Laws.OwnScripts.{tuple_end_fits, unit_struct_lawful};
+ghost use Rattle.content_ser.specs.Laws.OwnScripts.{newtype_struct_lawful, tuple_struct_lawful};
+ghost use Rattle.content_ser.specs.Laws.OwnScripts.{struct_lawful};
+ghost use Rattle.content_de.specs.Outcomes.{refusal_of, taken, IsTaken};
+ghost use Rattle.content_de.specs.Requests.Leaves.{bool_from, text_from};
+ghost use Rattle.content_de.specs.Reads.Standard.{HasContent};
+ghost use Rattle.content_de.specs.Reads.Tuples.{part_then, no_part, PartThen, NoPart};
+ghost use Rattle.content_de.specs.Accesses.ByName.{fields_left};
+ghost use Rattle.content_de.specs.Reads.Read.{Reads};
+ghost use Rattle.content_de.specs.Reads.ByName.{read_by_name, named_then, others_skipped};
+ghost use Rattle.content_de.specs.Reads.ByName.{ReadByName, NamedThen, NoOthers};
+ghost use Rattle.content_de.specs.Reads.Tagged.{tag_then, TagThen};
+ghost use Rattle.content_de.specs.Reads.Own.{variant_or, no_variant, unit_struct_refusal};
+ghost use Rattle.content_de.specs.Reads.Own.{newtype_struct_refusal, NewtypeStructGives};
+ghost use Rattle.content_de.specs.Reads.Own.{tuple_struct_refusal, TupleStructGives};
+ghost use Rattle.content_de.specs.Reads.Own.{struct_refusal, StructGives};
+ghost use Rattle.serde_content.specs.RoundTrip.{ComesBack, CoercionKeeps};
+ghost use Rattle.serde_content.specs.Laws.Leaves.{heedless_keeps, natural_keeps, integer_keeps};
+ghost use Rattle.serde_content.specs.Laws.Leaves.{bool_back, text_back, u8_back, i32_back};
+ghost use Rattle.serde_content.specs.Laws.Holders.{seen_back, seen_keeps, option_back};
+ghost use Rattle.serde_content.specs.Laws.Holders.{option_keeps};
+ghost use Rattle.serde_content.specs.Laws.Maps.{map_back, map_keeps};
+ghost use Rattle.serde_content.specs.Laws.Spelled.{leaf_such};
+ghost use Rattle.serde_content.specs.Laws.Series.{both_hold, tuple_field_back, tuple_struct_back};
+ghost use Rattle.serde_content.specs.Laws.Series.{parts_end, part_keeps, tuple_struct_keeps};
+ghost use Rattle.serde_content.specs.Laws.Series.{parts_end_keeps};
+ghost use Rattle.serde_content.specs.Laws.Records.{struct_keeps, newtype_struct_back};
+ghost use Rattle.serde_content.specs.Laws.Records.{newtype_struct_keeps};
+ghost use Rattle.serde_content.specs.Laws.ByName.{named_back, skipped_back, by_name_keeps};
+ghost use Rattle.serde_content.specs.Laws.ByName.{named_keeps, skipped_keeps};
+ghost use Rattle.serde_content.specs.Laws.Tagged.{tagged_script, tagged_back, tag_keeps};
+ghost use Rattle.serde_content.specs.Laws.Variants.{other_variant};
+ghost use Rattle.std.specs.declared.alloc.Global.{Global};
+ghost use Rattle.std.specs.declared.string.String.{String};
+ghost use Rattle.content_tree.specs.Values.Ranges as kind;
+ghost use Rattle.content_tree.specs.Values.Tree as tree;
+ghost use Rattle.check_derive.specs.declared.sorts.Message.TheVariants as message;
+
+use crate::types::Place;
+use serde_content::de::{
+    Deserialize, FieldsByName, named_field, next_part, skip_fields, tag_field,
+};
+use serde_content::ser::{Call, Parts, Serialize, Serializer};
+use serde_content::{Deserializer, Error, Result, RoundTrip};
+use std::alloc::Global;
+use std::collections::BTreeMap;
+
+/// Nothing.
+#[derive(Drop, PartialEq, Eq)]
+pub struct Marker;
+
+impl Serialize for Marker {
+    ghost script = { λ p. unit_struct_script (codes "Marker") };
+
+    ghost lawful = { λ p readable. unit_struct_lawful };
+
+    fn serialize<S: Serializer>(&self, _alloc: Global, serializer: &mut S) -> Result<()> {
+        Call::UnitStruct("Marker").send(serializer)
+    }
+}
+
+impl<'de> Deserialize<'de> for Marker {
+    ghost refusal = { unit_struct_refusal (codes "Marker") };
+
+    ghost gives = { λ s p. ⊤ };
+
+    fn deserialize<'n: 'de>(alloc: Global, from: Deserializer<'de, 'n>) -> Result<Marker> {
+        from.deserialize_unit_struct(alloc, "Marker")?;
+        Ok(Marker)
+    }
+}
+
+impl<'de> RoundTrip<'de> for Marker {
+    fn known(&self) {}
+
+    ghost comes_back = { record {
+      of_value = λ p real f. leaf_such
+          (tree.structure (static_name (codes "Marker")) tree.no_data) refl
+          (record { free = refl; only = λ q h. refl });
+    } };
+
+    ghost keeps = { heedless_keeps _ _ };
+}
+
+/// Around one value.
+#[derive(Drop, PartialEq, Eq, PartialOrd, Ord)]
+pub struct Code(pub u8);
+
+impl Serialize for Code {
+    ghost script = { λ p. newtype_struct_script (codes "Code")
+        (⟦<u8 as Serialize>⟧.script p.0) };
+
+    ghost lawful = { λ p readable. newtype_struct_lawful (leaf_lawful refl) };
+
+    fn serialize<S: Serializer>(&self, alloc: Global, serializer: &mut S) -> Result<()> {
+        Call::NewtypeStruct("Code").around(&self.0, alloc, serializer)
+    }
+}
+
+impl<'de> Deserialize<'de> for Code {
+    ghost refusal = { newtype_struct_refusal (codes "Code")
+        (⟦<u8 as Deserialize<'de>>⟧.refusal) };
+
+    ghost gives = { λ s p. NewtypeStructGives (codes "Code")
+        (⟦<u8 as Deserialize<'de>>⟧.gives) p.0 s };
+
+    fn deserialize<'n: 'de>(alloc: Global, from: Deserializer<'de, 'n>) -> Result<Code> {
+        let inside = from.deserialize_newtype_struct(alloc, "Code")?;
+        Ok(Code(inside.deserialize(alloc)?))
+    }
+}
+
+impl<'de> RoundTrip<'de> for Code {
+    fn known(&self) {}
+
+    ghost comes_back = { record {
+      of_value = λ p real f. newtype_struct_back u8_back p.0 tt (λ q. q.0) f (λ q h. h);
+    } };
+
+    ghost keeps = { seen_keeps (λ q. q.0)
+        (newtype_struct_keeps (codes "Code") (natural_keeps kind.u8)) };
+}
+
+/// Two values by place, one of a type of another module.
+#[derive(Drop, PartialEq, Eq)]
+pub struct Stop(pub i32, pub Option<Place>);
+
+impl Serialize for Stop {
+    ghost use Rattle.check_derive.specs.contracts.types.PlaceSerialize.TheImpl.Laws as place_serialize;
+
+    ghost script = { λ p. tuple_struct_script (codes "Stop") 2
+        (tuple_field_first (⟦<i32 as Serialize>⟧.script p.0)
+        (tuple_field_first (⟦<Option<Place> as Serialize>⟧.script p.1)
+        end_script)) };
+
+    ghost lawful = { λ p readable. tuple_struct_lawful
+        (tuple_field_fits (leaf_lawful refl)
+        (tuple_field_fits (option_lawful (λ x h. place_serialize.lawful-law x h) p.1
+        readable)
+        tuple_end_fits)) };
+
+    fn serialize<S: Serializer>(&self, alloc: Global, serializer: &mut S) -> Result<()> {
+        Call::TupleStruct("Stop", 2)
+            .with(Call::TupleField, &self.0)
+            .with(Call::TupleField, &self.1)
+            .end(alloc, serializer)
+    }
+}
+
+impl<'de> Deserialize<'de> for Stop {
+    ghost refusal = { tuple_struct_refusal (codes "Stop")
+        (part_then 2 0 (⟦<i32 as Deserialize<'de>>⟧.refusal)
+        (part_then 2 1 (⟦<Option<Place> as Deserialize<'de>>⟧.refusal)
+        no_part)) };
+
+    ghost gives = { λ s p. TupleStructGives (codes "Stop")
+        (PartThen (⟦<i32 as Deserialize<'de>>⟧.gives) p.0
+        (PartThen (⟦<Option<Place> as Deserialize<'de>>⟧.gives) p.1
+        NoPart)) s };
+
+    fn deserialize<'n: 'de>(alloc: Global, from: Deserializer<'de, 'n>) -> Result<Stop> {
+        let mut parts = from.deserialize_tuple_struct(alloc, "Stop", 2)?;
+        let x1 = next_part(alloc, &mut parts, 2, 0)?;
+        let x2 = next_part(alloc, &mut parts, 2, 1)?;
+        Ok(Stop(x1, x2))
+    }
+}
+
+impl<'de> RoundTrip<'de> for Stop {
+    ghost use Rattle.check_derive.specs.contracts.types.PlaceRoundTrip.TheImpl.Laws as place_round_trip;
+
+    ghost exists = { λ p. ⟦<Option<Place> as RoundTrip<'de>>⟧.exists p.1 };
+
+    fn known(&self) {
+        self.1.known();
+    }
+
+    ghost comes_back = { record {
+      of_value = λ p real f. tuple_struct_back
+          (tuple_field_back i32_back p.0 tt (λ q. q.0) 2 0
+          (tuple_field_back (let law : ComesBack (⟦<Option<Place> as RoundTrip<'de>>⟧.exists)
+          (⟦<Option<Place> as Serialize>⟧.script)
+          (⟦<Option<Place> as Deserialize<'de>>⟧.refusal)
+          (⟦<Option<Place> as Deserialize<'de>>⟧.gives) (⟦<Option<Place> as PartialEq>⟧.eq) =
+          (option_back place_round_trip.comes_back-law) in law) p.1 real (λ q. q.1) 2 1
+          parts_end))
+          f (λ q h. both_hold h.0 h.1.0);
+    } };
+
+    ghost keeps = { tuple_struct_keeps (codes "Stop")
+        (part_keeps (λ q. q.0) 2 0 (integer_keeps kind.i32)
+        (part_keeps (λ q. q.1) 2 1 (let law : CoercionKeeps
+        (⟦<Option<Place> as Deserialize<'de>>⟧.refusal)
+        (⟦<Option<Place> as Deserialize<'de>>⟧.gives) =
+        (option_keeps place_round_trip.keeps-law) in law)
+        parts_end_keeps)) };
+}
+
+/// A map with keys of one's own.
+#[derive(Drop, PartialEq, Eq)]
+pub struct Ledger(pub BTreeMap<Code, bool>);
+
+impl Serialize for Ledger {
+    ghost use Rattle.check_derive.specs.contracts.sorts.CodeSerialize.TheImpl.Laws as code_serialize;
+
+    ghost script = { λ p. newtype_struct_script (codes "Ledger")
+        (⟦<BTreeMap<Code, bool> as Serialize>⟧.script p.0) };
+
+    ghost lawful = { λ p readable. newtype_struct_lawful
+        (map_lawful (λ x h. code_serialize.lawful-law x h) (λ x h. leaf_lawful refl)
+        p.0.entries readable) };
+
+    fn serialize<S: Serializer>(&self, alloc: Global, serializer: &mut S) -> Result<()> {
+        Call::NewtypeStruct("Ledger").around(&self.0, alloc, serializer)
+    }
+}
+
+impl<'de> Deserialize<'de> for Ledger {
+    ghost refusal = { newtype_struct_refusal (codes "Ledger")
+        (⟦<BTreeMap<Code, bool> as Deserialize<'de>>⟧.refusal) };
+
+    ghost gives = { λ s p. NewtypeStructGives (codes "Ledger")
+        (⟦<BTreeMap<Code, bool> as Deserialize<'de>>⟧.gives) p.0 s };
+
+    fn deserialize<'n: 'de>(alloc: Global, from: Deserializer<'de, 'n>) -> Result<Ledger> {
+        let inside = from.deserialize_newtype_struct(alloc, "Ledger")?;
+        Ok(Ledger(inside.deserialize(alloc)?))
+    }
+}
+
+impl<'de> RoundTrip<'de> for Ledger {
+    ghost use Rattle.check_derive.specs.contracts.sorts.CodeRoundTrip.TheImpl.Laws as code_round_trip;
+    ghost use Rattle.check_derive.specs.contracts.sorts.CodeOrd.TheImpl.Laws as code_ord;
+
+    ghost exists = { λ p. ⟦<BTreeMap<Code, bool> as RoundTrip<'de>>⟧.exists p.0 };
+
+    fn known(&self) {
+        self.0.known();
+    }
+
+    ghost comes_back = { record {
+      of_value = λ p real f. newtype_struct_back
+          (let law : ComesBack (⟦<BTreeMap<Code, bool> as RoundTrip<'de>>⟧.exists)
+          (⟦<BTreeMap<Code, bool> as Serialize>⟧.script)
+          (⟦<BTreeMap<Code, bool> as Deserialize<'de>>⟧.refusal)
+          (⟦<BTreeMap<Code, bool> as Deserialize<'de>>⟧.gives)
+          (⟦<BTreeMap<Code, bool> as PartialEq>⟧.eq) =
+          (seen_back (λ m. m.entries) (map_back code_ord.total-law code_ord.matches_eq-law
+          code_round_trip.comes_back-law bool_back)) in law) p.0 real (λ q. q.0) f (λ q h. h);
+    } };
+
+    ghost keeps = { seen_keeps (λ q. q.0)
+        (newtype_struct_keeps (codes "Ledger")
+        (let law : CoercionKeeps (⟦<BTreeMap<Code, bool> as Deserialize<'de>>⟧.refusal)
+        (⟦<BTreeMap<Code, bool> as Deserialize<'de>>⟧.gives) =
+        (seen_keeps (λ m. m.entries) (map_keeps (⟦<Code as Ord>⟧.cmp)
+        code_round_trip.keeps-law (heedless_keeps (λ o. refusal_of (bool_from o))
+        (λ o (x : Bool). bool_from o ≡ taken x)))) in law)) };
+}
+
+/// A message, told by the field `t`, what it holds in the field `c`.
+#[derive(Drop, PartialEq, Eq)]
+pub enum Message {
+    /// No value.
+    Ping,
+    /// One value.
+    Text(String),
+}
+
+/// Fields, wherever they stand.
+fn read_message_text<'de, 'n: 'de>(
+    alloc: Global,
+    mut fields: FieldsByName<'de, 'n>,
+) -> Result<String>
+    ensures { Reads (
+        (named_then (codes "c") (⟦<String as Deserialize<'de>>⟧.refusal)
+        (others_skipped (codes "t" ∷ codes "c" ∷ [])))
+        (fields_left fields.entry))
+        (λ z.
+        (NamedThen (codes "c") (⟦<String as Deserialize<'de>>⟧.gives) z
+        NoOthers)
+        (fields_left fields.entry)) result }
+{
+    let x1 = named_field(alloc, &mut fields, "c")?;
+    skip_fields(alloc, fields, &["t", "c"])?;
+    Ok(x1)
+}
+
+/// The variant that its tag names.
+fn read_message<'de, 'n: 'de>(alloc: Global, mut fields: FieldsByName<'de, 'n>) -> Result<Message>
+    ensures { Reads (tag_then (codes "t")
+        (variant_or (codes "Ping")
+        (others_skipped (codes "t" ∷ []))
+        (variant_or (codes "Text")
+        (named_then (codes "c") (⟦<String as Deserialize<'de>>⟧.refusal)
+        (others_skipped (codes "t" ∷ codes "c" ∷ [])))
+        no_variant))
+        (fields_left fields.entry))
+        (elim [
+          | message.Ping ↦ TagThen (codes "t") (codes "Ping")
+              NoOthers (fields_left fields.entry)
+          | message.Text x1 ↦ TagThen (codes "t") (codes "Text")
+              (NamedThen (codes "c") (⟦<String as Deserialize<'de>>⟧.gives) x1
+              NoOthers) (fields_left fields.entry)
+        ]) result }
+{
+    let tag = tag_field(alloc, &mut fields, "t")?;
+    match tag.as_str() {
+        "Ping" => {
+            skip_fields(alloc, fields, &["t"])?;
+            Ok(Message::Ping)
+        }
+        "Text" => {
+            let x1 = read_message_text(alloc, fields)?;
+            Ok(Message::Text(x1))
+        }
+        _ => Err(Error::custom(alloc, "unknown variant")),
+    }
+}
+
+impl Serialize for Message {
+    ghost script = { elim [
+      | message.Ping ↦ tagged_script (codes "Message") 1 (codes "t") (codes "Ping")
+          end_script
+      | message.Text x1 ↦ tagged_script (codes "Message") 2 (codes "t") (codes "Text")
+          (field_first (codes "c") (⟦<String as Serialize>⟧.script x1)
+          end_script)
+    ] };
+
+    ghost lawful = { elim [
+      | message.Ping ↦ λ readable. struct_lawful
+          (field_fits (leaf_lawful refl)
+          struct_end_fits)
+      | message.Text x1 ↦ λ readable. struct_lawful
+          (field_fits (leaf_lawful refl)
+          (field_fits (leaf_lawful refl)
+          struct_end_fits))
+    ] };
+
+    fn serialize<S: Serializer>(&self, alloc: Global, serializer: &mut S) -> Result<()> {
+        match self {
+            Message::Ping => Call::Struct("Message", 1)
+                .with(Call::Field("t"), &"Ping")
+                .end(alloc, serializer),
+            Message::Text(x1) => Call::Struct("Message", 2)
+                .with(Call::Field("t"), &"Text")
+                .with(Call::Field("c"), x1)
+                .end(alloc, serializer),
+        }
+    }
+}
+
+impl<'de> Deserialize<'de> for Message {
+    ghost refusal = { struct_refusal (codes "Message")
+        (read_by_name (tag_then (codes "t")
+        (variant_or (codes "Ping")
+        (others_skipped (codes "t" ∷ []))
+        (variant_or (codes "Text")
+        (named_then (codes "c") (⟦<String as Deserialize<'de>>⟧.refusal)
+        (others_skipped (codes "t" ∷ codes "c" ∷ [])))
+        no_variant)))) };
+
+    ghost gives = { λ s. elim [
+      | message.Ping ↦ StructGives (codes "Message") (ReadByName
+          (TagThen (codes "t") (codes "Ping")
+          NoOthers)) s
+      | message.Text x1 ↦ StructGives (codes "Message") (ReadByName
+          (TagThen (codes "t") (codes "Text")
+          (NamedThen (codes "c") (⟦<String as Deserialize<'de>>⟧.gives) x1
+          NoOthers))) s
+    ] };
+
+    fn deserialize<'n: 'de>(alloc: Global, from: Deserializer<'de, 'n>) -> Result<Message> {
+        let fields = from.deserialize_struct(alloc, "Message", &["t"])?.by_name();
+        read_message(alloc, fields)
+    }
+}
+
+impl<'de> RoundTrip<'de> for Message {
+    fn known(&self) {}
+
+    ghost comes_back = { record {
+      of_value = elim [
+        | message.Ping ↦ λ real f. tagged_back Self.refusal Self.gives
+            (skipped_back {Y = Unit {0}} (codes "t" ∷ []))
+            f (λ fs. refl)
+            (λ fs only. elim [
+              | message.Ping ↦ λ it. refl
+              | message.Text y1 ↦ λ it. other_variant it.0 refl
+            ])
+        | message.Text x1 ↦ λ real f. tagged_back Self.refusal Self.gives
+            (named_back (codes "c") text_back x1 tt (λ (z : (String Global)). z)
+            (skipped_back (codes "t" ∷ codes "c" ∷ [])))
+            f (λ fs. refl)
+            (λ fs only. elim [
+              | message.Ping ↦ λ it. other_variant it.0 refl
+              | message.Text y1 ↦ λ it. let same = only y1 it.1 in same.0
+            ])
+      ];
+    } };
+
+    ghost keeps = { record {
+      of_origin = λ o people. elim [
+        | message.Ping ↦ λ p.
+            let q = (struct_keeps (codes "Message") (by_name_keeps
+            (tag_keeps (codes "t") (codes "Ping")
+            (variant_or (codes "Ping")
+            (others_skipped (codes "t" ∷ []))
+            (variant_or (codes "Text")
+            (named_then (codes "c") (⟦<String as Deserialize<'de>>⟧.refusal)
+            (others_skipped (codes "t" ∷ codes "c" ∷ [])))
+            no_variant)) (λ f. refl)
+            (skipped_keeps {Y = Unit {0}} (codes "t" ∷ []))))).of_origin o people tt
+            (record { free = p.free; given = p.given }) in
+            record { free = q.free; given = q.given }
+        | message.Text x1 ↦ λ p.
+            let q = (struct_keeps (codes "Message") (by_name_keeps
+            (tag_keeps (codes "t") (codes "Text")
+            (variant_or (codes "Ping")
+            (others_skipped (codes "t" ∷ []))
+            (variant_or (codes "Text")
+            (named_then (codes "c") (⟦<String as Deserialize<'de>>⟧.refusal)
+            (others_skipped (codes "t" ∷ codes "c" ∷ [])))
+            no_variant)) (λ f. refl)
+            (named_keeps (codes "c") (λ (z : (String Global)). z)
+            (heedless_keeps (λ o. refusal_of (text_from o))
+            (λ o (x : String Global). IsTaken (text_from o) (HasContent (string_bytes x))))
+            (skipped_keeps (codes "t" ∷ codes "c" ∷ [])))))).of_origin o people x1
+            (record { free = p.free; given = p.given }) in
+            record { free = q.free; given = q.given }
+      ];
+    } };
+}
