@@ -13,7 +13,7 @@ use crate::refusal::{answered, put_aside};
 use crate::tape::Tape;
 use crate::token::Token;
 use content_ser::{Call, Sent, Serializer};
-use content_tree::{Error, Result, Value};
+use content_tree::{Error, NamedValue, Result, Value};
 use std::alloc::Global;
 use std::marker::PhantomData;
 
@@ -103,13 +103,14 @@ impl<'v> Builder<'v> {
         self.tape.open_count()
     }
 
-    /// The tree that the calls spell. Its texts and bytes are owned and its names static.
+    /// The tree that the calls spell. Its texts and bytes are owned and its names static, so both
+    /// lifetimes are free.
     ///
     /// It answers `Failed` where the builder has failed, and `Unfinished` where the calls spell no
     /// tree yet. Memory is taken for the tree's vectors, each for the number of its items, and for
     /// its boxes; where an allocation failed: `OutOfMemory`. It doesn't call itself.
     #[tactic(auto, unfolding(crate::specs::Builder::seen_of))]
-    pub fn finish(self) -> Result<Value<'v>>
+    pub fn finish<'n>(self) -> Result<NamedValue<'v, 'n>>
         ensures value { Finishes (seen_of self.entry).failed
             (seen_of self.entry).state.tree result }
         // the tree that the calls spell, or why they spell none

@@ -21,20 +21,20 @@ ghost use Rattle.content_build.specs.Inner.Values.{grown_trees};
 use crate::node::{Frame, Node, Sort, leaf_value};
 use crate::parts::with_head;
 use content_ser::Head;
-use content_tree::{CowStr, Data, NamedData, NamedValue, Value};
+use content_tree::{CowStr, NamedData, NamedValue};
 use std::alloc::{AllocError, Global};
 
 /// A value with its key, which is empty where it is no field, and the number of its frames.
 #[derive(Drop)]
-pub(crate) struct Grown<'v> {
-    value: Value<'v>,
+pub(crate) struct Grown<'v, 'n> {
+    value: NamedValue<'v, 'n>,
     key: &'static str,
     size: usize,
 }
 
 /// How many of the last values have this many frames together, each with this many for its key.
 #[inline(always)]
-fn count<'v>(grown: &Vec<Grown<'v>>, size: usize, keys: usize) -> usize {
+fn count<'v, 'n>(grown: &Vec<Grown<'v, 'n>>, size: usize, keys: usize) -> usize {
     let mut left = size;
     let mut at = grown.len();
     while left > 0 && at > 0 {
@@ -45,11 +45,11 @@ fn count<'v>(grown: &Vec<Grown<'v>>, size: usize, keys: usize) -> usize {
 }
 
 /// The last values, the last first, that have this many frames.
-fn take_items<'v>(
+fn take_items<'v, 'n>(
     alloc: Global,
-    grown: &mut Vec<Grown<'v>>,
+    grown: &mut Vec<Grown<'v, 'n>>,
     size: usize,
-) -> Result<Vec<Value<'v>>, AllocError>
+) -> Result<Vec<NamedValue<'v, 'n>>, AllocError>
     ensures { IfOk result (λ items.
         (trees_view items.items ≡ trees_near size (grown_trees grown.old.items))
         × (grown_trees grown.new.items ≡ past size (grown_trees grown.old.items))) }
@@ -69,11 +69,11 @@ fn take_items<'v>(
 }
 
 /// The last values, the last first, that have this many frames with their keys.
-fn take_fields<'v>(
+fn take_fields<'v, 'n>(
     alloc: Global,
-    grown: &mut Vec<Grown<'v>>,
+    grown: &mut Vec<Grown<'v, 'n>>,
     size: usize,
-) -> Result<Vec<(CowStr<'static>, Value<'v>)>, AllocError>
+) -> Result<Vec<(CowStr<'n>, NamedValue<'v, 'n>)>, AllocError>
     ensures { IfOk result (λ fields.
         (fields_view fields.items ≡ fields_near size (grown_trees grown.old.items))
         × (grown_trees grown.new.items ≡ past_fields size (grown_trees grown.old.items))) }
@@ -93,11 +93,11 @@ fn take_fields<'v>(
 }
 
 /// The last values, the last first, in pairs that have this many frames.
-fn take_pairs<'v>(
+fn take_pairs<'v, 'n>(
     alloc: Global,
-    grown: &mut Vec<Grown<'v>>,
+    grown: &mut Vec<Grown<'v, 'n>>,
     size: usize,
-) -> Result<Vec<(Value<'v>, Value<'v>)>, AllocError>
+) -> Result<Vec<(NamedValue<'v, 'n>, NamedValue<'v, 'n>)>, AllocError>
     ensures { IfOk result (λ pairs.
         (pairs_view pairs.items ≡ pairs_near size (grown_trees grown.old.items))
         × (grown_trees grown.new.items ≡ past size (grown_trees grown.old.items))) }
@@ -133,7 +133,11 @@ fn take_pairs<'v>(
 
 /// One value more, with no key.
 #[inline(always)]
-fn add<'v>(grown: &mut Vec<Grown<'v>>, value: Value<'v>, size: usize) -> Result<(), AllocError>
+fn add<'v, 'n>(
+    grown: &mut Vec<Grown<'v, 'n>>,
+    value: NamedValue<'v, 'n>,
+    size: usize,
+) -> Result<(), AllocError>
     ensures { IfOk result (λ _. grown_trees grown.new.items
         ≡ forest.grown no_key (tree_of value.entry) size ∷ grown_trees grown.old.items) }
 {
@@ -147,12 +151,12 @@ fn add<'v>(grown: &mut Vec<Grown<'v>>, value: Value<'v>, size: usize) -> Result<
 
 /// What a struct or a variant of this sort holds, in this many frames.
 #[inline(always)]
-fn held<'v>(
+fn held<'v, 'n>(
     alloc: Global,
-    grown: &mut Vec<Grown<'v>>,
+    grown: &mut Vec<Grown<'v, 'n>>,
     sort: Sort,
     size: usize,
-) -> Result<Data<'v>, AllocError>
+) -> Result<NamedData<'v, 'n>, AllocError>
     ensures { IfOk result (λ held.
         (tree_data_of held ≡ data_near (sort_view sort) size (grown_trees grown.old.items))
         × (grown_trees grown.new.items
@@ -177,9 +181,9 @@ fn held<'v>(
 
 /// The last value becomes present.
 #[inline(never)]
-fn grow_present<'v>(
+fn grow_present<'v, 'n>(
     alloc: Global,
-    grown: &mut Vec<Grown<'v>>,
+    grown: &mut Vec<Grown<'v, 'n>>,
     size: usize,
 ) -> Result<(), AllocError>
     ensures { IfOk result (λ _. grown_trees grown.new.items
@@ -196,7 +200,11 @@ fn grow_present<'v>(
 
 /// A sequence of the last values.
 #[inline(never)]
-fn grow_seq<'v>(alloc: Global, grown: &mut Vec<Grown<'v>>, size: usize) -> Result<(), AllocError>
+fn grow_seq<'v, 'n>(
+    alloc: Global,
+    grown: &mut Vec<Grown<'v, 'n>>,
+    size: usize,
+) -> Result<(), AllocError>
     ensures { IfOk result (λ _. grown_trees grown.new.items
         ≡ plant (cell cells.seq size) (grown_trees grown.old.items)) }
 {
@@ -206,7 +214,11 @@ fn grow_seq<'v>(alloc: Global, grown: &mut Vec<Grown<'v>>, size: usize) -> Resul
 
 /// A tuple of the last values.
 #[inline(never)]
-fn grow_tuple<'v>(alloc: Global, grown: &mut Vec<Grown<'v>>, size: usize) -> Result<(), AllocError>
+fn grow_tuple<'v, 'n>(
+    alloc: Global,
+    grown: &mut Vec<Grown<'v, 'n>>,
+    size: usize,
+) -> Result<(), AllocError>
     ensures { IfOk result (λ _. grown_trees grown.new.items
         ≡ plant (cell cells.tuple size) (grown_trees grown.old.items)) }
 {
@@ -216,7 +228,11 @@ fn grow_tuple<'v>(alloc: Global, grown: &mut Vec<Grown<'v>>, size: usize) -> Res
 
 /// A map of the last values.
 #[inline(never)]
-fn grow_map<'v>(alloc: Global, grown: &mut Vec<Grown<'v>>, size: usize) -> Result<(), AllocError>
+fn grow_map<'v, 'n>(
+    alloc: Global,
+    grown: &mut Vec<Grown<'v, 'n>>,
+    size: usize,
+) -> Result<(), AllocError>
     ensures { IfOk result (λ _. grown_trees grown.new.items
         ≡ plant (cell cells.map size) (grown_trees grown.old.items)) }
 {
@@ -226,9 +242,9 @@ fn grow_map<'v>(alloc: Global, grown: &mut Vec<Grown<'v>>, size: usize) -> Resul
 
 /// A struct or a variant that holds the last values.
 #[inline(never)]
-fn grow_headed<'v>(
+fn grow_headed<'v, 'n>(
     alloc: Global,
-    grown: &mut Vec<Grown<'v>>,
+    grown: &mut Vec<Grown<'v, 'n>>,
     sort: Sort,
     head: Head,
     size: usize,
@@ -244,7 +260,7 @@ fn grow_headed<'v>(
 
 /// The last value gets this key.
 #[inline(always)]
-fn give_key<'v>(grown: &mut Vec<Grown<'v>>, key: &'static str)
+fn give_key<'v, 'n>(grown: &mut Vec<Grown<'v, 'n>>, key: &'static str)
     ensures { grown_trees grown.new.items
         ≡ plant_key (static_name key.now) (grown_trees grown.old.items) }
 {
@@ -257,7 +273,11 @@ fn give_key<'v>(grown: &mut Vec<Grown<'v>>, key: &'static str)
 
 /// One frame more, whose children are the last values.
 #[inline(always)]
-fn grow_one<'v>(alloc: Global, grown: &mut Vec<Grown<'v>>, next: Frame) -> Result<(), AllocError>
+fn grow_one<'v, 'n>(
+    alloc: Global,
+    grown: &mut Vec<Grown<'v, 'n>>,
+    next: Frame,
+) -> Result<(), AllocError>
     ensures { IfOk result (λ _. grown_trees grown.new.items
         ≡ plant (frame_view next) (grown_trees grown.old.items)) }
 {
@@ -312,7 +332,10 @@ fn trimmed(frames: Vec<Frame>) -> Vec<Frame>
 }
 
 /// The value of a whole tape.
-pub(crate) fn grow<'v>(alloc: Global, frames: Vec<Frame>) -> Result<Option<Value<'v>>, AllocError>
+pub(crate) fn grow<'v, 'n>(
+    alloc: Global,
+    frames: Vec<Frame>,
+) -> Result<Option<NamedValue<'v, 'n>>, AllocError>
     ensures { (t : Tree) → cells_of frames.items ≡ flat t
         → IfOk result (λ value. MatchOption value ⊥ (λ v. tree_of v ≡ t)) }
 {

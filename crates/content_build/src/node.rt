@@ -9,7 +9,7 @@ ghost use Rattle.content_build.specs.Inner.Frames.{leaf_view, node_view, sort_vi
 ghost use Rattle.content_build.specs.Inner.Forest.{leaf_tree};
 
 use content_ser::Head;
-use content_tree::{CowBytes, CowStr, NamedValue, Number, Value};
+use content_tree::{CowBytes, CowStr, NamedValue, Number};
 use std::alloc::{AllocError, Global};
 
 /// A node that has no children and no name. A number of 128 bits stands in a box, so that a frame
@@ -120,7 +120,7 @@ pub(crate) fn number_leaf(alloc: Global, number: Number) -> Result<Leaf, AllocEr
 
 /// The value of a leaf.
 #[inline(always)]
-pub(crate) fn leaf_value<'v>(leaf: Leaf) -> Value<'v>
+pub(crate) fn leaf_value<'v, 'n>(leaf: Leaf) -> NamedValue<'v, 'n>
     ensures { tree_of result ≡ leaf_tree (leaf_view leaf) }
 {
     match leaf {

@@ -5,7 +5,7 @@ ghost use Rattle.content_tree.specs.Values.Value.{tree_of, tree_data_of};
 ghost use Rattle.content_ser.specs.Calls.Head.{head_of, headed};
 
 use content_ser::Head;
-use content_tree::{CowStr, Data, NamedEnum, NamedStruct, NamedValue, Value};
+use content_tree::{CowStr, NamedData, NamedEnum, NamedStruct, NamedValue};
 use std::alloc::{AllocError, Global};
 
 /// What stands around one child.
@@ -24,11 +24,11 @@ pub(crate) enum Series {
 }
 
 /// The struct or the variant of this head that holds this.
-pub(crate) fn with_head<'v>(
+pub(crate) fn with_head<'v, 'n>(
     alloc: Global,
     head: Head,
-    inside: Data<'v>,
-) -> Result<Value<'v>, AllocError>
+    inside: NamedData<'v, 'n>,
+) -> Result<NamedValue<'v, 'n>, AllocError>
     ensures { IfOk result (λ v. tree_of v ≡ headed (head_of head) (tree_data_of inside.entry)) }
 {
     match head {

@@ -8,7 +8,7 @@ use crate::node::{Frame, Opening};
 use crate::refusal::{Refusal, Taken};
 use crate::steps::step;
 use crate::token::Token;
-use content_tree::{ErrorKind, Result, Value};
+use content_tree::{ErrorKind, NamedValue, Result};
 use std::alloc::Global;
 
 /// A partial tree: a frame for each node, in the order in which nodes begin, and the openings that
@@ -97,7 +97,7 @@ impl Tape {
     }
 
     /// The whole tree.
-    pub(crate) fn finish<'v>(self) -> Result<Value<'v>>
+    pub(crate) fn finish<'v, 'n>(self) -> Result<NamedValue<'v, 'n>>
         ensures value { Finishes (has_failed (partial_tree self)) (or_fresh (partial_tree self))
             result }
     {

@@ -1,13 +1,13 @@
 //! What a value is read by.
 
-ghost use Rattle.std.specs.Prelude.{◌≡◌, ◌≢◌, true, IfOk, IfErr};
+ghost use Rattle.std.specs.Prelude.{◌≡◌, ◌≢◌, true, IfOk, IfErr, option_map};
 ghost use Rattle.content_tree.specs.Errors.Cause.{expectation_of, out_of_memory};
 ghost use Rattle.content_tree.specs.Errors.Kind.{IsOutOfMemory};
 ghost use Rattle.content_tree.specs.Values.Text.{text_of};
 ghost use Rattle.content_tree.specs.Values.Value.{tree_of};
 ghost use Rattle.content_de.specs.Outcomes.{cause, mismatch};
 ghost use Rattle.content_de.specs.Sources.Origin.{of_tree, of_identifier, IsIdentifier};
-ghost use Rattle.content_de.specs.Sources.Origin.{no_flags, tree_under};
+ghost use Rattle.content_de.specs.Sources.Origin.{no_flags, tree_in, tree_under};
 ghost use Rattle.content_de.specs.Sources.Origin.{subject_under};
 ghost use Rattle.content_de.specs.Sources.Deserializer.{flags_of, subject};
 
@@ -116,6 +116,17 @@ impl<'de, 'n> Deserializer<'de, 'n> {
             source,
             flags: self.flags,
         })
+    }
+
+    /// The value that is read, lent, so that a type can look at it before it asks; none where a name
+    /// is read. It takes no memory.
+    pub fn as_value(&self) -> Option<&NamedValue<'de, 'n>>
+        ensures { option_map (λ v. tree_of v.now) result ≡ tree_in (subject self.now).origin }
+    {
+        match &self.source {
+            Source::Tree(value) => Some(value),
+            Source::Identifier { name: _, index: _ } => None,
+        }
     }
 
     /// The value that is read, without the flags. Where a name is read, the deserializer comes

@@ -1,13 +1,14 @@
 //! The parts of what a type reads: of a tuple by place, of a struct by name.
 
-ghost use Rattle.std.specs.Prelude.{◌≡◌, ◌≢◌};
+ghost use Rattle.std.specs.Prelude.{◌≡◌, ◌≢◌, None, IsOk, ⊤};
 ghost use Rattle.content_tree.specs.Errors.Cause.{out_of_memory};
 ghost use Rattle.content_de.specs.Outcomes.{cause};
 ghost use Rattle.content_de.specs.Accesses.Seq.{seq_view, first_item, after_item};
 ghost use Rattle.content_de.specs.Accesses.Map.{map_view, first_entry, after_entry};
 ghost use Rattle.content_de.specs.Reads.Read.{Reads};
-ghost use Rattle.content_de.specs.Reads.Tuples.{too_few, part_refusal, PartGives};
+ghost use Rattle.content_de.specs.Reads.Tuples.{too_few, too_many, part_refusal, PartGives};
 ghost use Rattle.content_de.specs.Reads.Tuples.{part_then, no_part, PartThen, NoPart};
+ghost use Rattle.content_de.specs.Reads.Tuples.{PartMemoryless, MemorylessThen, no_more};
 ghost use Rattle.content_de.specs.Reads.Own.{field_refusal, FieldGives};
 
 use crate::deserialize::Deserialize;
@@ -32,6 +33,8 @@ pub fn next_part<'de, 'n: 'de, T: Deserialize<'de>>(
 ) -> Result<T>
     ensures value { Reads (part_refusal expected found T.refusal (first_item (seq_view from.old)))
         (PartGives T.gives (first_item (seq_view from.old))) result }
+    ensures succeeds { PartMemoryless T.memoryless (first_item (seq_view from.old))
+        → IsOk result }
     ensures rest { seq_view from.new ≡ after_item (seq_view from.old) }
 {
     match from.next_deserializer() {
@@ -49,13 +52,31 @@ pub fn two_parts<'de, 'n: 'de, A: Deserialize<'de>, B: Deserialize<'de>>(
     alloc: Global,
     mut from: Seq<'de, 'n>,
 ) -> Result<(A, B)>
-    ensures { Reads
+    ensures value { Reads
         (part_then 2 0 A.refusal (part_then 2 1 B.refusal no_part) (seq_view from.entry))
         (λ p. PartThen A.gives p.0 (PartThen B.gives p.1 NoPart) (seq_view from.entry)) result }
+    ensures succeeds { MemorylessThen A.memoryless (MemorylessThen B.memoryless NoPart)
+        (seq_view from.entry) → IsOk result }
 {
     let first = next_part(alloc, &mut from, 2, 0)?;
     let second = next_part(alloc, &mut from, 2, 1)?;
     Ok((first, second))
+}
+
+/// The end of a tuple of `expected` parts, for a type of a caller's own that takes no other length:
+/// an item that is left over is refused. Where it isn't asked, such items stay unread.
+///
+/// # Errors
+///
+/// `Custom` with the text `too many elements: expected N`; out of memory in its place.
+pub fn end_parts<'de, 'n>(alloc: Global, mut from: Seq<'de, 'n>, expected: usize) -> Result<()>
+    ensures value { Reads (no_more expected (seq_view from.entry)) (λ _. ⊤) result }
+    ensures succeeds { no_more expected (seq_view from.entry) ≡ None → IsOk result }
+{
+    match from.next_deserializer() {
+        None => Ok(()),
+        Some(_) => Err(too_many(alloc, expected)),
+    }
 }
 
 /// The next field, which must have this name, for a type of a caller's own. The name is compared
@@ -104,6 +125,18 @@ fn read_field<'de, 'n: 'de, T: Deserialize<'de>>(
                 Err(custom(alloc, "unexpected field"))
             }
         }
+    }
+}
+
+/// The error of items that are left over.
+#[cold]
+#[inline(never)]
+fn too_many(alloc: Global, expected: usize) -> Error
+    ensures { cause result ≢ out_of_memory → cause result ≡ too_many expected }
+{
+    match format!(in alloc; "too many elements: expected {expected}") {
+        Ok(text) => Error::from(ErrorKind::Custom(text)),
+        Err(refused) => Error::from(refused),
     }
 }
 

@@ -7,3 +7,5 @@ pub mod Records
 pub mod Variants
 pub mod ByName
 pub mod Tagged
+pub mod Flattened
+pub mod Untagged

@@ -16,6 +16,7 @@ pub use values::{from_value, to_value};
 
 pub mod de;
 pub mod laws;
+mod literals;
 mod round;
 pub mod samples;
 pub mod ser;

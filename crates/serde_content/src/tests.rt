@@ -4,6 +4,7 @@
 mod fields_by_name;
 mod for_people;
 mod hostile;
+mod literals;
 mod own_serializer;
 mod own_structs;
 mod own_types;

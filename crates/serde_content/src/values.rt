@@ -13,21 +13,22 @@ ghost use Rattle.serde_content.specs.RoundTrip.{flags};
 use crate::round::{RoundTrip, under};
 use content_build::Builder;
 use content_ser::Serialize;
-use content_tree::{NamedValue, Result, Value};
+use content_tree::{NamedValue, Result};
 use std::alloc::Global;
 
-/// The tree that the value's calls spell, written for people or not, at any lifetime: what
+/// The tree that the value's calls spell, written for people or not, at any lifetimes: what
 /// [`Serializer::serialize`](crate::Serializer::serialize) answers without a limit.
-/// A generic function that reads what it sends needs that, as `Value<'static>` isn't shortened.
+/// A generic function that reads what it sends needs that, as `Value<'static>` isn't shortened, and
+/// one that keeps it needs both.
 ///
 /// # Errors
 ///
 /// Those of `Serializer::serialize`.
-pub fn to_value<'v, T: Serialize>(
+pub fn to_value<'v, 'n, T: Serialize>(
     alloc: Global,
     value: &T,
     human_readable: bool,
-) -> Result<Value<'v>>
+) -> Result<NamedValue<'v, 'n>>
     ensures { Serialized (T.script value.now human_readable) result }
 {
     let mut builder: Builder<'v> = Builder::new(alloc, human_readable);

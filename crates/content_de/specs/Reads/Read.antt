@@ -13,6 +13,10 @@ Refusal = Subject → Option Cause
 abbrev pub Gives : Type 0 → Type 1
 Gives A = Subject → A → Type 0
 
+-- of a type, the sources that are read without memory
+abbrev pub Memoryless : Type 1
+Memoryless = Subject → Type 0
+
 -- a value that may be given, where there is no refusal; else the first refusal, or out of memory
 abbrev pub Reads : {A : Type 0} → Option Cause → (A → Type 0) → Result A Error → Type 0
 Reads refusal gives r =

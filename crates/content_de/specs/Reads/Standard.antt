@@ -9,7 +9,7 @@ use Rattle.content_de.specs.Outcomes.{Outcome, taken, refused}
 use Rattle.content_de.specs.Accesses.Seq.{SeqLeft}
 use Rattle.content_de.specs.Accesses.Node as node
 use Rattle.content_de.specs.Accesses.Node.{Shape, shape_at}
-use Rattle.content_de.specs.Reads.Read.{Refusal, Gives, first_of}
+use Rattle.content_de.specs.Reads.Read.{Refusal, Gives, Memoryless, first_of}
 
 -- a text of this content
 abbrev pub HasContent : List ℕ → Text → Type 0
@@ -49,6 +49,11 @@ HeldGives gives None None = ⊤
 HeldGives gives None (Some a) = ⊥
 HeldGives gives (Some s) None = ⊥
 HeldGives gives (Some s) (Some a) = gives s a
+
+-- nothing is held, or what is read without memory
+abbrev pub HeldMemoryless : Memoryless → Option Subject → Type 0
+HeldMemoryless memoryless None = ⊤
+HeldMemoryless memoryless (Some s) = memoryless s
 
 -- the first refusal among items
 abbrev pub items_refusal : Refusal → Flags → Trees → Option Cause

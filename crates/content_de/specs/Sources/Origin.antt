@@ -1,5 +1,5 @@
 -- What is read: a tree, or an identifier, which is the name of a field or a variant with its index.
-use Rattle.std.specs.Prelude.{ℕ, Bool, true, false, ⊤}
+use Rattle.std.specs.Prelude.{ℕ, Bool, true, false, Option, Some, None, ⊤}
 use Rattle.content_tree.specs.Values.Text.{Text}
 use Rattle.content_tree.specs.Values.Tree.{Tree}
 use Rattle.content_tree.specs.Images.Image.{Image, image, identifier}
@@ -13,6 +13,11 @@ pub data Origin : Type 0 where
 abbrev pub IsIdentifier : Origin → Type 0
 IsIdentifier (of_tree t) = ⊥
 IsIdentifier (of_identifier n i) = ⊤
+
+-- the tree, where one is read
+abbrev pub tree_in : Origin → Option Tree
+tree_in (of_tree t) = Some t
+tree_in (of_identifier n i) = None
 
 -- the image of what is read
 abbrev pub origin_image : Origin → Image

@@ -4,7 +4,7 @@ ghost use Rattle.content_de.specs.Outcomes.{refusal_then, IsTaken};
 ghost use Rattle.content_de.specs.Requests.Leaves.{held_by};
 ghost use Rattle.content_de.specs.Accesses.Seq.{seq_view, seq_at};
 ghost use Rattle.content_de.specs.Reads.Read.{Reads};
-ghost use Rattle.content_de.specs.Reads.Standard.{held_refusal, HeldGives};
+ghost use Rattle.content_de.specs.Reads.Standard.{held_refusal, HeldGives, HeldMemoryless};
 ghost use Rattle.content_de.specs.Reads.Standard.{seq_refusal, SeqGives};
 
 use crate::deserialize::Deserialize;
@@ -18,6 +18,8 @@ impl<'de, T: Deserialize<'de>> Deserialize<'de> for Option<T> {
     ghost refusal = { λ s. held_refusal T.refusal (held_by s) };
 
     ghost gives = { λ s v. HeldGives T.gives (held_by s) v };
+
+    ghost memoryless = { λ s. HeldMemoryless T.memoryless (held_by s) };
 
     fn deserialize<'n: 'de>(alloc: Global, from: Deserializer<'de, 'n>) -> Result<Option<T>> {
         match from.deserialize_option(alloc)? {

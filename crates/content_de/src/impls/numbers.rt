@@ -1,9 +1,9 @@
 //! Numbers, booleans, characters and the unit.
 
-ghost use Rattle.std.specs.Prelude.{◌≡◌, Some, pos};
+ghost use Rattle.std.specs.Prelude.{◌≡◌, Some, None, pos};
 ghost use Rattle.content_tree.specs.Values.Ranges.{i8, u8, i16, u16, i32, u32, i64, u64, i128};
 ghost use Rattle.content_tree.specs.Values.Ranges.{u128};
-ghost use Rattle.content_de.specs.Outcomes.{refusal_of, taken};
+ghost use Rattle.content_de.specs.Outcomes.{refusal_of, taken, IsRefused};
 ghost use Rattle.content_de.specs.Sources.Deserializer.{subject};
 ghost use Rattle.content_de.specs.Accesses.Node.{shape_at};
 ghost use Rattle.content_de.specs.Requests.Leaves.{bool_from, char_from, unit_from};
@@ -23,6 +23,8 @@ impl<'de> Deserialize<'de> for bool {
 
     ghost gives = { λ s v. bool_from s.origin ≡ taken v };
 
+    ghost memoryless = { λ s. ¬ IsRefused (bool_from s.origin) };
+
     fn deserialize<'n: 'de>(alloc: Global, from: Deserializer<'de, 'n>) -> Result<bool> {
         from.deserialize_bool(alloc)
     }
@@ -33,6 +35,8 @@ impl<'de> Deserialize<'de> for char {
     ghost refusal = { λ s. refusal_of (char_from s.origin) };
 
     ghost gives = { λ s v. char_from s.origin ≡ taken v };
+
+    ghost memoryless = { λ s. ¬ IsRefused (char_from s.origin) };
 
     fn deserialize<'n: 'de>(alloc: Global, from: Deserializer<'de, 'n>) -> Result<char> {
         from.deserialize_char(alloc)
@@ -45,6 +49,8 @@ impl<'de> Deserialize<'de> for () {
 
     ghost gives = { λ s v. unit_from s.origin ≡ taken v };
 
+    ghost memoryless = { λ s. ¬ IsRefused (unit_from s.origin) };
+
     fn deserialize<'n: 'de>(alloc: Global, from: Deserializer<'de, 'n>) -> Result<()> {
         from.deserialize_unit(alloc)
     }
@@ -55,6 +61,8 @@ impl<'de> Deserialize<'de> for i8 {
     ghost refusal = { λ s. refusal_of (number_from i8 s) };
 
     ghost gives = { λ s v. number_from i8 s ≡ taken v };
+
+    ghost memoryless = { λ s. ¬ IsRefused (number_from i8 s) };
 
     fn deserialize<'n: 'de>(alloc: Global, from: Deserializer<'de, 'n>) -> Result<i8> {
         from.deserialize_i8(alloc)
@@ -67,6 +75,8 @@ impl<'de> Deserialize<'de> for u8 {
 
     ghost gives = { λ s v. number_from u8 s ≡ taken (pos v) };
 
+    ghost memoryless = { λ s. ¬ IsRefused (number_from u8 s) };
+
     fn deserialize<'n: 'de>(alloc: Global, from: Deserializer<'de, 'n>) -> Result<u8> {
         from.deserialize_u8(alloc)
     }
@@ -77,6 +87,8 @@ impl<'de> Deserialize<'de> for i16 {
     ghost refusal = { λ s. refusal_of (number_from i16 s) };
 
     ghost gives = { λ s v. number_from i16 s ≡ taken v };
+
+    ghost memoryless = { λ s. ¬ IsRefused (number_from i16 s) };
 
     fn deserialize<'n: 'de>(alloc: Global, from: Deserializer<'de, 'n>) -> Result<i16> {
         from.deserialize_i16(alloc)
@@ -89,6 +101,8 @@ impl<'de> Deserialize<'de> for u16 {
 
     ghost gives = { λ s v. number_from u16 s ≡ taken (pos v) };
 
+    ghost memoryless = { λ s. ¬ IsRefused (number_from u16 s) };
+
     fn deserialize<'n: 'de>(alloc: Global, from: Deserializer<'de, 'n>) -> Result<u16> {
         from.deserialize_u16(alloc)
     }
@@ -99,6 +113,8 @@ impl<'de> Deserialize<'de> for i32 {
     ghost refusal = { λ s. refusal_of (number_from i32 s) };
 
     ghost gives = { λ s v. number_from i32 s ≡ taken v };
+
+    ghost memoryless = { λ s. ¬ IsRefused (number_from i32 s) };
 
     fn deserialize<'n: 'de>(alloc: Global, from: Deserializer<'de, 'n>) -> Result<i32> {
         from.deserialize_i32(alloc)
@@ -111,6 +127,8 @@ impl<'de> Deserialize<'de> for u32 {
 
     ghost gives = { λ s v. number_from u32 s ≡ taken (pos v) };
 
+    ghost memoryless = { λ s. ¬ IsRefused (number_from u32 s) };
+
     fn deserialize<'n: 'de>(alloc: Global, from: Deserializer<'de, 'n>) -> Result<u32> {
         from.deserialize_u32(alloc)
     }
@@ -121,6 +139,8 @@ impl<'de> Deserialize<'de> for i64 {
     ghost refusal = { λ s. refusal_of (number_from i64 s) };
 
     ghost gives = { λ s v. number_from i64 s ≡ taken v };
+
+    ghost memoryless = { λ s. ¬ IsRefused (number_from i64 s) };
 
     fn deserialize<'n: 'de>(alloc: Global, from: Deserializer<'de, 'n>) -> Result<i64> {
         from.deserialize_i64(alloc)
@@ -133,6 +153,8 @@ impl<'de> Deserialize<'de> for u64 {
 
     ghost gives = { λ s v. number_from u64 s ≡ taken (pos v) };
 
+    ghost memoryless = { λ s. ¬ IsRefused (number_from u64 s) };
+
     fn deserialize<'n: 'de>(alloc: Global, from: Deserializer<'de, 'n>) -> Result<u64> {
         from.deserialize_u64(alloc)
     }
@@ -143,6 +165,8 @@ impl<'de> Deserialize<'de> for i128 {
     ghost refusal = { λ s. refusal_of (number_from i128 s) };
 
     ghost gives = { λ s v. number_from i128 s ≡ taken v };
+
+    ghost memoryless = { λ s. ¬ IsRefused (number_from i128 s) };
 
     fn deserialize<'n: 'de>(alloc: Global, from: Deserializer<'de, 'n>) -> Result<i128> {
         from.deserialize_i128(alloc)
@@ -155,6 +179,8 @@ impl<'de> Deserialize<'de> for u128 {
 
     ghost gives = { λ s v. number_from u128 s ≡ taken (pos v) };
 
+    ghost memoryless = { λ s. ¬ IsRefused (number_from u128 s) };
+
     fn deserialize<'n: 'de>(alloc: Global, from: Deserializer<'de, 'n>) -> Result<u128> {
         from.deserialize_u128(alloc)
     }
@@ -165,6 +191,8 @@ impl<'de> Deserialize<'de> for usize {
     ghost refusal = { λ s. refusal_of (number_from u64 s) };
 
     ghost gives = { λ s v. number_from u64 s ≡ taken (pos v) };
+
+    ghost memoryless = { λ s. ¬ IsRefused (number_from u64 s) };
 
     fn deserialize<'n: 'de>(alloc: Global, from: Deserializer<'de, 'n>) -> Result<usize> {
         Ok(from.deserialize_u64(alloc)? as usize)
@@ -177,6 +205,8 @@ impl<'de> Deserialize<'de> for isize {
 
     ghost gives = { λ s v. number_from i64 s ≡ taken v };
 
+    ghost memoryless = { λ s. ¬ IsRefused (number_from i64 s) };
+
     fn deserialize<'n: 'de>(alloc: Global, from: Deserializer<'de, 'n>) -> Result<isize> {
         Ok(from.deserialize_i64(alloc)? as isize)
     }
@@ -187,6 +217,8 @@ impl<'de> Deserialize<'de> for Number {
     ghost refusal = { λ s. number_refusal (number_in (shape_at s)) };
 
     ghost gives = { λ s v. number_in (shape_at s) ≡ Some v };
+
+    ghost memoryless = { λ s. number_refusal (number_in (shape_at s)) ≡ None };
 
     fn deserialize<'n: 'de>(alloc: Global, from: Deserializer<'de, 'n>) -> Result<Number> {
         match number_at(&from) {

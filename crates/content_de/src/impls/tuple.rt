@@ -3,6 +3,7 @@
 ghost use Rattle.content_de.specs.Outcomes.{refusal_then, IsTaken};
 ghost use Rattle.content_de.specs.Accesses.Seq.{tuple_at};
 ghost use Rattle.content_de.specs.Reads.Tuples.{part_then, no_part, PartThen, NoPart};
+ghost use Rattle.content_de.specs.Reads.Tuples.{MemorylessThen};
 
 use crate::deserialize::Deserialize;
 use crate::deserializer::Deserializer;
@@ -17,6 +18,9 @@ impl<'de, A: Deserialize<'de>> Deserialize<'de> for (A,) {
 
     ghost gives = { λ s v. IsTaken (tuple_at 1 s)
         (PartThen A.gives v.0 NoPart) };
+
+    ghost memoryless = { λ s. IsTaken (tuple_at 1 s)
+        (MemorylessThen A.memoryless NoPart) };
 
     fn deserialize<'n: 'de>(alloc: Global, from: Deserializer<'de, 'n>) -> Result<(A,)> {
         let mut parts = from.deserialize_tuple(alloc, 1)?;
@@ -33,6 +37,9 @@ impl<'de, A: Deserialize<'de>, B: Deserialize<'de>> Deserialize<'de> for (A, B) 
     ghost gives = { λ s v. IsTaken (tuple_at 2 s)
         (PartThen A.gives v.0 (PartThen B.gives v.1 NoPart)) };
 
+    ghost memoryless = { λ s. IsTaken (tuple_at 2 s)
+        (MemorylessThen A.memoryless (MemorylessThen B.memoryless NoPart)) };
+
     fn deserialize<'n: 'de>(alloc: Global, from: Deserializer<'de, 'n>) -> Result<(A, B)> {
         two_parts(alloc, from.deserialize_tuple(alloc, 2)?)
     }
@@ -46,6 +53,10 @@ impl<'de, A: Deserialize<'de>, B: Deserialize<'de>, C: Deserialize<'de>> Deseria
 
     ghost gives = { λ s v. IsTaken (tuple_at 3 s)
         (PartThen A.gives v.0 (PartThen B.gives v.1 (PartThen C.gives v.2 NoPart))) };
+
+    ghost memoryless = { λ s. IsTaken (tuple_at 3 s)
+        (MemorylessThen A.memoryless (MemorylessThen B.memoryless
+        (MemorylessThen C.memoryless NoPart))) };
 
     fn deserialize<'n: 'de>(alloc: Global, from: Deserializer<'de, 'n>) -> Result<(A, B, C)> {
         let mut parts = from.deserialize_tuple(alloc, 3)?;
@@ -71,6 +82,10 @@ impl<
     ghost gives = { λ s v. IsTaken (tuple_at 4 s)
         (PartThen A.gives v.0 (PartThen B.gives v.1
         (PartThen C.gives v.2 (PartThen D.gives v.3 NoPart)))) };
+
+    ghost memoryless = { λ s. IsTaken (tuple_at 4 s)
+        (MemorylessThen A.memoryless (MemorylessThen B.memoryless
+        (MemorylessThen C.memoryless (MemorylessThen D.memoryless NoPart)))) };
 
     fn deserialize<'n: 'de>(alloc: Global, from: Deserializer<'de, 'n>) -> Result<(A, B, C, D)> {
         let mut parts = from.deserialize_tuple(alloc, 4)?;

@@ -39,7 +39,7 @@ pub record NamedBack {Y : Type 0} (script : Bool → Script) (refusal : FieldsLe
       → Spelled (FieldsSuch (λ fs. GivesOnly (refusal (named_under f (named_entries fs))) (λ y. given y (named_under f (named_entries fs))) such)) (script f.human_readable)
 
 -- none of the names stands among no entries
-skipped_free : (known : List (List ℕ)) (f : Flags) → others_skipped known (named_under f []) ≡ None
+pub skipped_free : (known : List (List ℕ)) (f : Flags) → others_skipped known (named_under f []) ≡ None
 skipped_free [] f = refl
 skipped_free (name ∷ known) f = skipped_free known f
 
@@ -60,7 +60,7 @@ abbrev pub EntryGives : {A : Type 0} → List ℕ → (A → Type 0) → Gives A
 EntryGives name missing gives a others f = FoundGives missing gives (field_named name f) a × others (without_field name f)
 
 -- the first entry has the name
-entry_first : {A Y : Type 0} {passes : A → Type 0} {such : Y → Type 0} (refusal : Refusal) (gives : Gives A) (others : FieldsLeft → Option Cause) (given : Y → FieldsLeft → Type 0)
+pub entry_first : {A Y : Type 0} {passes : A → Type 0} {such : Y → Type 0} (refusal : Refusal) (gives : Gives A) (others : FieldsLeft → Option Cause) (given : Y → FieldsLeft → Type 0)
     (name : List ℕ) (absent : Option Cause) (missing : A → Type 0) (see : Y → A) (f : Flags) (k t : Tree) (es : List (Tree × Tree)) → is_text name k ≡ true
     → GivesOnly (refusal (tree_under f t)) (gives (tree_under f t)) passes → GivesOnly (others (named_under f es)) (λ y. given y (named_under f es)) such
     → GivesOnly (entry_refusal name absent refusal others (named_under f ((k, t) ∷ es))) (λ y. EntryGives name missing gives (see y) (given y) (named_under f ((k, t) ∷ es))) (λ y. passes (see y) × such y)

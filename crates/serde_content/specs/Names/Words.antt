@@ -17,3 +17,11 @@ pub use Rattle.content_build.specs.Answers.{IsAnswer, IsRefusal, IsAnswerWithin,
 pub use Rattle.content_build.specs.declared.calls_error.CallsError.{CallsError}
 pub use Rattle.content_build.specs.Builder.{seen_of, HasTaken, AnswersNext, AnswersEnd}
 pub use Rattle.content_build.specs.declared.builder.Builder.{Builder}
+pub use Rattle.content_tree.specs.Errors.Kind.{IsOutOfMemory}
+pub use Rattle.content_tree.specs.Errors.Cause.{Cause}
+pub use Rattle.content_tree.specs.Values.Value.{trees_view, pairs_view, fields_view}
+pub use Rattle.content_ser.specs.Scripts.Script.{Script, calls_of, stop_of}
+pub use Rattle.content_de.specs.Sources.Deserializer.{subject}
+pub use Rattle.content_de.specs.Sources.Origin.{no_flags, tree_under}
+pub use Rattle.content_de.specs.Outcomes.{cause}
+pub use Rattle.content_de.specs.Reads.Read.{Reads}

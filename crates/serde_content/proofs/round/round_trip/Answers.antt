@@ -16,16 +16,16 @@ pub returns-clause-value : goal.returns-clause-value
 returns-clause-value g c =
     read_such g.T.Deserialize.refusal g.T.Deserialize.gives _ _ _
     (returned (g.met.T.RoundTrip c.lifetimes (search rules)).comes_back c.args.value.now c.known.ensures (flags c.args.human_readable c.args.coerce) _ c.in_ok-sent.ensures)
-    c.under.ensures c.deserialize.ensures
+    c.under.ensures c.deserialize.ensures.value
 
 pub returns-clause-memory : goal.returns-clause-memory
 returns-clause-memory g c =
     read_or_memory g.T.Deserialize.refusal g.T.Deserialize.gives _ _ _
     (returned (g.met.T.RoundTrip c.lifetimes (search rules)).comes_back c.args.value.now c.known.ensures (flags c.args.human_readable c.args.coerce) _ c.in_ok-sent.ensures)
-    c.under.ensures c.deserialize.ensures
+    c.under.ensures c.deserialize.ensures.value
 
 pub returns-clause-given : goal.returns-clause-given
 returns-clause-given g c t spelled =
     read_given g.T.Deserialize.refusal g.T.Deserialize.gives _ _ _
     (c.under.ensures ∙ ap (tree_under (flags c.args.human_readable c.args.coerce)) (one_tree (calls_of (g.T.Serialize.script c.args.value.now c.args.human_readable)) _ t c.in_ok-sent.ensures.1 spelled))
-    c.deserialize.ensures
+    c.deserialize.ensures.value
