@@ -36,11 +36,60 @@ enum A {
     X,
 }
 
-// 4: variant `X`: of an enum that is tagged internally, only variants with no values and with values by name are covered
+// 4: variant `X`: of an enum that is tagged internally, only variants with no values and with a struct, or values by name, are covered
+#[derive(Serialize)]
+#[serde(tag = "sort")]
+enum A {
+    X(u8, u8),
+}
+
+// 4: variant `X`: what stands beside a tag is covered where it is a struct of this file with named fields and without `deny_unknown_fields` and `flatten`
 #[derive(Serialize)]
 #[serde(tag = "sort")]
 enum A {
     X(u8),
+}
+
+// 4: field `x`: what is flattened is covered where it is a struct of this file with named fields and without `deny_unknown_fields`
+#[derive(Serialize)]
+struct A {
+    #[serde(flatten)]
+    x: BTreeMap<String, u8>,
+}
+
+// 3: `A`: serde's `flatten` is covered in structs with named fields and without `deny_unknown_fields`
+#[derive(Serialize)]
+#[serde(deny_unknown_fields)]
+struct A {
+    #[serde(flatten)]
+    x: B,
+}
+#[derive(Serialize)]
+struct B {
+    y: u8,
+}
+
+// 2: `A`: two fields are called `y`
+#[derive(Serialize)]
+struct A {
+    y: u8,
+    #[serde(flatten)]
+    x: B,
+}
+#[derive(Serialize)]
+struct B {
+    y: u8,
+}
+
+// 2: `A`: such attributes don't go together
+#[derive(Serialize)]
+struct A {
+    #[serde(flatten, default)]
+    x: B,
+}
+#[derive(Serialize)]
+struct B {
+    y: u8,
 }
 
 // 3: serde's `default` so is not covered: a function of your own has no contract here

@@ -18,13 +18,15 @@ pub enum Command {
 }
 
 /// A setting, told by what it is.
-#[derive(Serialize, Deserialize)]
+#[derive(PartialEq, Eq, Serialize, Deserialize)]
 #[serde(untagged)]
 pub enum Setting {
     /// On or off.
     Flag(bool),
+    /// How much.
+    Level(i32),
     /// From and to.
     Range(u8, u8),
-    /// Names.
-    Names(Vec<String>),
+    /// What it is called.
+    Name(String),
 }

@@ -1,5 +1,6 @@
 """Structs and enums, as they are declared."""
-from dataclasses import dataclass, field
+from dataclasses import dataclass, field, replace
+from itertools import islice
 from typing import Dict, List, Optional, Tuple
 
 from .types import SIGNED, Type
@@ -28,11 +29,13 @@ class Named:
 @dataclass
 class Field(Named):
     """A field; one by place has its place as its name. Where it may be missing, `missing` is what
-    code takes for it and what contracts say of that."""
+    code takes for it and what contracts say of that. Where it is flattened, `inside` is what its
+    type holds."""
 
     type: Type = Type("()")
     visible: str = ""
     missing: Optional[Tuple[str, str]] = None
+    inside: Optional["Data"] = None
 
     def absent(self) -> str:
         """What may be given where it is missing, after a blank."""
@@ -52,6 +55,15 @@ class Data:
     def named(self) -> bool:
         return self.style == "Struct"
 
+    def leaves(self) -> List[Field]:
+        """The fields; in the place of one that is flattened those inside it, named by their path."""
+        return [leaf for f in self.fields for leaf in (
+            [replace(leaf, name=f"{f.name}.{leaf.name}") for leaf in f.inside.leaves()] if f.inside else [f])]
+
+    def flat(self) -> "Data":
+        """The same with its leaves as its fields."""
+        return replace(self, fields=self.leaves())
+
     def asked(self) -> List[Field]:
         """The fields of which contracts must be told that they exist."""
         return [f for f in self.fields if not f.type.plain]
@@ -59,16 +71,19 @@ class Data:
     def places(self) -> List[str]:
         """The names of its values in code."""
         taken = ("alloc", "fields", "serializer")
-        return [f"{f.name}_field" if f.name in taken else f.name if self.named else f"x{i + 1}"
+        return [f"{f.name}_field" if f.name in taken else f.name.replace(".", "_") if self.named else f"x{i + 1}"
                 for i, f in enumerate(self.fields)]
 
     def made(self, name: str, places: List[str]) -> str:
-        """A value or a pattern of it."""
-        if not self.fields:
+        """A value or a pattern of it, from its leaves."""
+        left = iter(places)
+        parts = [f.inside.made(f.type.name, list(islice(left, len(f.inside.leaves())))) if f.inside else next(left)
+                 for f in self.fields]
+        if not parts:
             return name
         if not self.named:
-            return f"{name}({', '.join(places)})"
-        inside = [p if f.name == p else f"{f.name}: {p}" for f, p in zip(self.fields, places)]
+            return f"{name}({', '.join(parts)})"
+        inside = [p if f.name == p else f"{f.name}: {p}" for f, p in zip(self.fields, parts)]
         return f"{name} {{ {', '.join(inside)} }}"
 
     def declared(self) -> str:
@@ -80,12 +95,19 @@ class Data:
 
 @dataclass
 class Variant(Named):
-    """A variant of an enum."""
+    """A variant of an enum. Where it holds a struct whose fields stand beside the tag, `beside` is
+    that struct."""
 
     data: Data = field(default_factory=Data)
+    beside: Optional["Item"] = None
 
     def signed(self) -> bool:
         return any(f.type.name in SIGNED for f in self.data.fields)
+
+    def held(self) -> Type:
+        """What a variant of values by place is read as, where its enum is untagged."""
+        types = tuple(f.type for f in self.data.fields)
+        return types[0] if len(types) == 1 else Type("tuple", types)
 
 
 @dataclass
@@ -106,16 +128,27 @@ class Item(Named):
         return [f for data in self.parts() for f in data.fields]
 
     def owns(self) -> List[Type]:
-        """The own types that it holds, once each."""
-        return list(dict.fromkeys(t for f in self.fields() for t in f.type.owns()))
+        """The own types that it holds, once each, and those inside what it inlines."""
+        inlined = [v.beside.data for v in self.variants if v.beside] + [f.inside for f in self.fields() if f.inside]
+        leaves = [f for data in inlined for f in data.leaves()]
+        return list(dict.fromkeys(t for f in self.fields() + leaves for t in f.type.owns()))
+
+    def flattens(self) -> bool:
+        return any("flatten" in f.serde for f in self.fields())
 
     def asked(self) -> bool:
         return any(data.asked() for data in self.parts())
 
+    def derives_all(self) -> bool:
+        """Whether it derives all that RoundTrip stands on."""
+        return {"Serialize", "Deserialize", "PartialEq", "Eq"} <= set(self.derives)
+
     def comes_back(self) -> bool:
-        """Whether it derives all that RoundTrip stands on. A value of an untagged enum may be read as
-        another variant's."""
-        return "untagged" not in self.serde and {"Serialize", "Deserialize", "PartialEq", "Eq"} <= set(self.derives)
+        """Whether RoundTrip is written. A value of an untagged enum may be read as another variant's,
+        where two take trees of one class."""
+        taken = [v.held().takes() for v in self.variants] if "untagged" in self.serde else []
+        classes = [one and one[0] for one in taken]
+        return self.derives_all() and None not in classes and len(set(classes)) == len(classes)
 
     def declared(self) -> str:
         """The declaration."""

@@ -4,7 +4,7 @@ from typing import Callable, List
 from .declarations import Data, Item, Variant
 from .holder import Holder
 from .text import DESERIALIZE, KNOWN, SERIALIZE, alias, all_hold, arm, bracketed, clause, codes, elim
-from .text import function, ghost, quoted, together
+from .text import facts, function, ghost, quoted, together
 from .types import nest, snake
 
 
@@ -21,12 +21,23 @@ class EnumWriter:
     def values(data: Data, letter: str = "x") -> List[str]:
         return [f"{letter}{i + 1}" for i in range(len(data.fields))]
 
+    @classmethod
+    def leaves(cls, v: Variant, letter: str = "x") -> List[str]:
+        """The values that are sent and read, as contracts call them."""
+        if v.beside:
+            return [f"{letter}1.{f.name}" for f in v.beside.data.fields]
+        return cls.values(v.data, letter)
+
+    def sent(self, v: Variant) -> List[str]:
+        """The same as code calls them."""
+        return [f"&{leaf}" for leaf in self.leaves(v)] if v.beside else v.data.places()
+
     def case(self, v: Variant, letter: str = "x") -> str:
         """A variant as a pattern of contracts."""
         return " ".join([f"{self.cases}.{v.name}"] + self.values(v.data, letter)) + " ↦"
 
     def each(self, term: Callable[[Variant, Holder, List[str]], str]) -> str:
-        return elim([f"{self.case(v)} {term(v, holder, self.values(v.data))}" for v, holder in self.variants])
+        return elim([f"{self.case(v)} {term(v, holder, self.leaves(v))}" for v, holder in self.variants])
 
     def made(self, v: Variant, places: List[str]) -> str:
         return v.data.made(f"{self.item.name}::{v.name}", places)
@@ -39,6 +50,10 @@ class EnumWriter:
 
     def reader(self, v: Variant, holder: Holder) -> List[str]:
         """The function that reads a variant's fields, all values as one."""
+        if v.beside:
+            held = v.beside.name
+            return holder.read_functions(holder.data.made(held, holder.data.places()), held,
+                                         [f"z.{f.name}" for f in holder.fields])
         types = [f.type.rust() for f in v.data.fields]
         values = [f"z.{i}" for i in range(len(types))] if len(types) > 1 else ["z"]
         return holder.read_functions(together(v.data.places()), together(types), values)
@@ -61,7 +76,7 @@ class EnumWriter:
         return ["match self {"] + arms + ["}"]
 
     def serialize(self) -> List[str]:
-        sent = [arm(self.made(v, v.data.places()), [h.send(v.data.places())]) for v, h in self.variants]
+        sent = [arm(self.made(v, v.data.places()), [h.send(self.sent(v))]) for v, h in self.variants]
         return [ghost("script", self.each(lambda v, holder, x: holder.script(x))),
                 ghost("lawful", self.each(lambda v, holder, x: f"λ readable. {holder.lawful(x)}")),
                 function(SERIALIZE, *self.match(sent))]
@@ -87,10 +102,10 @@ class EnumWriter:
 
     def round_trip(self) -> List[str]:
         known = []
-        for v in self.item.variants:
-            asked = [(p, f in v.data.asked()) for f, p in zip(v.data.fields, v.data.places())]
-            known.append(arm(self.made(v, [p if look else "_" for p, look in asked]),
-                             [f"{p}.known();" for p, look in asked if look]))
+        for v, holder in self.variants:
+            places = [p if f in v.data.asked() else "_" for f, p in zip(v.data.fields, v.data.places())]
+            known.append(arm(self.made(v, places), [f"{leaf.lstrip('&')}.known();" for f, leaf in zip(
+                holder.fields, self.sent(v)) if f in holder.data.asked()]))
         looks = self.item.asked()
         return [ghost("exists", self.each(lambda v, holder, x: holder.exists(x)))] * looks + [
             function(KNOWN, *self.match(known) * looks),
@@ -105,7 +120,7 @@ class EnumWriter:
 
     def read(self, sent: Variant, read: Variant) -> str:
         """That a variant that was read is equal to the one that was sent."""
-        values = self.values(read.data, "y")
+        values = self.leaves(read, "y")
         pattern = self.case(read, "y") + " λ it. "
         if read is not sent:
             return pattern + "other_variant it.0 refl"
@@ -113,7 +128,7 @@ class EnumWriter:
             return pattern + "refl"
         if self.alone(read):
             return pattern + "only y1 it.1"
-        return pattern + f"let same = only {together(values)} it.1 in {all_hold(len(values), 'same')}"
+        return pattern + f"let same = only {together(values)} it.1 in {all_hold(facts(len(values), 'same'))}"
 
     def alone(self, v: Variant) -> bool:
         """Whether its one value stands in no row."""

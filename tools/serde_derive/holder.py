@@ -31,6 +31,10 @@ BY_NAME = Row(
     ("Named{Or}Then {name}{missing} {inner}", "NoOthers"),
     ("named{or_}_back {name}{missing} {inner} {see}", "({end}_back {known})"),
     ("named{or_}_keeps {name}{missing} {see} {inner}", "({end}_keeps {known})"))
+FLATTENED = BY_NAME._replace(
+    script=("flattened_first {name} {inner}", "end_script"),
+    lawful=("flattened_fits {inner}", "flattened_end_fits"),
+    back=("flattened_named{or_}_back {name}{missing} {inner} {see}", "(flattened_end_back {known})"))
 
 
 class Holder:
@@ -38,6 +42,7 @@ class Holder:
     contracts or code name them."""
 
     most = 2  # as many values are sent without a function of their own
+    by_key = BY_NAME
 
     def __init__(self, sort: str, names: list, data: Data, owner: str):
         self.data, self.fields, self.count = data, data.fields, len(data.fields)
@@ -63,7 +68,7 @@ class Holder:
         those from a place on."""
         if not self.many:
             return "".join(f" {inner}" for inner in inners)
-        part, end = getattr(BY_NAME if self.data.named else BY_PLACE, member)
+        part, end = getattr(self.by_key if self.data.named else BY_PLACE, member)
         parts = [part.format(
             inner=inner, see=see, place=place, count=self.count, name=codes(f.wire),
             or_="_or" * bool(f.missing), Or="Or" * bool(f.missing), missing=f.absent())

@@ -1,7 +1,7 @@
 """Where the own types of a file are declared, and which types are covered."""
 from typing import Dict, List, Set
 
-from .declarations import Item, Refused
+from .declarations import Field, Item, Refused
 from .parser import NOT_COVERED
 from .types import LEAVES, NUMBERS, Type
 
@@ -30,7 +30,31 @@ class Homes:
                 f.type = self.settled(f.type, item)
             except ValueError as reason:
                 raise Refused(f.line, f"field `{f.name}`: {reason}") from None
+        for f in item.fields():
+            if "flatten" in f.serde:
+                f.inside = self.inlined(f, f"field `{f.name}`: what is flattened").data
+        for v in item.variants:
+            if v.data.style == "Newtype" and "tag" in item.serde and "content" not in item.serde:
+                v.beside = self.inlined(v.data.fields[0], f"variant `{v.name}`: what stands beside a tag")
+        self.check_leaves(item)
         self.done.add(item.name)
+
+    def inlined(self, f: Field, what: str) -> Item:
+        """The struct in a field, whose own fields are sent and read in its place."""
+        part = self.items.get(f.type.name)
+        if not part or not part.data.named or part.data.closed or (part.flattens() and "flatten" not in f.serde):
+            raise Refused(f.line, f"{what} is covered where it is a struct of this file with named fields and without"
+                          f" `deny_unknown_fields`{'' if 'flatten' in f.serde else ' and `flatten`'}")
+        return part
+
+    @staticmethod
+    def check_leaves(item: Item) -> None:
+        """Refuses two of one name beside each other."""
+        for data in item.parts():
+            leaves, places = data.leaves() if data.named else [], data.flat().places()
+            for f, p in zip(leaves, places):
+                if [g.wire for g in leaves].count(f.wire) > 1 or places.count(p) > 1:
+                    raise Refused(item.line, f"`{item.name}`: two fields are called `{f.wire}`")
 
     def settled(self, t: Type, holder: Item) -> Type:
         """The type with its home; a ValueError says why it is not covered."""
@@ -52,12 +76,13 @@ class Homes:
             part = self.items[name]
             self.settle(part)
             needed = {"Serialize", "Deserialize"} & set(holder.derives)
-            lacking = needed | ({"PartialEq", "Eq"} if holder.comes_back() else set())
-            if "untagged" in part.serde and holder.comes_back():
+            lacking = needed | ({"PartialEq", "Eq"} if holder.derives_all() else set())
+            if part.derives_all() and not part.comes_back() and holder.derives_all() and "untagged" not in holder.serde:
                 raise ValueError(f"`{name}` is untagged and does not come back, so what holds it derives no Eq")
             if lacking - set(part.derives):
                 raise ValueError(f"`{name}` does not derive {', '.join(sorted(lacking - set(part.derives)))}")
-            return Type(name, home=self.here, declared=name, plain=not part.asked())
+            law = ("records", "map_takes" if part.flattens() else "struct_takes")
+            return Type(name, home=self.here, declared=name, plain=not part.asked(), record=law if part.data.named else None)
         path = self.uses.get(name, name.split("::"))
         if len(path) < 2 or path[0] in ("self", "super"):
             raise ValueError(f"the type `{name}` is not covered; one of your own is declared in this"

@@ -50,6 +50,11 @@ def check(item: Item) -> None:
         raise Refused(item.line, f"`{item.name}` derives neither Serialize nor Deserialize")
     if item.name in TAKEN or item.name in WORDS:
         raise Refused(item.line, f"the name `{item.name}` is one that the module uses itself")
+    if item.flattens() and (item.variants or not item.data.named or "deny_unknown_fields" in item.serde):
+        raise Refused(item.line, f"`{item.name}`: serde's `flatten` is covered in structs with named fields and without"
+                      " `deny_unknown_fields`")
+    if any("flatten" in f.serde and len(f.serde) > 1 for f in item.fields()):
+        raise Refused(item.line, f"`{item.name}`: such attributes don't go together")
     for key in {"rename_all_fields", "untagged", "tag", "content"} & set(item.serde) if not item.variants else ():
         raise Refused(item.line, f"`{item.name}`: serde's `{key}` is for enums")
     if ("content" in item.serde) > ("tag" in item.serde) or {"tag", "untagged"} <= set(item.serde):
@@ -63,6 +68,7 @@ def module(source: str, name: str, crate: str, place: str) -> str:
     for item in items:
         check(item)
         name_item(item)
+    for item in items:
         homes.settle(item)
     body = "\n".join(text for item in items for text in (item.declared(), "", *impls(item)))
     seen = " ".join(re.findall(r"λ (?:o )?\([xz] : (.*?)\)\. ", body))

@@ -27,7 +27,7 @@ COVERED = {
     "a container": {"rename", "rename_all", "rename_all_fields", "deny_unknown_fields", "untagged",
                     "tag", "content"},
     "a variant": {"rename", "rename_all"},
-    "a field": {"rename", "default"},
+    "a field": {"rename", "default", "flatten"},
 }
 NOT_COVERED = {
     "f32": "floats are not covered", "f64": "floats are not covered",

@@ -1,25 +1,55 @@
 """The impls of a struct."""
-from typing import List
+from typing import Callable, Iterator, List, Optional
 
-from .declarations import Item
-from .holder import Holder
-from .text import DESERIALIZE, KNOWN, SERIALIZE, all_hold, function, ghost
+from .declarations import Data, Item
+from .holder import FLATTENED, Holder
+from .text import DESERIALIZE, KNOWN, SERIALIZE, all_hold, facts, function, ghost
+
+
+class FlattenedHolder(Holder):
+    """What a struct with flattened fields holds: it is sent as a map and read from one."""
+
+    by_key = FLATTENED
+
+    def __init__(self, item: Item):
+        super().__init__("Struct", [], item.data.flat(), item.name)
+        self.word, self.camel, self.head = "flattened", "Flattened", ""
+
+    def script(self, values: List[str], members: Optional[List[str]] = None) -> str:
+        members = members or [f.type.member("Serialize", "script") for f in self.fields]
+        return "flattened_script" + self.row("script", [f"({m} {v})" for m, v in zip(members, values)])
+
+    def chain(self, values: List[str]) -> str:
+        entries = "".join(f'.with(Call::Key, &"{f.wire}").with(Call::Value, {value})'
+                          for f, value in zip(self.fields, values))
+        return f"Call::Map(None){entries}.end(alloc, serializer)"
+
+    def read(self, make: Callable[[List[str]], str]) -> List[str]:
+        return ["let fields = from.deserialize_map(alloc)?.by_name();", f"{self.reader}(alloc, fields)"]
+
+    def back(self, values: List[str], sees: List[str]) -> str:
+        return self.back_row(values, sees)
+
+
+def same(data: Data, known: Iterator[str]) -> str:
+    """That two values are equal, from what is known of each leaf."""
+    return all_hold([same(f.inside, known) if f.inside else next(known) for f in data.fields])
 
 
 class StructWriter:
     """The impls of a struct."""
 
     def __init__(self, item: Item):
-        self.item, self.fields = item, item.data.fields
+        self.item, self.fields = item, item.data.leaves()
         self.sends, self.reads = "Serialize" in item.derives, "Deserialize" in item.derives
-        self.holder = Holder("Struct", [item.wire], item.data, item.name)
+        self.holder = FlattenedHolder(item) if item.flattens() else Holder("Struct", [item.wire], item.data, item.name)
         self.values = [f"p.{f.name}" for f in self.fields]
         self.sees = [f"(λ q. q.{f.name})" for f in self.fields]
 
     def functions(self) -> List[str]:
         """Those that the impls call."""
         read = self.holder.read_functions(
-            self.item.data.made(self.item.name, self.item.data.places()), self.item.name,
+            self.item.data.made(self.item.name, self.holder.data.places()), self.item.name,
             [f"z.{f.name}" for f in self.fields])
         return self.holder.send_function() * self.sends + read * self.reads
 
@@ -35,7 +65,7 @@ class StructWriter:
                 function(DESERIALIZE.format(self.item.name), *made)]
 
     def round_trip(self) -> List[str]:
-        holder, asked = self.holder, self.item.data.asked()
+        holder, asked = self.holder, self.holder.data.asked()
         laws = holder.back(self.values, self.sees)
         if not self.fields:
             back = (f"leaf_such (tree.structure (static_name {holder.names}) tree.no_data) refl\n"
@@ -45,8 +75,8 @@ class StructWriter:
             back = f"{holder.word}_back{laws} (λ q. q.0) f (λ q h. h)"
             keeps = f"seen_keeps (λ q. q.0) ({holder.word}_keeps {holder.names}{holder.keeps(self.sees)})"
         else:
-            back = f"{holder.word}_back{laws}\nf (λ q h. {all_hold(holder.count, 'h')})"
-            keeps = f"{holder.word}_keeps {holder.names}{holder.keeps(self.sees)}"
+            back = f"{holder.word}_back{laws}\nf (λ q h. {same(self.item.data, iter(facts(holder.count, 'h')))})"
+            keeps = f"{holder.word}_keeps{holder.head}{holder.keeps(self.sees)}"
         return [ghost("exists", f"λ p. {holder.exists(self.values)}")] * bool(asked) + [
             function(KNOWN, *[f"self.{f.name}.known();" for f in asked]),
             ghost("comes_back", f"record {{\nof_value = λ p real f. {back};\n}}"),

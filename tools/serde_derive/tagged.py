@@ -16,11 +16,11 @@ class TaggedHolder(Holder):
     most = 1
 
     def __init__(self, item: Item, tag: str, v: Variant, fields: List[Field]):
-        data = Data("Struct", fields, v.data.closed)
-        super().__init__("Struct", [item.wire], data, item.name + v.name)
+        data, name = Data("Struct", fields, v.data.closed), (v.beside or item).wire
+        super().__init__("Struct", [name], data, item.name + v.name)
         self.names_known = [tag] + self.names_known
         self.tag, self.variant = tag, v.wire
-        self.call = f'Call::Struct("{item.wire}", {self.count + 1}).with(Call::Field("{tag}"), &"{v.wire}")'
+        self.call = f'Call::Struct("{name}", {self.count + 1}).with(Call::Field("{tag}"), &"{v.wire}")'
 
     def script(self, values: List[str], members: Optional[List[str]] = None) -> str:
         members = members or [f.type.member("Serialize", "script") for f in self.fields]
@@ -48,15 +48,16 @@ class TaggedWriter(EnumWriter):
 
     def fields_of(self, v: Variant) -> List[Field]:
         """The fields beside the tag: the variant's own, or the one that holds its value."""
-        style, sort = ("Newtype", "adjacently") if self.content else ("Struct", "internally")
-        if v.data.style not in ("Unit", style):
-            held = "one value" if self.content else "values by name"
+        if v.data.style == "Tuple" or (v.data.named and self.content):
+            held = "one value" if self.content else "a struct, or values by name,"
+            sort = "adjacently" if self.content else "internally"
             raise Refused(v.line, f"variant `{v.name}`: of an enum that is tagged {sort}, only variants with no values"
                           f" and with {held} are covered")
-        if self.tag in [self.content] + [f.wire for f in v.data.fields]:
+        beside = v.beside.data.fields if v.beside else v.data.fields
+        if self.tag in [self.content] + [f.wire for f in beside]:
             raise Refused(v.line, f"variant `{v.name}`: a field is called as the tag, `{self.tag}`")
         if not self.content:
-            return v.data.fields
+            return beside
         return [Field("x1", f.line, [], {}, self.content, f.type, missing=DEFAULTS["Option"] if f.type.name == "Option" else None)
                 for f in v.data.fields]
 

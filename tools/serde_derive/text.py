@@ -68,13 +68,15 @@ def bracketed(term: str) -> str:
     return f"({term})" if " " in term else term
 
 
-def all_hold(count: int, such: str, place: int = 0) -> str:
-    """That all of so many tests hold, as a derived `==` makes them, from what is known of each."""
-    one = f"{such}{'.1' * place}.0"
-    if place == count - 1:
-        return one
-    others = all_hold(count, such, place + 1)
-    return f"both_hold {one} {bracketed(others)}"
+def facts(count: int, such: str) -> List[str]:
+    """So many facts, out of all together."""
+    return [f"{such}{'.1' * place}.0" for place in range(count)]
+
+
+def all_hold(known: List[str]) -> str:
+    """That all tests hold, as a derived `==` makes them, from what is known of each."""
+    first, *others = known
+    return f"both_hold {bracketed(first)} {bracketed(all_hold(others))}" if others else first
 
 
 def together(values: List[str]) -> str:

@@ -1,7 +1,7 @@
 """A field's type, and what is proved of it."""
 import re
 from dataclasses import dataclass
-from typing import Dict, Iterator, List, NamedTuple, Tuple
+from typing import Dict, Iterator, List, NamedTuple, Optional, Tuple
 
 
 class Laws(NamedTuple):
@@ -52,6 +52,13 @@ HOLDERS = {
                      "(seen_keeps (λ m. m.entries) (map_keeps ({order}) {0} {1}))",
                      "(BTreeMap {0} {1} Global)"),
 }
+# the class of trees that a type takes, and the law that it refuses all others
+CLASSES = {
+    "()": ("units", "unit_takes"), "bool": ("booleans", "bool_takes"), "char": ("characters", "char_takes"),
+    "String": ("texts", "text_takes"), "Vec": ("rows", "seq_takes"), "tuple": ("rows", "tuple_takes"),
+    "BTreeMap": ("records", "map_takes"),
+    **{name: ("numbers", f"(number_takes kind.{name.replace('size', '64')})") for name in NUMBERS},
+}
 DEFAULTS = {
     "bool": ("false", "x ≡ false"), "String": ("String::new(alloc)", "string_bytes x ≡ []"),
     "Option": ("None", "x ≡ None"), "Vec": ("Vec::new(alloc)", "x.items ≡ []"),
@@ -69,6 +76,7 @@ class Type:
 
     An own type has a `home`, the path of the specifications of the module that declares it under
     the name `declared`. It is `plain` where contracts take each of its values for one that exists.
+    One of the same file that is read as a struct or a map has a `record`, the law that it takes no others.
     """
 
     name: str
@@ -76,6 +84,7 @@ class Type:
     home: str = ""
     declared: str = ""
     plain: bool = False
+    record: Optional[Tuple[str, str]] = None
 
     @property
     def laws(self) -> Laws:
@@ -138,6 +147,10 @@ class Type:
         if self.name == "tuple":
             return f"({' × '.join(inside)})"
         return self.laws.seen.format(*inside, declared=self.declared)
+
+    def takes(self) -> Optional[Tuple[str, str]]:
+        """The class of trees that it takes, where it takes one, and the law."""
+        return self.arguments[0].takes() if self.name == "Box" else self.record or CLASSES.get(self.name)
 
     def ordered(self) -> Dict[str, str]:
         """Of a map, the order of its keys: that it is total, and that equal keys are its ties."""

@@ -3,8 +3,10 @@ from typing import List
 
 from .declarations import Item, Refused, Variant
 from .enums import EnumWriter
-from .text import DESERIALIZE, SERIALIZE, arm, codes, function, ghost, together
-from .types import READ, Type, nest
+from .holder import Holder
+from .text import DESERIALIZE, SERIALIZE, all_hold, arm, bracketed, codes, elim, facts, function, ghost
+from .text import together
+from .types import READ, nest
 
 
 class UntaggedWriter(EnumWriter):
@@ -17,12 +19,6 @@ class UntaggedWriter(EnumWriter):
                 raise Refused(v.line, f"variant `{v.name}`: of an untagged enum, only one to four values"
                               " by place are covered")
         self.last = f"data did not match any variant of untagged enum {item.name}"
-
-    @staticmethod
-    def held(v: Variant) -> Type:
-        """What a variant is read as."""
-        types = tuple(f.type for f in v.data.fields)
-        return types[0] if len(types) == 1 else Type("tuple", types)
 
     def functions(self) -> List[str]:
         return [text for v in self.item.variants for text in self.maker(v) * self.reads]
@@ -56,13 +52,13 @@ class UntaggedWriter(EnumWriter):
         return f"Call::Tuple({len(places)}){values}.end(alloc, serializer)"
 
     def deserialize(self) -> List[str]:
-        refusals = [f"({self.held(v).member(READ, 'refusal')} s)" for v in self.item.variants]
+        refusals = [f"({v.held().member(READ, 'refusal')} s)" for v in self.item.variants]
         gives, tries = [], []
         for place, v in enumerate(self.item.variants):
             values = together(self.values(v.data))
             before = "".join(f"IsSome {refusal} ×\n" for refusal in refusals[:place])
-            gives.append(f"{before}IsTakenAs {refusals[place]} ({self.held(v).member(READ, 'gives')} s) {values}")
-            tries += [f"if let Some({together(v.data.places())}) = attempt::<{self.held(v).rust()}>(alloc, &from)? {{",
+            gives.append(f"{before}IsTakenAs {refusals[place]} ({v.held().member(READ, 'gives')} s) {values}")
+            tries += [f"if let Some({together(v.data.places())}) = attempt::<{v.held().rust()}>(alloc, &from)? {{",
                       f"return Ok({self.making(v)(v.data.places())});", "}"]
         given = iter(gives)
         refused = nest([f"or_next {refusal}" for refusal in refusals], f"(Some (custom {codes(self.last)}))")
@@ -70,3 +66,57 @@ class UntaggedWriter(EnumWriter):
                 ghost("gives", "λ s. " + self.each(lambda v, holder, x: next(given))),
                 function(DESERIALIZE.format(self.item.name), *tries,
                          f'Err(Error::custom(alloc, "{self.last}"))')]
+
+    def place(self, v: Variant) -> int:
+        return self.item.variants.index(v)
+
+    def free(self, v: Variant, taken: str, source: str) -> str:
+        """That the enum doesn't refuse a source where a variant's type doesn't."""
+        term = f"first_taken _ _ {taken}"
+        for earlier in reversed(self.item.variants[:self.place(v)]):
+            term = f"later_taken ({earlier.held().member(READ, 'refusal')} {source})\n({term})"
+        return term
+
+    def takes(self, v: Variant) -> str:
+        """The law that a variant's type takes trees of one class."""
+        return v.held().takes()[1]
+
+    def back(self, v: Variant, holder: Holder, values: List[str]) -> str:
+        place, types = self.place(v), [f.type for f in v.data.fields]
+        asked = v.data.asked()
+        real = ["tt" if f not in asked else "real" if len(asked) == 1 else f"real.{asked.index(f)}" for f in v.data.fields]
+        if len(types) == 1:
+            law = f"({types[0].typed_back()}.of_value {values[0]} {real[0]} f)"
+        else:
+            parts = nest([f"element_back {t.typed_back()} {x} {r} {see} {len(types)} {i}" for i, (t, x, r, see) in enumerate(
+                zip(types, values, real, self.sees(holder)))], "parts_end")
+            law = f"(tuple_back{parts}\nf (λ y h. h))"
+        free = self.free(v, "one.free", "(tree_under f t)")
+        read = elim([self.read_as(v, w) for w in self.item.variants])
+        return f"λ real f. such_seen (λ t one. record {{\nfree = {free};\nonly = {read};\n}})\n{law}"
+
+    def read_as(self, sent: Variant, read: Variant) -> str:
+        """That a variant that was read is equal to the one that was sent."""
+        values, at, first = self.values(read.data, "y"), self.place(read), self.place(sent)
+        pattern = self.case(read, "y") + " λ it. "
+        if at < first:
+            return pattern + f"taken_by_one {self.takes(read)} {self.takes(sent)} refl f t {self.taken('it', read)}.0 one.free"
+        if at > first:
+            return pattern + f"not_refused _ one.free it.{first}"
+        only = f"one.only {together(values)} {self.taken('it', read)}.1"
+        return pattern + (only if len(values) == 1 else f"let same = {only} in {all_hold(facts(len(values), 'same'))}")
+
+    def taken(self, given: str, v: Variant) -> str:
+        """That the variant's type is taken, out of what is given: each earlier one is refused, and then that."""
+        return f"{given}.{self.place(v)}" if self.place(v) else given
+
+    def keeps(self, v: Variant, holder: Holder, values: List[str]) -> str:
+        place = self.place(v)
+        taken = self.taken("p.given", v)
+        refused = "".join(
+            f"still_refused {self.takes(w)} {self.takes(v)} refl o people p.given.{i} {taken}.0,\n"
+            for i, w in enumerate(self.item.variants[:place]))
+        given = f"({refused}(there.free, there.given))" if place else "(there.free, there.given)"
+        return (f"λ p.\nlet there = {v.held().typed_keeps()}.of_origin o people {together(values)}\n"
+                f"(record {{ free = {taken}.0; given = {taken}.1 }}) in\n"
+                f"record {{ free = {self.free(v, 'there.free', '(under (flags people true) o)')}; given = {given} }}")

@@ -18,7 +18,7 @@ def word_table(text: str) -> Dict[str, str]:
 STYLES = [f"{style}_{sort}" for style in ("unit", "newtype", "tuple", "struct") for sort in ("struct", "variant")]
 STYLES[STYLES.index("struct_struct")] = "struct"
 WORDS = word_table(f"""
-std.specs.Prelude ◌≡◌ ◌∷◌ [] ℕ ℤ Bool Option None Some IsSome false pos codes string_bytes refl ⊤
+std.specs.Prelude ◌≡◌ ◌∷◌ [] ℕ ℤ Bool Option None Some IsSome true false pos codes string_bytes refl ⊤
 std.specs.Cmp nat_cmp_total int_cmp_total unsigned_ties
 std.specs.Cmp.Lexicographic texts_ties
 std.specs.String string_cmp_total
@@ -31,6 +31,7 @@ content_ser.specs.Laws.StandardScripts leaf_lawful option_lawful seq_lawful map_
 content_ser.specs.Laws.StandardScripts tuple_lawful element_fits end_fits
 content_ser.specs.Laws.OwnScripts field_fits struct_end_fits tuple_field_fits tuple_end_fits
 content_ser.specs.Laws.OwnScripts {' '.join(f'{s}_lawful' for s in STYLES)}
+content_de.specs.Sources.Origin tree_under
 content_de.specs.Outcomes refusal_of taken IsTaken
 content_de.specs.Requests.Leaves bool_from char_from unit_from text_from
 content_de.specs.Reads.Standard HasContent
@@ -43,7 +44,7 @@ content_de.specs.Reads.ByName ReadByName NamedThen NamedOrThen NoOthers
 content_de.specs.Reads.Tagged tag_then TagThen
 content_de.specs.Reads.Own enum_refusal variant_or no_variant EnumGives
 content_de.specs.Reads.Own {' '.join(f'{s}_refusal {pascal(s)}Gives' for s in STYLES)}
-serde_content.specs.RoundTrip ComesBack CoercionKeeps
+serde_content.specs.RoundTrip ComesBack CoercionKeeps flags under
 serde_content.specs.Laws.Leaves heedless_keeps natural_keeps integer_keeps
 serde_content.specs.Laws.Leaves {' '.join(laws.back for laws in LEAVES.values())}
 serde_content.specs.Laws.Holders seen_back seen_keeps option_back option_keeps seq_back seq_keeps
@@ -54,7 +55,13 @@ serde_content.specs.Laws.Series part_keeps tuple_keeps tuple_struct_keeps parts_
 serde_content.specs.Laws.Records struct_back struct_keeps newtype_struct_back newtype_struct_keeps
 serde_content.specs.Laws.ByName by_name_back named_back named_or_back skipped_back closed_back
 serde_content.specs.Laws.ByName by_name_keeps named_keeps named_or_keeps skipped_keeps closed_keeps
+serde_content.specs.Laws.Flattened flattened_script flattened_first flattened_fits flattened_end_fits
+serde_content.specs.Laws.Flattened flattened_lawful flattened_refusal FlattenedGives flattened_end_back
+serde_content.specs.Laws.Flattened flattened_named_back flattened_named_or_back flattened_back flattened_keeps
 serde_content.specs.Laws.Tagged tagged_script tagged_back tag_keeps
+serde_content.specs.Laws.Untagged such_seen first_taken later_taken taken_by_one not_refused still_refused
+serde_content.specs.Laws.Untagged unit_takes bool_takes number_takes char_takes text_takes seq_takes tuple_takes
+serde_content.specs.Laws.Untagged map_takes struct_takes
 serde_content.specs.Laws.Variants variant_back other_variant variant_kept
 serde_content.specs.Laws.Variants {' '.join(f'{s}_back {s}_keeps' for s in STYLES[1::2])}
 """)

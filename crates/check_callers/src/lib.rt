@@ -3,6 +3,8 @@
 #![tactic(auto)]
 
 mod building;
+#[cfg(test)]
+mod derived;
 mod reading;
 #[cfg(test)]
 mod readme;

@@ -2,7 +2,7 @@
 
 use serde_content::samples::Point;
 use serde_content::ser::{Call, from_calls};
-use serde_content::{Deserializer, Number, Serializer, Value, round_trip};
+use serde_content::{Deserializer, Number, Serializer, Value, round_trip, value};
 use std::test::Fail;
 
 #[test]
@@ -34,8 +34,7 @@ fn the_readme_is_right(rt: HostRuntime) -> Result<(), Fail> {
         Call::Number(Number::U8(7)),
         Call::End,
     ];
-    let sevens = vec![in alloc; Value::from(7u8)]?;
-    assert!(rt; from_calls(alloc, &calls)? == Value::Seq(sevens));
+    assert!(rt; from_calls(alloc, &calls)? == value!(in alloc; [7u8])?);
 
     // A call out of place is refused at its place, counted from 0.
     match from_calls(alloc, &[Call::Seq(None), Call::Unit]) {

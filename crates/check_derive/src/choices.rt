@@ -2,14 +2,19 @@
 //!
 //! Written by `tools/derive` from `choices.rs`: change that file, and write this one anew.
 
-ghost use Rattle.std.specs.Prelude.{◌≡◌, ◌∷◌, [], ℤ, Option, None, Some, IsSome, codes, refl, ⊤};
+ghost use Rattle.std.specs.Prelude.{◌≡◌, ◌∷◌, [], ℕ, ℤ, Bool, Option, None, Some, IsSome, true};
+ghost use Rattle.std.specs.Prelude.{codes, string_bytes, refl, ⊤};
 ghost use Rattle.content_tree.specs.Errors.Cause.{custom};
 ghost use Rattle.content_ser.specs.Scripts.Sends.{Sends};
 ghost use Rattle.content_ser.specs.Scripts.Standard.{tuple_script, element_first};
 ghost use Rattle.content_ser.specs.Scripts.Own.{field_first, end_script};
-ghost use Rattle.content_ser.specs.Laws.StandardScripts.{leaf_lawful, option_lawful, seq_lawful};
-ghost use Rattle.content_ser.specs.Laws.StandardScripts.{tuple_lawful, element_fits, end_fits};
+ghost use Rattle.content_ser.specs.Laws.StandardScripts.{leaf_lawful, option_lawful, tuple_lawful};
+ghost use Rattle.content_ser.specs.Laws.StandardScripts.{element_fits, end_fits};
 ghost use Rattle.content_ser.specs.Laws.OwnScripts.{field_fits, struct_end_fits, struct_lawful};
+ghost use Rattle.content_de.specs.Sources.Origin.{tree_under};
+ghost use Rattle.content_de.specs.Outcomes.{refusal_of, taken, IsTaken};
+ghost use Rattle.content_de.specs.Requests.Leaves.{bool_from, text_from};
+ghost use Rattle.content_de.specs.Reads.Standard.{HasContent};
 ghost use Rattle.content_de.specs.Accesses.ByName.{fields_left};
 ghost use Rattle.content_de.specs.Reads.Read.{Reads};
 ghost use Rattle.content_de.specs.Reads.Attempts.{IsTakenAs, or_next};
@@ -18,16 +23,24 @@ ghost use Rattle.content_de.specs.Reads.ByName.{others_skipped, ReadByName, Name
 ghost use Rattle.content_de.specs.Reads.ByName.{NoOthers};
 ghost use Rattle.content_de.specs.Reads.Tagged.{tag_then, TagThen};
 ghost use Rattle.content_de.specs.Reads.Own.{variant_or, no_variant, struct_refusal, StructGives};
-ghost use Rattle.serde_content.specs.RoundTrip.{ComesBack, CoercionKeeps};
-ghost use Rattle.serde_content.specs.Laws.Leaves.{integer_keeps, i32_back};
+ghost use Rattle.serde_content.specs.RoundTrip.{ComesBack, CoercionKeeps, flags, under};
+ghost use Rattle.serde_content.specs.Laws.Leaves.{heedless_keeps, natural_keeps, integer_keeps};
+ghost use Rattle.serde_content.specs.Laws.Leaves.{bool_back, text_back, u8_back, i32_back};
 ghost use Rattle.serde_content.specs.Laws.Holders.{option_back, option_keeps};
-ghost use Rattle.serde_content.specs.Laws.Series.{both_hold};
+ghost use Rattle.serde_content.specs.Laws.Series.{both_hold, element_back, tuple_back, parts_end};
+ghost use Rattle.serde_content.specs.Laws.Series.{part_keeps, tuple_keeps, parts_end_keeps};
 ghost use Rattle.serde_content.specs.Laws.Records.{struct_keeps};
 ghost use Rattle.serde_content.specs.Laws.ByName.{named_back, named_or_back, skipped_back};
 ghost use Rattle.serde_content.specs.Laws.ByName.{by_name_keeps, named_keeps, named_or_keeps};
 ghost use Rattle.serde_content.specs.Laws.ByName.{skipped_keeps};
 ghost use Rattle.serde_content.specs.Laws.Tagged.{tagged_script, tagged_back, tag_keeps};
+ghost use Rattle.serde_content.specs.Laws.Untagged.{such_seen, first_taken, later_taken};
+ghost use Rattle.serde_content.specs.Laws.Untagged.{taken_by_one, not_refused, still_refused};
+ghost use Rattle.serde_content.specs.Laws.Untagged.{bool_takes, number_takes, text_takes};
+ghost use Rattle.serde_content.specs.Laws.Untagged.{tuple_takes};
 ghost use Rattle.serde_content.specs.Laws.Variants.{other_variant};
+ghost use Rattle.std.specs.declared.alloc.Global.{Global};
+ghost use Rattle.std.specs.declared.string.String.{String};
 ghost use Rattle.content_tree.specs.Values.Ranges as kind;
 ghost use Rattle.check_derive.specs.declared.choices.Command.TheVariants as command;
 ghost use Rattle.check_derive.specs.declared.choices.Setting.TheVariants as setting;
@@ -283,44 +296,55 @@ impl<'de> RoundTrip<'de> for Command {
 }
 
 /// A setting, told by what it is.
-#[derive(Drop)]
+#[derive(Drop, PartialEq, Eq)]
 pub enum Setting {
     /// On or off.
     Flag(bool),
+    /// How much.
+    Level(i32),
     /// From and to.
     Range(u8, u8),
-    /// Names.
-    Names(Vec<String>),
+    /// What it is called.
+    Name(String),
+}
+
+/// Its contract tells proofs what a variant of signed numbers holds.
+fn make_setting_level(x1: i32) -> Setting
+    ensures { result ≡ setting.Level x1 }
+{
+    Setting::Level(x1)
 }
 
 impl Serialize for Setting {
     ghost script = { elim [
       | setting.Flag x1 ↦ ⟦<bool as Serialize>⟧.script x1
+      | setting.Level x1 ↦ ⟦<i32 as Serialize>⟧.script x1
       | setting.Range x1 x2 ↦ tuple_script 2
           (element_first (⟦<u8 as Serialize>⟧.script x1)
           (element_first (⟦<u8 as Serialize>⟧.script x2)
           end_script))
-      | setting.Names x1 ↦ ⟦<Vec<String> as Serialize>⟧.script x1
+      | setting.Name x1 ↦ ⟦<String as Serialize>⟧.script x1
     ] };
 
     ghost lawful = { elim [
       | setting.Flag x1 ↦ λ readable. leaf_lawful refl
+      | setting.Level x1 ↦ λ readable. leaf_lawful refl
       | setting.Range x1 x2 ↦ λ readable. tuple_lawful
           (element_fits (leaf_lawful refl)
           (element_fits (leaf_lawful refl)
           end_fits))
-      | setting.Names x1 ↦ λ readable. seq_lawful (λ x h. leaf_lawful refl) x1.items
-          readable
+      | setting.Name x1 ↦ λ readable. leaf_lawful refl
     ] };
 
     fn serialize<S: Serializer>(&self, alloc: Global, serializer: &mut S) -> Result<()> {
         match self {
             Setting::Flag(x1) => x1.serialize(alloc, serializer),
+            Setting::Level(x1) => x1.serialize(alloc, serializer),
             Setting::Range(x1, x2) => Call::Tuple(2)
                 .with(Call::Element, x1)
                 .with(Call::Element, x2)
                 .end(alloc, serializer),
-            Setting::Names(x1) => x1.serialize(alloc, serializer),
+            Setting::Name(x1) => x1.serialize(alloc, serializer),
         }
     }
 }
@@ -328,35 +352,170 @@ impl Serialize for Setting {
 impl<'de> Deserialize<'de> for Setting {
     ghost refusal = { λ s.
         (or_next (⟦<bool as Deserialize<'de>>⟧.refusal s)
+        (or_next (⟦<i32 as Deserialize<'de>>⟧.refusal s)
         (or_next (⟦<(u8, u8) as Deserialize<'de>>⟧.refusal s)
-        (or_next (⟦<Vec<String> as Deserialize<'de>>⟧.refusal s)
-        (Some (custom (codes "data did not match any variant of untagged enum Setting")))))) };
+        (or_next (⟦<String as Deserialize<'de>>⟧.refusal s)
+        (Some (custom (codes "data did not match any variant of untagged enum Setting"))))))) };
 
     ghost gives = { λ s. elim [
       | setting.Flag x1 ↦ IsTakenAs (⟦<bool as Deserialize<'de>>⟧.refusal s)
           (⟦<bool as Deserialize<'de>>⟧.gives s) x1
+      | setting.Level x1 ↦ IsSome (⟦<bool as Deserialize<'de>>⟧.refusal s) ×
+          IsTakenAs (⟦<i32 as Deserialize<'de>>⟧.refusal s)
+          (⟦<i32 as Deserialize<'de>>⟧.gives s) x1
       | setting.Range x1 x2 ↦ IsSome (⟦<bool as Deserialize<'de>>⟧.refusal s) ×
+          IsSome (⟦<i32 as Deserialize<'de>>⟧.refusal s) ×
           IsTakenAs (⟦<(u8, u8) as Deserialize<'de>>⟧.refusal s)
           (⟦<(u8, u8) as Deserialize<'de>>⟧.gives s) (x1, x2)
-      | setting.Names x1 ↦ IsSome (⟦<bool as Deserialize<'de>>⟧.refusal s) ×
+      | setting.Name x1 ↦ IsSome (⟦<bool as Deserialize<'de>>⟧.refusal s) ×
+          IsSome (⟦<i32 as Deserialize<'de>>⟧.refusal s) ×
           IsSome (⟦<(u8, u8) as Deserialize<'de>>⟧.refusal s) ×
-          IsTakenAs (⟦<Vec<String> as Deserialize<'de>>⟧.refusal s)
-          (⟦<Vec<String> as Deserialize<'de>>⟧.gives s) x1
+          IsTakenAs (⟦<String as Deserialize<'de>>⟧.refusal s)
+          (⟦<String as Deserialize<'de>>⟧.gives s) x1
     ] };
 
     fn deserialize<'n: 'de>(alloc: Global, from: Deserializer<'de, 'n>) -> Result<Setting> {
         if let Some(x1) = attempt::<bool>(alloc, &from)? {
             return Ok(Setting::Flag(x1));
         }
+        if let Some(x1) = attempt::<i32>(alloc, &from)? {
+            return Ok(make_setting_level(x1));
+        }
         if let Some((x1, x2)) = attempt::<(u8, u8)>(alloc, &from)? {
             return Ok(Setting::Range(x1, x2));
         }
-        if let Some(x1) = attempt::<Vec<String>>(alloc, &from)? {
-            return Ok(Setting::Names(x1));
+        if let Some(x1) = attempt::<String>(alloc, &from)? {
+            return Ok(Setting::Name(x1));
         }
         Err(Error::custom(
             alloc,
             "data did not match any variant of untagged enum Setting",
         ))
     }
+}
+
+impl<'de> RoundTrip<'de> for Setting {
+    fn known(&self) {}
+
+    ghost comes_back = { record {
+      of_value = elim [
+        | setting.Flag x1 ↦ λ real f. such_seen (λ t one. record {
+          free = first_taken _ _ one.free;
+          only = elim [
+            | setting.Flag y1 ↦ λ it. one.only y1 it.1
+            | setting.Level y1 ↦ λ it. not_refused _ one.free it.0
+            | setting.Range y1 y2 ↦ λ it. not_refused _ one.free it.0
+            | setting.Name y1 ↦ λ it. not_refused _ one.free it.0
+          ];
+        })
+            (bool_back.of_value x1 tt f)
+        | setting.Level x1 ↦ λ real f. such_seen (λ t one. record {
+          free = later_taken (⟦<bool as Deserialize<'de>>⟧.refusal (tree_under f t))
+              (first_taken _ _ one.free);
+          only = elim [
+            | setting.Flag y1 ↦ λ it. taken_by_one bool_takes (number_takes kind.i32) refl f t
+                it.0 one.free
+            | setting.Level y1 ↦ λ it. one.only y1 it.1.1
+            | setting.Range y1 y2 ↦ λ it. not_refused _ one.free it.1
+            | setting.Name y1 ↦ λ it. not_refused _ one.free it.1
+          ];
+        })
+            (i32_back.of_value x1 tt f)
+        | setting.Range x1 x2 ↦ λ real f. such_seen (λ t one. record {
+          free = later_taken (⟦<bool as Deserialize<'de>>⟧.refusal (tree_under f t))
+              (later_taken (⟦<i32 as Deserialize<'de>>⟧.refusal (tree_under f t))
+              (first_taken _ _ one.free));
+          only = elim [
+            | setting.Flag y1 ↦ λ it. taken_by_one bool_takes tuple_takes refl f t it.0 one.free
+            | setting.Level y1 ↦ λ it. taken_by_one (number_takes kind.i32) tuple_takes refl f t
+                it.1.0 one.free
+            | setting.Range y1 y2 ↦ λ it. let same = one.only (y1, y2) it.2.1 in both_hold
+                same.0 same.1.0
+            | setting.Name y1 ↦ λ it. not_refused _ one.free it.2
+          ];
+        })
+            (tuple_back
+            (element_back u8_back x1 tt (λ (z : ℕ × ℕ). z.0) 2 0
+            (element_back u8_back x2 tt (λ (z : ℕ × ℕ). z.1) 2 1
+            parts_end))
+            f (λ y h. h))
+        | setting.Name x1 ↦ λ real f. such_seen (λ t one. record {
+          free = later_taken (⟦<bool as Deserialize<'de>>⟧.refusal (tree_under f t))
+              (later_taken (⟦<i32 as Deserialize<'de>>⟧.refusal (tree_under f t))
+              (later_taken (⟦<(u8, u8) as Deserialize<'de>>⟧.refusal (tree_under f t))
+              (first_taken _ _ one.free)));
+          only = elim [
+            | setting.Flag y1 ↦ λ it. taken_by_one bool_takes text_takes refl f t it.0 one.free
+            | setting.Level y1 ↦ λ it. taken_by_one (number_takes kind.i32) text_takes refl f t
+                it.1.0 one.free
+            | setting.Range y1 y2 ↦ λ it. taken_by_one tuple_takes text_takes refl f t it.2.0
+                one.free
+            | setting.Name y1 ↦ λ it. one.only y1 it.3.1
+          ];
+        })
+            (text_back.of_value x1 tt f)
+      ];
+    } };
+
+    ghost keeps = { record {
+      of_origin = λ o people. elim [
+        | setting.Flag x1 ↦ λ p.
+            let there = (heedless_keeps (λ o. refusal_of (bool_from o))
+            (λ o (x : Bool). bool_from o ≡ taken x)).of_origin o people x1
+            (record { free = p.given.0; given = p.given.1 }) in
+            record { free = first_taken _ _ there.free; given = (there.free, there.given) }
+        | setting.Level x1 ↦ λ p.
+            let there = (integer_keeps kind.i32).of_origin o people x1
+            (record { free = p.given.1.0; given = p.given.1.1 }) in
+            record {
+              free = later_taken (⟦<bool as Deserialize<'de>>⟧.refusal
+                  (under (flags people true) o))
+                  (first_taken _ _ there.free);
+              given = (
+                still_refused bool_takes (number_takes kind.i32) refl o people p.given.0
+                    p.given.1.0,
+                (there.free, there.given),
+              );
+            }
+        | setting.Range x1 x2 ↦ λ p.
+            let there = (let law : CoercionKeeps (⟦<(u8, u8) as Deserialize<'de>>⟧.refusal)
+            (⟦<(u8, u8) as Deserialize<'de>>⟧.gives) = (tuple_keeps 2
+            (part_keeps (λ y. y.0) 2 0 (natural_keeps kind.u8)
+            (part_keeps (λ y. y.1) 2 1 (natural_keeps kind.u8)
+            parts_end_keeps))) in law).of_origin o people (x1, x2)
+            (record { free = p.given.2.0; given = p.given.2.1 }) in
+            record {
+              free = later_taken (⟦<bool as Deserialize<'de>>⟧.refusal
+                  (under (flags people true) o))
+                  (later_taken (⟦<i32 as Deserialize<'de>>⟧.refusal (under (flags people true) o))
+                  (first_taken _ _ there.free));
+              given = (
+                still_refused bool_takes tuple_takes refl o people p.given.0 p.given.2.0,
+                still_refused (number_takes kind.i32) tuple_takes refl o people p.given.1
+                    p.given.2.0,
+                (there.free, there.given),
+              );
+            }
+        | setting.Name x1 ↦ λ p.
+            let there = (heedless_keeps (λ o. refusal_of (text_from o))
+            (λ o (x : String Global). IsTaken (text_from o)
+            (HasContent (string_bytes x)))).of_origin o people x1
+            (record { free = p.given.3.0; given = p.given.3.1 }) in
+            record {
+              free = later_taken (⟦<bool as Deserialize<'de>>⟧.refusal
+                  (under (flags people true) o))
+                  (later_taken (⟦<i32 as Deserialize<'de>>⟧.refusal (under (flags people true) o))
+                  (later_taken (⟦<(u8, u8) as Deserialize<'de>>⟧.refusal
+                  (under (flags people true) o))
+                  (first_taken _ _ there.free)));
+              given = (
+                still_refused bool_takes text_takes refl o people p.given.0 p.given.3.0,
+                still_refused (number_takes kind.i32) text_takes refl o people p.given.1
+                    p.given.3.0,
+                still_refused tuple_takes text_takes refl o people p.given.2 p.given.3.0,
+                (there.free, there.given),
+              );
+            }
+      ];
+    } };
 }

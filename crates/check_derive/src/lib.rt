@@ -2,7 +2,6 @@
 #![tactic(auto)]
 
 pub mod choices;
+pub mod inlined;
 pub mod sorts;
-#[cfg(test)]
-mod tests;
 pub mod types;

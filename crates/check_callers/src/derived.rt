@@ -1,8 +1,9 @@
-//! Fields in another order, choices, and values that come back.
+//! Types that `tools/derive` wrote: fields in another order, choices, and values that come back.
 
-use crate::choices::{Command, Setting};
-use crate::sorts::{Message, Stop};
-use crate::types::{Order, Place, Step};
+use check_derive::choices::{Command, Setting};
+use check_derive::inlined::{Amount, Change, Line};
+use check_derive::sorts::{Message, Stop};
+use check_derive::types::{Order, Place, Step};
 use serde_content::{Deserializer, Result as Answer, Serializer, Value, round_trip};
 use std::alloc::Global;
 use std::collections::BTreeMap;
@@ -73,12 +74,20 @@ fn choices_are_read(rt: HostRuntime) -> Result<(), Fail> {
     let alloc = rt.alloc();
     let there = Command::Move { x: 3, y: None };
     let value = Serializer::new().serialize(alloc, &there)?;
-    let text = format!(in alloc; "{}", value.display())?;
-    assert!(rt; text.as_str() == "Command { kind: \"move\", x: 3i32, y: None }");
+    let shown = format!(in alloc; "{}", value.display())?;
+    assert!(rt; shown.as_str() == "Command { kind: \"move\", x: 3i32, y: None }");
     assert!(rt; round_trip(alloc, &there, false, false)? == there);
+    for setting in [
+        Setting::Flag(true),
+        Setting::Level(-1),
+        Setting::Range(1, 2),
+        Setting::Name(text(alloc, "x")?),
+    ] {
+        assert!(rt; round_trip(alloc, &setting, false, false)? == setting);
+    }
     let range = Serializer::new().serialize(alloc, &Setting::Range(1, 2))?;
-    let read: Setting = Deserializer::new(range).deserialize(alloc)?;
-    assert!(rt; matches!(&read, Setting::Range(1, 2)));
+    let shown = format!(in alloc; "{}", range.display())?;
+    assert!(rt; shown.as_str() == "(1u8, 2u8)");
     Ok(())
 }
 
@@ -91,5 +100,32 @@ fn other_sorts_come_back(rt: HostRuntime) -> Result<(), Fail> {
     assert!(rt; shown.as_str() == "Message { t: \"Text\", c: \"hello\" }");
     assert!(rt; round_trip(alloc, &said, false, false)? == said);
     assert!(rt; round_trip(alloc, &Stop(-1, None), false, false)? == Stop(-1, None));
+    Ok(())
+}
+
+#[test]
+fn inlined_fields_stand_among_the_others(rt: HostRuntime) -> Result<(), Fail> {
+    let alloc = rt.alloc();
+    let amount = Amount {
+        count: -3,
+        unit: None,
+    };
+    let line = Line {
+        goods: text(alloc, "nuts")?,
+        amount,
+        price: 20,
+    };
+    let value = Serializer::new().serialize(alloc, &line)?;
+    let shown = format!(in alloc; "{}", value.display())?;
+    assert!(rt;
+        shown.as_str()
+            == "{ \"goods\": \"nuts\", \"count\": -3i32, \"unit\": None, \"price\": 20u64 }"
+    );
+    assert!(rt; round_trip(alloc, &line, false, false)? == line);
+    let more = Change::Add(line.amount);
+    let value = Serializer::new().serialize(alloc, &more)?;
+    let shown = format!(in alloc; "{}", value.display())?;
+    assert!(rt; shown.as_str() == "Amount { op: \"add\", count: -3i32, unit: None }");
+    assert!(rt; round_trip(alloc, &more, false, false)? == more);
     Ok(())
 }

@@ -1,0 +1,565 @@
+//! Structs whose fields stand among those of what holds them.
+//!
+//! Written by `tools/derive` from `inlined.rs`: change that file, and write this one anew.
+
+ghost use Rattle.std.specs.Prelude.{◌≡◌, ◌∷◌, [], ℤ, Option, None, codes, string_bytes, refl, ⊤};
+ghost use Rattle.content_ser.specs.Scripts.Sends.{Sends};
+ghost use Rattle.content_ser.specs.Scripts.Own.{field_first, end_script, struct_script};
+ghost use Rattle.content_ser.specs.Laws.StandardScripts.{leaf_lawful, option_lawful};
+ghost use Rattle.content_ser.specs.Laws.OwnScripts.{field_fits, struct_end_fits, struct_lawful};
+ghost use Rattle.content_de.specs.Outcomes.{refusal_of, IsTaken};
+ghost use Rattle.content_de.specs.Requests.Leaves.{text_from};
+ghost use Rattle.content_de.specs.Reads.Standard.{HasContent};
+ghost use Rattle.content_de.specs.Accesses.ByName.{fields_left};
+ghost use Rattle.content_de.specs.Reads.Read.{Reads};
+ghost use Rattle.content_de.specs.Reads.ByName.{read_by_name, named_then, named_or_then};
+ghost use Rattle.content_de.specs.Reads.ByName.{others_skipped, ReadByName, NamedThen, NamedOrThen};
+ghost use Rattle.content_de.specs.Reads.ByName.{NoOthers};
+ghost use Rattle.content_de.specs.Reads.Tagged.{tag_then, TagThen};
+ghost use Rattle.content_de.specs.Reads.Own.{variant_or, no_variant, struct_refusal, StructGives};
+ghost use Rattle.serde_content.specs.RoundTrip.{ComesBack, CoercionKeeps};
+ghost use Rattle.serde_content.specs.Laws.Leaves.{heedless_keeps, natural_keeps, integer_keeps};
+ghost use Rattle.serde_content.specs.Laws.Leaves.{text_back, u64_back, i32_back};
+ghost use Rattle.serde_content.specs.Laws.Holders.{option_back, option_keeps};
+ghost use Rattle.serde_content.specs.Laws.Series.{both_hold};
+ghost use Rattle.serde_content.specs.Laws.Records.{struct_back, struct_keeps};
+ghost use Rattle.serde_content.specs.Laws.ByName.{by_name_back, named_back, named_or_back};
+ghost use Rattle.serde_content.specs.Laws.ByName.{skipped_back, by_name_keeps, named_keeps};
+ghost use Rattle.serde_content.specs.Laws.ByName.{named_or_keeps, skipped_keeps};
+ghost use Rattle.serde_content.specs.Laws.Flattened.{flattened_script, flattened_first};
+ghost use Rattle.serde_content.specs.Laws.Flattened.{flattened_fits, flattened_end_fits};
+ghost use Rattle.serde_content.specs.Laws.Flattened.{flattened_lawful, flattened_refusal};
+ghost use Rattle.serde_content.specs.Laws.Flattened.{FlattenedGives, flattened_end_back};
+ghost use Rattle.serde_content.specs.Laws.Flattened.{flattened_named_back, flattened_named_or_back};
+ghost use Rattle.serde_content.specs.Laws.Flattened.{flattened_back, flattened_keeps};
+ghost use Rattle.serde_content.specs.Laws.Tagged.{tagged_script, tagged_back, tag_keeps};
+ghost use Rattle.serde_content.specs.Laws.Variants.{other_variant};
+ghost use Rattle.std.specs.declared.alloc.Global.{Global};
+ghost use Rattle.std.specs.declared.string.String.{String};
+ghost use Rattle.content_tree.specs.Values.Ranges as kind;
+ghost use Rattle.check_derive.specs.declared.inlined.Change.TheVariants as change;
+
+use serde_content::de::{Deserialize, FieldsByName, field_or, named_field, skip_fields, tag_field};
+use serde_content::ser::{Call, Parts, Serialize, Serializer};
+use serde_content::{Deserializer, Error, Result, RoundTrip};
+use std::alloc::Global;
+
+/// How much of something.
+#[derive(Drop, PartialEq, Eq)]
+pub struct Amount {
+    /// The number.
+    pub count: i32,
+    /// Of which unit, or pieces.
+    pub unit: Option<String>,
+}
+
+/// Fields, wherever they stand.
+fn read_amount<'de, 'n: 'de>(alloc: Global, mut fields: FieldsByName<'de, 'n>) -> Result<Amount>
+    ensures { Reads (
+        (named_then (codes "count") (⟦<i32 as Deserialize<'de>>⟧.refusal)
+        (named_or_then (codes "unit") (⟦<Option<String> as Deserialize<'de>>⟧.refusal)
+        (others_skipped (codes "count" ∷ codes "unit" ∷ []))))
+        (fields_left fields.entry))
+        (λ z.
+        (NamedThen (codes "count") (⟦<i32 as Deserialize<'de>>⟧.gives) z.count
+        (NamedOrThen (codes "unit") (λ (x : (Option (String Global))). x ≡ None)
+        (⟦<Option<String> as Deserialize<'de>>⟧.gives) z.unit
+        NoOthers))
+        (fields_left fields.entry)) result }
+{
+    let count = named_field(alloc, &mut fields, "count")?;
+    let unit = field_or(alloc, &mut fields, "unit", None)?;
+    skip_fields(alloc, fields, &["count", "unit"])?;
+    Ok(Amount { count, unit })
+}
+
+impl Serialize for Amount {
+    ghost script = { λ p. struct_script (codes "Amount") 2
+        (field_first (codes "count") (⟦<i32 as Serialize>⟧.script p.count)
+        (field_first (codes "unit") (⟦<Option<String> as Serialize>⟧.script p.unit)
+        end_script)) };
+
+    ghost lawful = { λ p readable. struct_lawful
+        (field_fits (leaf_lawful refl)
+        (field_fits (option_lawful (λ x h. leaf_lawful refl) p.unit readable)
+        struct_end_fits)) };
+
+    fn serialize<S: Serializer>(&self, alloc: Global, serializer: &mut S) -> Result<()> {
+        Call::Struct("Amount", 2)
+            .with(Call::Field("count"), &self.count)
+            .with(Call::Field("unit"), &self.unit)
+            .end(alloc, serializer)
+    }
+}
+
+impl<'de> Deserialize<'de> for Amount {
+    ghost refusal = { struct_refusal (codes "Amount") (read_by_name
+        (named_then (codes "count") (⟦<i32 as Deserialize<'de>>⟧.refusal)
+        (named_or_then (codes "unit") (⟦<Option<String> as Deserialize<'de>>⟧.refusal)
+        (others_skipped (codes "count" ∷ codes "unit" ∷ []))))) };
+
+    ghost gives = { λ s p. StructGives (codes "Amount") (ReadByName
+        (NamedThen (codes "count") (⟦<i32 as Deserialize<'de>>⟧.gives) p.count
+        (NamedOrThen (codes "unit") (λ (x : (Option (String Global))). x ≡ None)
+        (⟦<Option<String> as Deserialize<'de>>⟧.gives) p.unit
+        NoOthers))) s };
+
+    fn deserialize<'n: 'de>(alloc: Global, from: Deserializer<'de, 'n>) -> Result<Amount> {
+        let fields = from
+            .deserialize_struct(alloc, "Amount", &["count", "unit"])?
+            .by_name();
+        read_amount(alloc, fields)
+    }
+}
+
+impl<'de> RoundTrip<'de> for Amount {
+    ghost exists = { λ p. ⟦<Option<String> as RoundTrip<'de>>⟧.exists p.unit };
+
+    fn known(&self) {
+        self.unit.known();
+    }
+
+    ghost comes_back = { record {
+      of_value = λ p real f. struct_back (by_name_back
+          (named_back (codes "count") i32_back p.count tt (λ q. q.count)
+          (named_or_back (codes "unit") (λ (x : (Option (String Global))). x ≡ None)
+          (let law : ComesBack (⟦<Option<String> as RoundTrip<'de>>⟧.exists)
+          (⟦<Option<String> as Serialize>⟧.script)
+          (⟦<Option<String> as Deserialize<'de>>⟧.refusal)
+          (⟦<Option<String> as Deserialize<'de>>⟧.gives) (⟦<Option<String> as PartialEq>⟧.eq)
+          = (option_back text_back) in law) p.unit real (λ q. q.unit)
+          (skipped_back (codes "count" ∷ codes "unit" ∷ [])))))
+          f (λ q h. both_hold h.0 h.1.0);
+    } };
+
+    ghost keeps = { struct_keeps (codes "Amount") (by_name_keeps
+        (named_keeps (codes "count") (λ q. q.count) (integer_keeps kind.i32)
+        (named_or_keeps (codes "unit") (λ (x : (Option (String Global))). x ≡ None)
+        (λ q. q.unit) (let law : CoercionKeeps
+        (⟦<Option<String> as Deserialize<'de>>⟧.refusal)
+        (⟦<Option<String> as Deserialize<'de>>⟧.gives) =
+        (option_keeps (heedless_keeps (λ o. refusal_of (text_from o))
+        (λ o (x : String Global). IsTaken (text_from o) (HasContent (string_bytes x))))) in
+        law)
+        (skipped_keeps (codes "count" ∷ codes "unit" ∷ []))))) };
+}
+
+/// A line of a bill.
+#[derive(Drop, PartialEq, Eq)]
+pub struct Line {
+    /// What it is.
+    pub goods: String,
+    /// How much of it.
+    pub amount: Amount,
+    /// For how much.
+    pub price: u64,
+}
+
+/// Sends values of any types, so that its proof looks into none.
+fn send_line<S: Serializer, T1: Serialize, T2: Serialize, T3: Serialize, T4: Serialize>(
+    alloc: Global,
+    serializer: &mut S,
+    x1: &T1,
+    x2: &T2,
+    x3: &T3,
+    x4: &T4,
+) -> Result<()>
+    ensures { Sends S.step S.refuses (S.seen serializer.old)
+        (flattened_script
+        (flattened_first (codes "goods") (T1.script x1.now)
+        (flattened_first (codes "count") (T2.script x2.now)
+        (flattened_first (codes "unit") (T3.script x3.now)
+        (flattened_first (codes "price") (T4.script x4.now)
+        end_script)))))
+        result (S.seen serializer.new) }
+{
+    Call::Map(None)
+        .with(Call::Key, &"goods")
+        .with(Call::Value, x1)
+        .with(Call::Key, &"count")
+        .with(Call::Value, x2)
+        .with(Call::Key, &"unit")
+        .with(Call::Value, x3)
+        .with(Call::Key, &"price")
+        .with(Call::Value, x4)
+        .end(alloc, serializer)
+}
+
+/// Fields, wherever they stand.
+fn read_line_from_3<'de, 'n: 'de>(
+    alloc: Global,
+    mut fields: FieldsByName<'de, 'n>,
+) -> Result<(Option<String>, u64)>
+    ensures { Reads (
+        (named_or_then (codes "unit") (⟦<Option<String> as Deserialize<'de>>⟧.refusal)
+        (named_then (codes "price") (⟦<u64 as Deserialize<'de>>⟧.refusal)
+        (others_skipped (codes "goods" ∷ codes "count" ∷ codes "unit" ∷ codes "price" ∷
+        []))))
+        (fields_left fields.entry))
+        (λ z.
+        (NamedOrThen (codes "unit") (λ (x : (Option (String Global))). x ≡ None)
+        (⟦<Option<String> as Deserialize<'de>>⟧.gives) z.0
+        (NamedThen (codes "price") (⟦<u64 as Deserialize<'de>>⟧.gives) z.1
+        NoOthers))
+        (fields_left fields.entry)) result }
+{
+    let amount_unit = field_or(alloc, &mut fields, "unit", None)?;
+    let price = named_field(alloc, &mut fields, "price")?;
+    skip_fields(alloc, fields, &["goods", "count", "unit", "price"])?;
+    Ok((amount_unit, price))
+}
+
+/// Fields, wherever they stand.
+fn read_line<'de, 'n: 'de>(alloc: Global, mut fields: FieldsByName<'de, 'n>) -> Result<Line>
+    ensures { Reads (
+        (named_then (codes "goods") (⟦<String as Deserialize<'de>>⟧.refusal)
+        (named_then (codes "count") (⟦<i32 as Deserialize<'de>>⟧.refusal)
+        (named_or_then (codes "unit") (⟦<Option<String> as Deserialize<'de>>⟧.refusal)
+        (named_then (codes "price") (⟦<u64 as Deserialize<'de>>⟧.refusal)
+        (others_skipped (codes "goods" ∷ codes "count" ∷ codes "unit" ∷ codes "price" ∷
+        []))))))
+        (fields_left fields.entry))
+        (λ z.
+        (NamedThen (codes "goods") (⟦<String as Deserialize<'de>>⟧.gives) z.goods
+        (NamedThen (codes "count") (⟦<i32 as Deserialize<'de>>⟧.gives) z.amount.count
+        (NamedOrThen (codes "unit") (λ (x : (Option (String Global))). x ≡ None)
+        (⟦<Option<String> as Deserialize<'de>>⟧.gives) z.amount.unit
+        (NamedThen (codes "price") (⟦<u64 as Deserialize<'de>>⟧.gives) z.price
+        NoOthers))))
+        (fields_left fields.entry)) result }
+{
+    let goods = named_field(alloc, &mut fields, "goods")?;
+    let amount_count = named_field(alloc, &mut fields, "count")?;
+    let (amount_unit, price) = read_line_from_3(alloc, fields)?;
+    Ok(Line {
+        goods,
+        amount: Amount {
+            count: amount_count,
+            unit: amount_unit,
+        },
+        price,
+    })
+}
+
+impl Serialize for Line {
+    ghost script = { λ p. flattened_script
+        (flattened_first (codes "goods") (⟦<String as Serialize>⟧.script p.goods)
+        (flattened_first (codes "count") (⟦<i32 as Serialize>⟧.script p.amount.count)
+        (flattened_first (codes "unit")
+        (⟦<Option<String> as Serialize>⟧.script p.amount.unit)
+        (flattened_first (codes "price") (⟦<u64 as Serialize>⟧.script p.price)
+        end_script)))) };
+
+    ghost lawful = { λ p readable. flattened_lawful
+        (flattened_fits (leaf_lawful refl)
+        (flattened_fits (leaf_lawful refl)
+        (flattened_fits (option_lawful (λ x h. leaf_lawful refl) p.amount.unit readable)
+        (flattened_fits (leaf_lawful refl)
+        flattened_end_fits)))) };
+
+    fn serialize<S: Serializer>(&self, alloc: Global, serializer: &mut S) -> Result<()> {
+        send_line(
+            alloc,
+            serializer,
+            &self.goods,
+            &self.amount.count,
+            &self.amount.unit,
+            &self.price,
+        )
+    }
+}
+
+impl<'de> Deserialize<'de> for Line {
+    ghost refusal = { flattened_refusal (read_by_name
+        (named_then (codes "goods") (⟦<String as Deserialize<'de>>⟧.refusal)
+        (named_then (codes "count") (⟦<i32 as Deserialize<'de>>⟧.refusal)
+        (named_or_then (codes "unit") (⟦<Option<String> as Deserialize<'de>>⟧.refusal)
+        (named_then (codes "price") (⟦<u64 as Deserialize<'de>>⟧.refusal)
+        (others_skipped (codes "goods" ∷ codes "count" ∷ codes "unit" ∷ codes "price" ∷
+        []))))))) };
+
+    ghost gives = { λ s p. FlattenedGives (ReadByName
+        (NamedThen (codes "goods") (⟦<String as Deserialize<'de>>⟧.gives) p.goods
+        (NamedThen (codes "count") (⟦<i32 as Deserialize<'de>>⟧.gives) p.amount.count
+        (NamedOrThen (codes "unit") (λ (x : (Option (String Global))). x ≡ None)
+        (⟦<Option<String> as Deserialize<'de>>⟧.gives) p.amount.unit
+        (NamedThen (codes "price") (⟦<u64 as Deserialize<'de>>⟧.gives) p.price
+        NoOthers))))) s };
+
+    fn deserialize<'n: 'de>(alloc: Global, from: Deserializer<'de, 'n>) -> Result<Line> {
+        let fields = from.deserialize_map(alloc)?.by_name();
+        read_line(alloc, fields)
+    }
+}
+
+impl<'de> RoundTrip<'de> for Line {
+    ghost exists = { λ p. ⟦<Option<String> as RoundTrip<'de>>⟧.exists p.amount.unit };
+
+    fn known(&self) {
+        self.amount.unit.known();
+    }
+
+    ghost comes_back = { record {
+      of_value = λ p real f. flattened_back
+          (flattened_named_back (codes "goods") text_back p.goods tt (λ q. q.goods)
+          (flattened_named_back (codes "count") i32_back p.amount.count tt
+          (λ q. q.amount.count)
+          (flattened_named_or_back (codes "unit") (λ (x : (Option (String Global))). x ≡ None)
+          (let law : ComesBack (⟦<Option<String> as RoundTrip<'de>>⟧.exists)
+          (⟦<Option<String> as Serialize>⟧.script)
+          (⟦<Option<String> as Deserialize<'de>>⟧.refusal)
+          (⟦<Option<String> as Deserialize<'de>>⟧.gives) (⟦<Option<String> as PartialEq>⟧.eq)
+          = (option_back text_back) in law) p.amount.unit real (λ q. q.amount.unit)
+          (flattened_named_back (codes "price") u64_back p.price tt (λ q. q.price)
+          (flattened_end_back (codes "goods" ∷ codes "count" ∷ codes "unit" ∷ codes "price" ∷
+          []))))))
+          f (λ q h. both_hold h.0 (both_hold (both_hold h.1.0 h.1.1.0) h.1.1.1.0));
+    } };
+
+    ghost keeps = { flattened_keeps (by_name_keeps
+        (named_keeps (codes "goods") (λ q. q.goods)
+        (heedless_keeps (λ o. refusal_of (text_from o))
+        (λ o (x : String Global). IsTaken (text_from o) (HasContent (string_bytes x))))
+        (named_keeps (codes "count") (λ q. q.amount.count) (integer_keeps kind.i32)
+        (named_or_keeps (codes "unit") (λ (x : (Option (String Global))). x ≡ None)
+        (λ q. q.amount.unit) (let law : CoercionKeeps
+        (⟦<Option<String> as Deserialize<'de>>⟧.refusal)
+        (⟦<Option<String> as Deserialize<'de>>⟧.gives) =
+        (option_keeps (heedless_keeps (λ o. refusal_of (text_from o))
+        (λ o (x : String Global). IsTaken (text_from o) (HasContent (string_bytes x))))) in
+        law)
+        (named_keeps (codes "price") (λ q. q.price) (natural_keeps kind.u64)
+        (skipped_keeps (codes "goods" ∷ codes "count" ∷ codes "unit" ∷ codes "price" ∷
+        []))))))) };
+}
+
+/// What becomes of a bill, told by the field `op`.
+#[derive(Drop, PartialEq, Eq)]
+pub enum Change {
+    /// Nothing is left.
+    Clear,
+    /// So much more.
+    Add(Amount),
+}
+
+/// Sends values of any types, so that its proof looks into none.
+fn send_change_add<S: Serializer, T1: Serialize, T2: Serialize>(
+    alloc: Global,
+    serializer: &mut S,
+    x1: &T1,
+    x2: &T2,
+) -> Result<()>
+    ensures { Sends S.step S.refuses (S.seen serializer.old)
+        (tagged_script (codes "Amount") 3 (codes "op") (codes "add")
+        (field_first (codes "count") (T1.script x1.now)
+        (field_first (codes "unit") (T2.script x2.now)
+        end_script)))
+        result (S.seen serializer.new) }
+{
+    Call::Struct("Amount", 3)
+        .with(Call::Field("op"), &"add")
+        .with(Call::Field("count"), x1)
+        .with(Call::Field("unit"), x2)
+        .end(alloc, serializer)
+}
+
+/// Fields, wherever they stand.
+fn read_change_add<'de, 'n: 'de>(alloc: Global, mut fields: FieldsByName<'de, 'n>) -> Result<Amount>
+    ensures { Reads (
+        (named_then (codes "count") (⟦<i32 as Deserialize<'de>>⟧.refusal)
+        (named_or_then (codes "unit") (⟦<Option<String> as Deserialize<'de>>⟧.refusal)
+        (others_skipped (codes "op" ∷ codes "count" ∷ codes "unit" ∷ []))))
+        (fields_left fields.entry))
+        (λ z.
+        (NamedThen (codes "count") (⟦<i32 as Deserialize<'de>>⟧.gives) z.count
+        (NamedOrThen (codes "unit") (λ (x : (Option (String Global))). x ≡ None)
+        (⟦<Option<String> as Deserialize<'de>>⟧.gives) z.unit
+        NoOthers))
+        (fields_left fields.entry)) result }
+{
+    let count = named_field(alloc, &mut fields, "count")?;
+    let unit = field_or(alloc, &mut fields, "unit", None)?;
+    skip_fields(alloc, fields, &["op", "count", "unit"])?;
+    Ok(Amount { count, unit })
+}
+
+/// The variant that its tag names.
+fn read_change<'de, 'n: 'de>(alloc: Global, mut fields: FieldsByName<'de, 'n>) -> Result<Change>
+    ensures { Reads (tag_then (codes "op")
+        (variant_or (codes "clear")
+        (others_skipped (codes "op" ∷ []))
+        (variant_or (codes "add")
+        (named_then (codes "count") (⟦<i32 as Deserialize<'de>>⟧.refusal)
+        (named_or_then (codes "unit") (⟦<Option<String> as Deserialize<'de>>⟧.refusal)
+        (others_skipped (codes "op" ∷ codes "count" ∷ codes "unit" ∷ []))))
+        no_variant))
+        (fields_left fields.entry))
+        (elim [
+          | change.Clear ↦ TagThen (codes "op") (codes "clear")
+              NoOthers (fields_left fields.entry)
+          | change.Add x1 ↦ TagThen (codes "op") (codes "add")
+              (NamedThen (codes "count") (⟦<i32 as Deserialize<'de>>⟧.gives) x1.count
+              (NamedOrThen (codes "unit") (λ (x : (Option (String Global))). x ≡ None)
+              (⟦<Option<String> as Deserialize<'de>>⟧.gives) x1.unit
+              NoOthers)) (fields_left fields.entry)
+        ]) result }
+{
+    let tag = tag_field(alloc, &mut fields, "op")?;
+    match tag.as_str() {
+        "clear" => {
+            skip_fields(alloc, fields, &["op"])?;
+            Ok(Change::Clear)
+        }
+        "add" => {
+            let x1 = read_change_add(alloc, fields)?;
+            Ok(Change::Add(x1))
+        }
+        _ => Err(Error::custom(alloc, "unknown variant")),
+    }
+}
+
+impl Serialize for Change {
+    ghost script = { elim [
+      | change.Clear ↦ tagged_script (codes "Change") 1 (codes "op") (codes "clear")
+          end_script
+      | change.Add x1 ↦ tagged_script (codes "Amount") 3 (codes "op") (codes "add")
+          (field_first (codes "count") (⟦<i32 as Serialize>⟧.script x1.count)
+          (field_first (codes "unit") (⟦<Option<String> as Serialize>⟧.script x1.unit)
+          end_script))
+    ] };
+
+    ghost lawful = { elim [
+      | change.Clear ↦ λ readable. struct_lawful
+          (field_fits (leaf_lawful refl)
+          struct_end_fits)
+      | change.Add x1 ↦ λ readable. struct_lawful
+          (field_fits (leaf_lawful refl)
+          (field_fits (leaf_lawful refl)
+          (field_fits (option_lawful (λ x h. leaf_lawful refl) x1.unit readable)
+          struct_end_fits)))
+    ] };
+
+    fn serialize<S: Serializer>(&self, alloc: Global, serializer: &mut S) -> Result<()> {
+        match self {
+            Change::Clear => Call::Struct("Change", 1)
+                .with(Call::Field("op"), &"clear")
+                .end(alloc, serializer),
+            Change::Add(x1) => send_change_add(alloc, serializer, &x1.count, &x1.unit),
+        }
+    }
+}
+
+impl<'de> Deserialize<'de> for Change {
+    ghost refusal = { struct_refusal (codes "Change")
+        (read_by_name (tag_then (codes "op")
+        (variant_or (codes "clear")
+        (others_skipped (codes "op" ∷ []))
+        (variant_or (codes "add")
+        (named_then (codes "count") (⟦<i32 as Deserialize<'de>>⟧.refusal)
+        (named_or_then (codes "unit") (⟦<Option<String> as Deserialize<'de>>⟧.refusal)
+        (others_skipped (codes "op" ∷ codes "count" ∷ codes "unit" ∷ []))))
+        no_variant)))) };
+
+    ghost gives = { λ s. elim [
+      | change.Clear ↦ StructGives (codes "Change") (ReadByName
+          (TagThen (codes "op") (codes "clear")
+          NoOthers)) s
+      | change.Add x1 ↦ StructGives (codes "Change") (ReadByName
+          (TagThen (codes "op") (codes "add")
+          (NamedThen (codes "count") (⟦<i32 as Deserialize<'de>>⟧.gives) x1.count
+          (NamedOrThen (codes "unit") (λ (x : (Option (String Global))). x ≡ None)
+          (⟦<Option<String> as Deserialize<'de>>⟧.gives) x1.unit
+          NoOthers)))) s
+    ] };
+
+    fn deserialize<'n: 'de>(alloc: Global, from: Deserializer<'de, 'n>) -> Result<Change> {
+        let fields = from.deserialize_struct(alloc, "Change", &["op"])?.by_name();
+        read_change(alloc, fields)
+    }
+}
+
+impl<'de> RoundTrip<'de> for Change {
+    ghost exists = { elim [
+      | change.Clear ↦ ⊤
+      | change.Add x1 ↦ ⟦<Option<String> as RoundTrip<'de>>⟧.exists x1.unit
+    ] };
+
+    fn known(&self) {
+        match self {
+            Change::Clear => {}
+            Change::Add(x1) => {
+                x1.unit.known();
+            }
+        }
+    }
+
+    ghost comes_back = { record {
+      of_value = elim [
+        | change.Clear ↦ λ real f. tagged_back Self.refusal Self.gives
+            (skipped_back {Y = Unit {0}} (codes "op" ∷ []))
+            f (λ fs. refl)
+            (λ fs only. elim [
+              | change.Clear ↦ λ it. refl
+              | change.Add y1 ↦ λ it. other_variant it.0 refl
+            ])
+        | change.Add x1 ↦ λ real f. tagged_back Self.refusal Self.gives
+            (named_back (codes "count") i32_back x1.count tt
+            (λ (z : ℤ × (Option (String Global))). z.0)
+            (named_or_back (codes "unit") (λ (x : (Option (String Global))). x ≡ None)
+            (let law : ComesBack (⟦<Option<String> as RoundTrip<'de>>⟧.exists)
+            (⟦<Option<String> as Serialize>⟧.script)
+            (⟦<Option<String> as Deserialize<'de>>⟧.refusal)
+            (⟦<Option<String> as Deserialize<'de>>⟧.gives) (⟦<Option<String> as PartialEq>⟧.eq)
+            = (option_back text_back) in law) x1.unit real
+            (λ (z : ℤ × (Option (String Global))). z.1)
+            (skipped_back (codes "op" ∷ codes "count" ∷ codes "unit" ∷ []))))
+            f (λ fs. refl)
+            (λ fs only. elim [
+              | change.Clear ↦ λ it. other_variant it.0 refl
+              | change.Add y1 ↦ λ it. let same = only (y1.count, y1.unit) it.1 in both_hold same.0
+                  same.1.0
+            ])
+      ];
+    } };
+
+    ghost keeps = { record {
+      of_origin = λ o people. elim [
+        | change.Clear ↦ λ p.
+            let q = (struct_keeps (codes "Change") (by_name_keeps
+            (tag_keeps (codes "op") (codes "clear")
+            (variant_or (codes "clear")
+            (others_skipped (codes "op" ∷ []))
+            (variant_or (codes "add")
+            (named_then (codes "count") (⟦<i32 as Deserialize<'de>>⟧.refusal)
+            (named_or_then (codes "unit") (⟦<Option<String> as Deserialize<'de>>⟧.refusal)
+            (others_skipped (codes "op" ∷ codes "count" ∷ codes "unit" ∷ []))))
+            no_variant)) (λ f. refl)
+            (skipped_keeps {Y = Unit {0}} (codes "op" ∷ []))))).of_origin o people tt
+            (record { free = p.free; given = p.given }) in
+            record { free = q.free; given = q.given }
+        | change.Add x1 ↦ λ p.
+            let q = (struct_keeps (codes "Change") (by_name_keeps
+            (tag_keeps (codes "op") (codes "add")
+            (variant_or (codes "clear")
+            (others_skipped (codes "op" ∷ []))
+            (variant_or (codes "add")
+            (named_then (codes "count") (⟦<i32 as Deserialize<'de>>⟧.refusal)
+            (named_or_then (codes "unit") (⟦<Option<String> as Deserialize<'de>>⟧.refusal)
+            (others_skipped (codes "op" ∷ codes "count" ∷ codes "unit" ∷ []))))
+            no_variant)) (λ f. refl)
+            (named_keeps (codes "count") (λ (z : ℤ × (Option (String Global))). z.0)
+            (integer_keeps kind.i32)
+            (named_or_keeps (codes "unit") (λ (x : (Option (String Global))). x ≡ None)
+            (λ (z : ℤ × (Option (String Global))). z.1)
+            (let law : CoercionKeeps (⟦<Option<String> as Deserialize<'de>>⟧.refusal)
+            (⟦<Option<String> as Deserialize<'de>>⟧.gives) =
+            (option_keeps (heedless_keeps (λ o. refusal_of (text_from o))
+            (λ o (x : String Global). IsTaken (text_from o) (HasContent (string_bytes x))))) in
+            law)
+            (skipped_keeps (codes "op" ∷ codes "count" ∷ codes "unit" ∷ []))))))).of_origin o
+            people (x1.count, x1.unit)
+            (record { free = p.free; given = p.given }) in
+            record { free = q.free; given = q.given }
+      ];
+    } };
+}
