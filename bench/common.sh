@@ -1,6 +1,6 @@
 # shellcheck shell=bash
-# What the measurements do alike; they source it. Both work in the folder $room, from the top of the
-# repository in $top.
+# What the measurements and checks/serde_texts.sh do alike; they source it. They work in the folder
+# $room, from the top of the repository in $top.
 
 # place_ours CRATE SOURCE LINE: a copy of the repository with one crate more, from the folder SOURCE,
 # whose line of crates.txt is LINE. Files there end in .in, since the gate stops at a .rt file that
@@ -15,13 +15,17 @@ place_ours() {
     [ -d "$room/ours/.git" ] || git -C "$room/ours" init -q
 }
 
-# place_original CRATE DRIVER: the Rust crate, and a program over it that finds Serde where Debian's
-# packages put it.
+# place_original CRATE DRIVER: the Rust crate, and a program over it.
 place_original() {
-    local registry
     rsync -a "$1/" "$room/serde-content/"
     cp "$top/bench/beside/serde-content.toml" "$room/serde-content/Cargo.toml"
-    rsync -a --exclude target "$2/" "$room/driver/"
+    place_driver "$2"
+}
+
+# place_driver DRIVER: a Rust program that finds Serde where Debian's packages put it.
+place_driver() {
+    local registry
+    rsync -a --exclude target "$1/" "$room/driver/"
     registry=$(dpkg -L librust-serde-dev | grep -m1 '/cargo/registry$')
     mkdir -p "$room/driver/.cargo"
     cat > "$room/driver/.cargo/config.toml" <<CONFIG
