@@ -1,0 +1,2 @@
+-- The words of the uses.
+pub mod Records

@@ -1,0 +1,14 @@
+-- A store of records: the tree of each, in the order in which they were put.
+use Rattle.std.specs.Prelude.{◌≡◌, ℕ, List, [], ◌∷◌, ◌++◌, None, length, map}
+use Rattle.serde_content.specs.Names.Words.{Tree, tree_of, Script, calls_of, stop_of, SpellsWhole}
+use Rattle.content_uses.specs.declared.store.Store.{Store}
+
+-- the trees of the records
+abbrev pub records_of : Store → List Tree
+records_of s = map tree_of s.records.items
+
+-- at the end, under the next number, stands the tree that the script's calls spell
+abbrev pub IsPut : Script → (old new : List Tree) → ℕ → Type 0
+IsPut script old new number =
+    (t : Tree) × (stop_of script ≡ None) × SpellsWhole (calls_of script) t
+    × (new ≡ old ++ t ∷ []) × (number ≡ length old)

@@ -1,0 +1,124 @@
+//! Records of any type, kept as values, with typed views.
+
+ghost use Rattle.std.specs.Prelude.{◌≡◌, ◌≤◌, [], true, false, Some, None, IsErr, length, slice_get};
+ghost use Rattle.std.specs.Prelude.{IfOk, IfErr};
+ghost use Rattle.serde_content.specs.Names.Words.{Tree, IsOutOfMemory, SpellsWhole, calls_of};
+ghost use Rattle.serde_content.specs.Names.Words.{stop_of, tree_of, Reads, no_flags, tree_under};
+
+use serde_content::de::Deserialize;
+use serde_content::ser::Serialize;
+use serde_content::{Deserializer, Error, NamedValue, Result, RoundTrip, from_value, to_value};
+use std::alloc::Global;
+
+/// Records, numbered from 0 in the order in which they were put.
+///
+/// ```rust
+/// let mut store = Store::new(alloc);
+/// let number = store.put(alloc, &Point { x: 1, y: 2 })?;
+/// let point: Point = store.get(alloc, number)?;
+/// assert!(rt; point == Point { x: 1, y: 2 });
+/// ```
+#[derive(Drop)]
+pub struct Store<'v, 'n> {
+    records: Vec<NamedValue<'v, 'n>>,
+}
+
+impl<'v, 'n: 'v> Store<'v, 'n> {
+    ghost use Rattle.content_uses.specs.Records.{records_of, IsPut};
+
+    /// No records. It takes no memory.
+    pub fn new(alloc: Global) -> Store<'v, 'n>
+        ensures { records_of result ≡ [] }
+    {
+        Store {
+            records: Vec::new(alloc),
+        }
+    }
+
+    /// How many records there are.
+    pub fn len(&self) -> usize
+        ensures { result ≡ length (records_of self.now) }
+    {
+        self.records.len()
+    }
+
+    /// Puts a record at the end; its number. Where it fails the store is unchanged.
+    ///
+    /// # Errors
+    ///
+    /// Those of [`to_value`]: the record's own, or out of memory.
+    pub fn put<T: Serialize>(&mut self, alloc: Global, item: &T) -> Result<usize>
+        ensures put { IfOk result (λ number. IsPut (T.script item.now false)
+            (records_of self.old) (records_of self.new) number) }
+        ensures memory { stop_of (T.script item.now false) ≡ None
+            → IfErr result (λ e. IsOutOfMemory e) }
+        ensures kept { IfErr result (λ e. records_of self.new ≡ records_of self.old) }
+    {
+        let value = to_value(alloc, item, false)?;
+        let number = self.records.len();
+        self.records.push(value)?;
+        Ok(number)
+    }
+
+    /// The record of this number, read as a type: one of another type is refused with what was
+    /// found and what was expected.
+    ///
+    /// # Errors
+    ///
+    /// The type's refusal; `no such record`; out of memory in the place of either.
+    pub fn view<T: Deserialize<'v>>(&self, alloc: Global, number: usize) -> Result<T>
+        ensures value { (t : Tree) → slice_get (records_of self.now) number ≡ Some t
+            → Reads (T.refusal (tree_under no_flags t)) (T.gives (tree_under no_flags t))
+            result }
+        ensures unknown { slice_get (records_of self.now) number ≡ None → IsErr result }
+    {
+        let copy = self.copy(alloc, number)?;
+        Deserializer::new(copy).deserialize(alloc)
+    }
+
+    /// The record of this number, which was put as this type: an equal one.
+    ///
+    /// # Errors
+    ///
+    /// Those of [`view`](Store::view); where it was put as this type out of memory alone.
+    pub fn get<T: RoundTrip<'v>>(&self, alloc: Global, number: usize) -> Result<T>
+        ensures value { (x : T) (t : Tree) → T.exists x
+            → slice_get (records_of self.now) number ≡ Some t
+            → SpellsWhole (calls_of (T.script x false)) t → IfOk result (λ y. T.eq x y ≡ true) }
+        ensures memory { (x : T) (t : Tree) → T.exists x
+            → slice_get (records_of self.now) number ≡ Some t
+            → SpellsWhole (calls_of (T.script x false)) t → IfErr result (λ e. IsOutOfMemory e) }
+        ensures unknown { slice_get (records_of self.now) number ≡ None → IsErr result }
+    {
+        let copy = self.copy(alloc, number)?;
+        from_value(alloc, copy, false)
+    }
+
+    /// A copy of the value of this number.
+    fn copy(&self, alloc: Global, number: usize) -> Result<NamedValue<'v, 'n>>
+        ensures value { (t : Tree) → slice_get (records_of self.now) number ≡ Some t
+            → IfOk result (λ copy. tree_of copy ≡ t) }
+        ensures memory { (t : Tree) → slice_get (records_of self.now) number ≡ Some t
+            → IfErr result (λ e. IsOutOfMemory e) }
+        ensures unknown { slice_get (records_of self.now) number ≡ None → IsErr result }
+    {
+        match self.records.get(number) {
+            Some(record) => record.try_clone(alloc),
+            None => Err(Error::custom(alloc, "no such record")),
+        }
+    }
+}
+
+/// What is put and then got is equal to what was put, at any type whose values come back.
+pub fn put_and_get<'v, 'n: 'v, T: RoundTrip<'v>>(
+    alloc: Global,
+    store: &mut Store<'v, 'n>,
+    item: &T,
+) -> Result<T>
+    ensures value { IfOk result (λ back. T.eq item.now back ≡ true) }
+    ensures memory { IfErr result (λ e. IsOutOfMemory e) }
+{
+    item.known();
+    let number = store.put(alloc, item)?;
+    store.get(alloc, number)
+}
