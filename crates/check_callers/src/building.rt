@@ -3,13 +3,14 @@
 ghost use Rattle.std.specs.Prelude.{◌≡◌, IfOk, IfErr};
 ghost use Rattle.content_tree.specs.Errors.Kind.{IsOutOfMemory};
 ghost use Rattle.content_tree.specs.Values.Tree as tree;
+ghost use Rattle.content_tree.specs.Values.Cases.{borrowed_text};
 ghost use Rattle.content_tree.specs.Values.Value.{tree_of};
 ghost use Rattle.content_tree.specs.declared.error.ErrorKind.TheVariants.{Misplaced};
 ghost use Rattle.content_tree.specs.declared.number.Number.TheVariants as number;
 ghost use Rattle.content_build.specs.Answers.{IfRefused, IfTaken};
 
 use serde_content::ser::{Call, CallsError, from_calls};
-use serde_content::{Number, Value};
+use serde_content::{Number, Value, value};
 use std::alloc::Global;
 
 /// A sequence of two bytes. What its calls spell is shown by hand; that `from_calls` gives it is
@@ -49,4 +50,15 @@ pub fn copied<'a>(alloc: Global, value: Value<'a>) -> serde_content::Result<(Val
 {
     let copy = value.try_clone(alloc)?;
     Ok((value, copy))
+}
+
+/// A map of one list, written as a literal: what it makes needs no proof.
+pub fn labelled<'a>(alloc: Global, name: &'a str) -> serde_content::Result<Value<'a>>
+    ensures { IfOk result (λ value. tree_of value ≡ tree.map
+        (tree.pair_then (tree.text (borrowed_text name.now))
+        (tree.seq (tree.tree_then (tree.number (number.U8 7))
+        (tree.tree_then (tree.text (borrowed_text name.now)) tree.no_trees)))
+        tree.no_pairs)) }
+{
+    value!(in alloc; { name: [7u8, name] })
 }

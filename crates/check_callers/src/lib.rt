@@ -10,6 +10,6 @@ mod reading;
 mod readme;
 mod returning;
 
-pub use building::{copied, two_bytes, unit_in_a_sequence};
+pub use building::{copied, labelled, two_bytes, unit_in_a_sequence};
 pub use reading::{as_byte, boolean_as_unit};
 pub use returning::{same_map, same_point, same_value};

@@ -1,7 +1,9 @@
-//! Both types as trees, and read back.
+//! Both types as trees, read back, and written.
 
+use crate::lisp::Lisp;
 use crate::point::Point;
 use crate::shape::Shape;
+use serde_content::ser::{Serialize, Serializer as _};
 use serde_content::{Deserializer, Serializer, round_trip};
 use std::test::Fail;
 
@@ -22,5 +24,16 @@ fn a_shape_is_read(rt: HostRuntime) -> Result<(), Fail> {
     let value = Serializer::new().serialize(alloc, &Shape::Ring(3))?;
     let read: Shape = Deserializer::new(value).deserialize(alloc)?;
     assert!(rt; read == Shape::Ring(3));
+    Ok(())
+}
+
+#[test]
+fn a_point_is_written(rt: HostRuntime) -> Result<(), Fail> {
+    let alloc = rt.alloc();
+    let mut lisp = Lisp::new(alloc);
+    Point { x: 1, y: -2 }.serialize(alloc, &mut lisp)?;
+    assert!(rt; lisp.as_str() == "(Point :x 1 :y -2)");
+    assert!(rt; Shape::Dot.serialize(alloc, &mut lisp).is_err());
+    assert!(rt; lisp.is_failed());
     Ok(())
 }
