@@ -103,19 +103,26 @@ impl<'v> Builder<'v> {
         self.tape.open_count()
     }
 
-    /// The tree that the calls spell. Its texts and bytes are owned and its names static, so both
-    /// lifetimes are free.
+    /// The tree that the calls spell. Its texts and bytes are owned and its names static.
     ///
     /// It answers `Failed` where the builder has failed, and `Unfinished` where the calls spell no
     /// tree yet. Memory is taken for the tree's vectors, each for the number of its items, and for
     /// its boxes; where an allocation failed: `OutOfMemory`. It doesn't call itself.
     #[tactic(auto, unfolding(crate::specs::Builder::seen_of))]
-    pub fn finish<'n>(self) -> Result<NamedValue<'v, 'n>>
+    pub fn finish(self) -> Result<Value<'v>>
         ensures value { Finishes (seen_of self.entry).failed
             (seen_of self.entry).state.tree result }
         // the tree that the calls spell, or why they spell none
         ensures exact { (limit : Option ℕ) → (calls : List Event)
             → HasTaken limit calls (seen_of self.entry) → AnswersEnd limit calls result }
+    {
+        self.tape.finish()
+    }
+
+    /// The same at any lifetime of names too, for a generic function that keeps the tree.
+    #[tactic(auto, unfolding(crate::specs::Builder::seen_of))]
+    pub fn finish_named<'n>(self) -> Result<NamedValue<'v, 'n>>
+        ensures { Finishes (seen_of self.entry).failed (seen_of self.entry).state.tree result }
     {
         self.tape.finish()
     }

@@ -33,7 +33,7 @@ pub fn to_value<'v, 'n, T: Serialize>(
 {
     let mut builder: Builder<'v> = Builder::new(alloc, human_readable);
     value.serialize(alloc, &mut builder)?;
-    builder.finish()
+    builder.finish_named()
 }
 
 /// The value read as a type, for people or not. Where it is what was sent of the type, an equal

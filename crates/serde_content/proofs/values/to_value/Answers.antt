@@ -12,4 +12,4 @@ pub returns : goal.returns
 returns g c =
     without_limit (g.T.Serialize.script c.args.value.now c.args.human_readable) _ (g.met.T.Serialize.lawful c.args.value.now c.args.human_readable)
     (sends_ok None tt (g.T.Serialize.script c.args.value.now) c.args.human_readable _ _ _ _ (g.met.T.Serialize.lawful c.args.value.now) c.new-builder.ensures.value c.in_ok-serialize.ensures
-    c.finish.ensures.value)
+    c.finish_named.ensures)
