@@ -116,7 +116,7 @@ impl<'v> Builder<'v> {
         ensures exact { (limit : Option ℕ) → (calls : List Event)
             → HasTaken limit calls (seen_of self.entry) → AnswersEnd limit calls result }
     {
-        self.tape.finish()
+        self.finish_named()
     }
 
     /// The same at any lifetime of names too, for a generic function that keeps the tree.

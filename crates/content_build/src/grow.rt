@@ -331,6 +331,22 @@ fn trimmed(frames: Vec<Frame>) -> Vec<Frame>
     }
 }
 
+/// How many values there are at once when the first leaf has become one: it, and each node that
+/// comes after it but stands in none of these; keys of fields are counted too. It is only how much
+/// room to begin with.
+fn count_at_first(frames: &Vec<Frame>) -> usize {
+    let mut at = 0;
+    while at < frames.len() && frames[at].size > 1 {
+        at += 1;
+    }
+    let mut count = 0;
+    while at < frames.len() {
+        at = at.saturating_add(frames[at].size.max(1));
+        count += 1;
+    }
+    count
+}
+
 /// The value of a whole tape.
 pub(crate) fn grow<'v, 'n>(
     alloc: Global,
@@ -340,7 +356,7 @@ pub(crate) fn grow<'v, 'n>(
         → IfOk result (λ value. MatchOption value ⊥ (λ v. tree_of v ≡ t)) }
 {
     let mut frames = frames;
-    let mut grown = Vec::new(alloc);
+    let mut grown = Vec::with_capacity(alloc, count_at_first(&frames))?;
     while let Some(next) = frames.pop() {
         frames = trimmed(frames);
         grow_one(alloc, &mut grown, next)?;

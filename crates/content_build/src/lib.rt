@@ -14,6 +14,7 @@ mod parts;
 mod prefix;
 mod recorder;
 mod refusal;
+mod room;
 mod serializer;
 mod settle;
 mod steps;

@@ -12,6 +12,7 @@ ghost use Rattle.content_build.specs.Inner.Taken.{TakenTo};
 
 use crate::node::{Frame, Leaf, Node, Opening, Waits};
 use crate::refusal::Taken;
+use crate::room::push_one;
 
 /// The node at this place has all its frames.
 #[inline(always)]
@@ -81,10 +82,11 @@ pub(crate) fn settle(frames: &mut Vec<Frame>, openings: &mut Vec<Opening>) -> Ta
             Waits::Key => {
                 opening.last = frames.len();
                 opening.waits = Waits::InMap;
-                frames.push(Frame {
+                let placeholder = Frame {
                     node: Node::Leaf(Leaf::Unit),
                     size: 1,
-                })?;
+                };
+                push_one(frames, placeholder)?;
                 return Ok(());
             }
             Waits::Value => {

@@ -14,6 +14,7 @@ ghost use Rattle.content_build.specs.Inner.Tokens.{item_call_view, leaf_tree, to
 use crate::node::{Frame, Leaf, Node, Opening, Sort, Waits, headed, number_leaf};
 use crate::parts::{Series, Wrap};
 use crate::refusal::{Refusal, Taken};
+use crate::room::push_one;
 use crate::settle::{close, settle};
 use crate::token::{ItemCall, LeafCall, Token};
 use std::alloc::{AllocError, Global};
@@ -79,7 +80,7 @@ fn put(
         return Err(Refusal::Misplaced);
     }
     let node = whole_node(alloc, leaf)?;
-    frames.push(Frame { node, size: 1 })?;
+    push_one(frames, Frame { node, size: 1 })?;
     settle(frames, openings)
 }
 
@@ -95,8 +96,8 @@ fn open(frames: &mut Vec<Frame>, openings: &mut Vec<Opening>, node: Node, waits:
         return Err(Refusal::Misplaced);
     }
     let at = frames.len();
-    frames.push(Frame { node, size: 0 })?;
-    openings.push(Opening { at, last: 0, waits })?;
+    push_one(frames, Frame { node, size: 0 })?;
+    push_one(openings, Opening { at, last: 0, waits })?;
     Ok(())
 }
 
@@ -132,7 +133,7 @@ fn announce(frames: &mut Vec<Frame>, openings: &mut Vec<Opening>, item: ItemCall
             Waits::InRecord => {
                 opening.waits = Waits::Field;
                 let node = Node::Key(key);
-                frames.push(Frame { node, size: 1 })?;
+                push_one(frames, Frame { node, size: 1 })?;
                 Ok(())
             }
             _ => Err(Refusal::Misplaced),

@@ -88,8 +88,8 @@ returns-in-Key c ps t w =
     let it = at_wait es hs n h cells.a_key qs u l c.index_mut-opening.ensures.value (ap wait_view c.in-Key.is) now in
     let m = c.len-opening.ensures ∙ (c.loop-count.frames.ok.0 ∙ sym (length-cells es)) in
     let k = arm-key qs u (cells_of es) _ _ _ it in
-    settled c.push.new.self.items hs n _ (fill ps t) (fill qs u) l e
-    (ap cells_of c.in_ok-push-in-Key.ensures.items ∙ (cells-push es _ ∙ k.0), ap (λ m. cells.opened h.at m cells.in_map ∷ opens_view (take n hs)) m ∙ k.1)
+    settled c.push_one.new.items.items hs n _ (fill ps t) (fill qs u) l e
+    (ap cells_of c.in_ok-push_one-in-Key.ensures ∙ (cells-push es _ ∙ k.0), ap (λ m. cells.opened h.at m cells.in_map ∷ opens_view (take n hs)) m ∙ k.1)
 
 pub returns-in-InElements : goal.returns-in-InElements
 returns-in-InElements c ps t w =

@@ -51,8 +51,8 @@ returns-in-InMap-waits-2 c =
     let l : suc n ≡ length hs = omega (arith, c.args.openings.now.ok.0) in
     rw c.in-Entry.is (took (meaning es hs) token.entry es _ (turn_entry es hs n h _ l c.index_mut-opening.ensures.value refl refl (meaning es hs) c.requires (ap wait_view c.in-InMap-waits-2.is) refl))
 
-pub returns-in_ok-push-in-InRecord : goal.returns-in_ok-push-in-InRecord
-returns-in_ok-push-in-InRecord c =
+pub returns-in_ok-push_one-in-InRecord : goal.returns-in_ok-push_one-in-InRecord
+returns-in_ok-push_one-in-InRecord c =
     let es = c.args.frames.now.items in
     let hs = c.args.openings.now.items in
     let n = c.len-count.result - 1 in
@@ -60,4 +60,4 @@ returns-in_ok-push-in-InRecord c =
     let l : suc n ≡ length hs = omega (arith, c.args.openings.now.ok.0) in
     rw c.in-Field.is
     (took (meaning es hs) (token.field c.in-Field.key.now) _ _
-    (turn_field es hs n h _ l c.index_mut-opening.ensures.value refl refl (meaning es hs) _ c.in-Field.key.now c.push.new.self.items c.requires (ap wait_view c.in-InRecord.is) refl refl c.in_ok-push-in-InRecord.ensures.items))
+    (turn_field es hs n h _ l c.index_mut-opening.ensures.value refl refl (meaning es hs) _ c.in-Field.key.now c.push_one.new.items.items c.requires (ap wait_view c.in-InRecord.is) refl refl c.in_ok-push_one-in-InRecord.ensures))

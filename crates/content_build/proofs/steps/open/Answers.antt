@@ -16,19 +16,19 @@ returns-then-not-is_due c call o =
     let (next, begins, st) = o [] in
     subst (λ n. TakenTo n (Err refusal.Misplaced) es hs) (sym (late_head (meaning es hs) call next begins late)) refl
 
-pub returns-in_err-push : goal.returns-in_err-push
-returns-in_err-push c call o =
+pub returns-in_err-push_one : goal.returns-in_err-push_one
+returns-in_err-push_one c call o =
     let (ps, e) = the_slots (meaning c.args.frames.now.items c.args.openings.now.items) (c.if-not-is_due.ensures.0 refl) in
     let (next, begins, st) = o ps in
     let step = ap (λ x. step_token x call) e ∙ begins in
-    subst (λ n. TakenTo n c.from_residual.result c.push.new.self.items c.args.openings.now.items) (sym step) (search rules)
+    subst (λ n. TakenTo n c.from_residual.result c.push_one.new.items.items c.args.openings.now.items) (sym step) (search rules)
 
-pub returns-in_err-push-2 : goal.returns-in_err-push-2
-returns-in_err-push-2 c call o =
+pub returns-in_err-push_one-2 : goal.returns-in_err-push_one-2
+returns-in_err-push_one-2 c call o =
     let (ps, e) = the_slots (meaning c.args.frames.now.items c.args.openings.now.items) (c.if-not-is_due.ensures.0 refl) in
     let (next, begins, st) = o ps in
     let step = ap (λ x. step_token x call) e ∙ begins in
-    subst (λ n. TakenTo n c.from_residual-in_err-push-2.result c.push.new.self.items c.push-2.new.self.items) (sym step) (search rules)
+    subst (λ n. TakenTo n c.from_residual-in_err-push_one-2.result c.push_one.new.items.items c.push_one-2.new.items.items) (sym step) (search rules)
 
 pub returns : goal.returns
 returns c call o =
@@ -36,8 +36,8 @@ returns c call o =
     let hs = c.args.openings.now.items in
     let (ps, e) = the_slots (meaning es hs) (c.if-not-is_due.ensures.0 refl) in
     let (next, begins, st) = o ps in
-    took (meaning es hs) call c.push.new.self.items c.push-2.new.self.items (
+    took (meaning es hs) call c.push_one.new.items.items c.push_one-2.new.items.items (
       next,
       ap (λ x. step_token x call) e ∙ begins,
-      stands_open ps es c.push.new.self.items hs c.push-2.new.self.items _ _ next (subst (Stands es hs) e c.requires) st refl c.in_ok-push.ensures.items (c.len-at.ensures ∙ c.args.frames.now.ok.0) refl c.in_ok-push-2.ensures.items,
+      stands_open ps es c.push_one.new.items.items hs c.push_one-2.new.items.items _ _ next (subst (Stands es hs) e c.requires) st refl c.in_ok-push_one.ensures (c.len-at.ensures ∙ c.args.frames.now.ok.0) refl c.in_ok-push_one-2.ensures,
     )

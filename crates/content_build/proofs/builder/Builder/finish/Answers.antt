@@ -4,4 +4,4 @@ use Rattle.content_build.proofs.builder.Builder.finish.Goals as goal
 
 pub returns-clause-exact : goal.returns-clause-exact
 unfolding seen_of
-returns-clause-exact c limit calls taken = ends_exactly limit calls _ c.finish.result taken c.finish.ensures.value
+returns-clause-exact c limit calls taken = ends_exactly limit calls _ c.finish_named.result taken c.finish_named.ensures
