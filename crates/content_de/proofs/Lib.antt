@@ -9,3 +9,4 @@ pub mod PlainLaws
 pub mod Coercion
 pub mod Named
 pub mod KeyTrees
+pub mod Ascending

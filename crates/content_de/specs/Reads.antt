@@ -4,6 +4,7 @@ pub mod Access
 pub mod Standard
 pub mod Tuples
 pub mod Maps
+pub mod Names
 pub mod Own
 pub mod ByName
 pub mod Attempts

@@ -24,6 +24,7 @@ mod refusal;
 mod requests;
 mod seq;
 mod source;
+mod unknown_names;
 mod variant_access;
 
 pub use attempts::attempt;
@@ -38,4 +39,5 @@ pub use node::Node;
 pub use parts::{end_parts, next_field, next_part, two_parts};
 pub use plain::ValueVisitor;
 pub use seq::Seq;
+pub use unknown_names::unknown_variant;
 pub use variant_access::VariantAccess;

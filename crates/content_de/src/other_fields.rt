@@ -1,6 +1,6 @@
 //! Errors of keys that are left over.
 
-ghost use Rattle.std.specs.Prelude.{◌≡◌, ◌≢◌, ◌++◌, IfOk, map, string_bytes};
+ghost use Rattle.std.specs.Prelude.{◌≡◌, ◌≢◌, map};
 ghost use Rattle.std.specs.List.{list_any};
 ghost use Rattle.std.specs.Str.{bytes_eq};
 ghost use Rattle.content_tree.specs.Errors.Cause.{nameless, out_of_memory};
@@ -9,12 +9,12 @@ ghost use Rattle.content_tree.specs.declared.expected.Expected.TheVariants as wa
 ghost use Rattle.content_de.specs.Outcomes.{cause, mismatch};
 ghost use Rattle.content_de.specs.Sources.Origin.{of_tree};
 ghost use Rattle.content_de.specs.Reads.ByName.{duplicate_field, other_key, other_name};
-ghost use Rattle.content_de.specs.Reads.ByName.{joined, opening, quoted, separator};
-ghost use Rattle.content_de.specs.Reads.ByName.{unknown_field, unknown_text};
+ghost use Rattle.content_de.specs.Reads.ByName.{unknown_field};
 
 use crate::deserializer::Deserializer;
+use crate::unknown_names::unknown_text;
 use content_tree::{Error, ErrorKind, Expected, NamedValue};
-use std::alloc::{AllocError, Global};
+use std::alloc::Global;
 
 /// The error of a key that is left.
 pub(crate) fn other_key(alloc: Global, key: NamedValue<'_, '_>, known: &[&str]) -> Error
@@ -68,73 +68,10 @@ fn unknown_field(alloc: Global, name: &str, known: &[&str]) -> Error
     ensures { cause result ≢ out_of_memory
         → cause result ≡ unknown_field name.now (map (λ name. name.now) known.now) }
 {
-    match unknown_text(alloc, name, known) {
+    match unknown_text(alloc, "field", "there are no fields", name, known) {
         Ok(text) => Error::from(ErrorKind::Custom(text)),
         Err(refused) => Error::from(refused),
     }
-}
-
-/// The text of that error.
-fn unknown_text(
-    alloc: Global,
-    name: &str,
-    known: &[&str],
-) -> std::result::Result<String, AllocError>
-    ensures { IfOk result (λ text. string_bytes text
-        ≡ unknown_text name.now (map (λ name. name.now) known.now)) }
-{
-    let begin = opening(known.len());
-    let mut text = format!(in alloc; "unknown field `{name}`, {begin}")?;
-    push_names(&mut text, separator(known.len()), known)?;
-    Ok(text)
-}
-
-/// How a list of so many names begins.
-fn opening(count: usize) -> &'static str
-    ensures { result.now ≡ opening count }
-{
-    if count == 0 {
-        "there are no fields"
-    } else if count < 3 {
-        "expected "
-    } else {
-        "expected one of "
-    }
-}
-
-/// What stands between so many names.
-fn separator(count: usize) -> &'static str
-    ensures { result.now ≡ separator count }
-{
-    if count == 2 { " or " } else { ", " }
-}
-
-/// Writes the names between quotes, with this between them.
-fn push_names(
-    text: &mut String,
-    between: &str,
-    names: &[&str],
-) -> std::result::Result<(), AllocError>
-    ensures { IfOk result (λ u. string_bytes text.new
-        ≡ string_bytes text.old ++ joined between.now (map (λ name. name.now) names.now)) }
-{
-    if let Some((first, others)) = names.split_first() {
-        push_quoted(text, first)?;
-        for other in others {
-            text.push_str(between)?;
-            push_quoted(text, other)?;
-        }
-    }
-    Ok(())
-}
-
-/// Writes a name between quotes.
-fn push_quoted(text: &mut String, name: &str) -> std::result::Result<(), AllocError>
-    ensures { IfOk result (λ u. string_bytes text.new ≡ string_bytes text.old ++ quoted name.now) }
-{
-    text.push_str("`")?;
-    text.push_str(name)?;
-    text.push_str("`")
 }
 
 /// The error of a second entry of a name.

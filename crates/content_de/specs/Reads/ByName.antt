@@ -1,6 +1,6 @@
 -- What a type reads by name: each field wherever it stands, and then what is left over.
-use Rattle.std.specs.Prelude.{ℕ, List, [], ◌∷◌, ◌++◌, Option, Some, None, ⊤, codes, cond, length, nat_eq, nat_lt, if◌then◌else◌}
-use Rattle.std.specs.List.{list_any, flat_map}
+use Rattle.std.specs.Prelude.{ℕ, List, [], ◌∷◌, ◌++◌, Option, Some, None, ⊤, codes, cond}
+use Rattle.std.specs.List.{list_any}
 use Rattle.std.specs.Str.{bytes_eq}
 use Rattle.content_tree.specs.Values.Tree.{Tree, text}
 use Rattle.content_tree.specs.Errors.Cause.{Cause, custom, nameless}
@@ -9,11 +9,8 @@ use Rattle.content_de.specs.Sources.Origin.{Subject, of_tree}
 use Rattle.content_de.specs.Outcomes.{mismatch}
 use Rattle.content_de.specs.Accesses.Map.{MapLeft}
 use Rattle.content_de.specs.Accesses.ByName.{FieldsLeft, by_name, field_named, without_field}
+use Rattle.content_de.specs.Reads.Names.{quoted, unknown_text}
 use Rattle.content_de.specs.Reads.Read.{Refusal, Gives, first_of}
-
--- a name between quotes
-abbrev pub quoted : List ℕ → List ℕ
-quoted name = codes "`" ++ (name ++ codes "`")
 
 -- no entry has this name
 abbrev pub missing_field : List ℕ → Cause
@@ -23,30 +20,9 @@ missing_field name = custom (codes "missing field " ++ quoted name)
 abbrev pub duplicate_field : List ℕ → Cause
 duplicate_field name = custom (codes "duplicate field " ++ quoted name)
 
--- how a list of so many names begins
-abbrev pub opening : ℕ → List ℕ
-opening n = if nat_eq n 0 then codes "there are no fields" else (if nat_lt n 3 then codes "expected " else codes "expected one of ")
-
--- what stands between so many names
-abbrev pub separator : ℕ → List ℕ
-separator n = if nat_eq n 2 then codes " or " else codes ", "
-
--- names between quotes, with this between them
-abbrev pub joined : List ℕ → List (List ℕ) → List ℕ
-joined between [] = []
-joined between (name ∷ names) = quoted name ++ flat_map (λ other. between ++ quoted other) names
-
--- one of these names
-abbrev pub one_of : List (List ℕ) → List ℕ
-one_of names = opening (length names) ++ joined (separator (length names)) names
-
--- what an entry's name that is none of these is told as
-abbrev pub unknown_text : List ℕ → List (List ℕ) → List ℕ
-unknown_text name known = codes "unknown field " ++ (quoted name ++ (codes ", " ++ one_of known))
-
 -- an entry has a name that is none of these
 abbrev pub unknown_field : List ℕ → List (List ℕ) → Cause
-unknown_field name known = custom (unknown_text name known)
+unknown_field name known = custom (unknown_text (codes "field") (codes "there are no fields") name known)
 
 -- what was found is read; where nothing was, this cause or none
 abbrev pub found_refusal : Option Cause → Refusal → Option Subject → Option Cause

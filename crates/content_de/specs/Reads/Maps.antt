@@ -2,6 +2,7 @@
 use Rattle.std.specs.Prelude.{List, [], ◌∷◌, Option, None, ◌≡◌}
 use Rattle.std.specs.declared.cmp.Ordering.{Ordering}
 use Rattle.std.specs.BTreeMap.{insert_entry}
+use Rattle.std.specs.List.{fold}
 use Rattle.content_tree.specs.Values.Tree.{Tree}
 use Rattle.content_tree.specs.Errors.Cause.{Cause}
 use Rattle.content_de.specs.Sources.Origin.{Origin, Flags, tree_under, subject_under}
@@ -13,6 +14,10 @@ abbrev pub entries_refusal : (key value : Refusal) → Flags → List (Origin ×
 entries_refusal key value f [] = None
 entries_refusal key value f (e ∷ es) =
     first_of (key (subject_under f e.0)) (first_of (value (tree_under f e.1)) (entries_refusal key value f es))
+
+-- a map's entries after these are put in, one after another
+abbrev pub put_in : {K V : Type 0} → (K → K → Ordering) → (old more : List (K × V)) → List (K × V)
+put_in order old more = fold (λ es e. insert_entry order es e.0 e.1) old more
 
 -- keys and values that the entries may give, put in one after another, lead from one map to the other
 abbrev pub EntriesGive : {K V : Type 0} → Gives K → Gives V → (K → K → Ordering) → Flags → List (Origin × Tree) → (old new : List (K × V)) → Type 0

@@ -10,6 +10,7 @@ use Rattle.content_de.specs.Accesses.Seq.{SeqLeft, tuple_struct_at}
 use Rattle.content_de.specs.Accesses.Map.{MapLeft, first_entry, after_entry, struct_at}
 use Rattle.content_de.specs.Accesses.Enum.{VariantLeft, enum_at, tag_of, unit_variant_of}
 use Rattle.content_de.specs.Accesses.Enum.{newtype_variant_of, tuple_variant_of, struct_variant_of}
+use Rattle.content_de.specs.Reads.Names.{unknown_text}
 use Rattle.content_de.specs.Reads.Read.{Refusal, Gives, first_of}
 
 -- a struct that holds nothing
@@ -89,6 +90,14 @@ variant_or name refusal others tag v = cond (bytes_eq tag name) (refusal v) (oth
 -- no variant has this name
 abbrev pub no_variant : {A : Type 0} → List ℕ → A → Option Cause
 no_variant tag v = Some (custom (codes "unknown variant"))
+
+-- the tag is none of these names of variants
+abbrev pub unknown_variant : List ℕ → List (List ℕ) → Cause
+unknown_variant tag known = custom (unknown_text (codes "variant") (codes "there are no variants") tag known)
+
+-- no variant has this name, but these are known
+abbrev pub no_variant_of : {A : Type 0} → List (List ℕ) → List ℕ → A → Option Cause
+no_variant_of known tag v = Some (unknown_variant tag known)
 
 -- the variant of this name, which holds this
 abbrev pub EnumGives : List ℕ → List ℕ → (VariantLeft → Type 0) → Subject → Type 0

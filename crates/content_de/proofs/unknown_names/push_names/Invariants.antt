@@ -1,7 +1,7 @@
 use Rattle.std.proofs.Common.{◌≡◌, ◌++◌, map, drop, string_bytes}
 use Rattle.std.specs.List.{flat_map}
-use Rattle.content_de.specs.Reads.ByName.{quoted}
-use Rattle.content_de.proofs.other_fields.push_names.Given as goal
+use Rattle.content_de.specs.Reads.Names.{quoted}
+use Rattle.content_de.proofs.unknown_names.push_names.Given as goal
 
 -- the text so far with what is left is the whole
 abbrev pub invariant-loop-other : goal.invariant-loop-other
