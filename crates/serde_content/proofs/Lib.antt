@@ -1,2 +1,5 @@
 pub mod Telling
 pub mod ComingBack
+pub mod Lookups
+pub mod Scripts
+pub mod Names

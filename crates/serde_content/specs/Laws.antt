@@ -9,3 +9,4 @@ pub mod ByName
 pub mod Tagged
 pub mod Flattened
 pub mod Untagged
+pub mod Lookups

@@ -1,4 +1,3 @@
-pub mod Depth
 pub mod RoundTrip
 pub mod Laws
 pub mod Names

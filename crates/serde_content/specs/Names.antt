@@ -3,3 +3,5 @@ pub mod Words
 pub mod Event
 pub mod ErrorKind
 pub mod Number
+pub mod Tree
+pub mod Cause

@@ -3,5 +3,5 @@
 pub use content_de::{
     Deserialize, EnumAccess, FieldsByName, IntoDeserializer, Map, Node, Seq, VariantAccess,
     attempt, end_fields, end_parts, field_or, named_field, next_field, next_part, skip_fields,
-    tag_field, two_parts,
+    tag_field, two_parts, unknown_variant,
 };

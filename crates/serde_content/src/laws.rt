@@ -5,6 +5,7 @@
 
 ghost use Rattle.content_ser.specs.Laws.Lists.{OneTree, UniqueCut};
 ghost use Rattle.content_ser.specs.Sending.Canonical.{EqualCalls};
+ghost use Rattle.serde_content.specs.Laws.Lookups.{EqualKeys, JoinedPairs, LastPair, MissingKey};
 
 pub use content_build::laws::{
     compare_serializers, equal_refusals, equal_serializers, sent_is_listed, steps_are_exact,
@@ -36,4 +37,25 @@ pub fn one_tree()
 /// whatever is borrowed in them.
 pub fn equal_calls()
     ensures { EqualCalls }
+{}
+
+/// Keys that are equal find the same, whatever is borrowed or static in them.
+pub fn equal_keys()
+    ensures { EqualKeys }
+{}
+
+/// Where pairs are put together a key finds what it finds in the later ones, or else in the earlier
+/// ones.
+pub fn joined_pairs()
+    ensures { JoinedPairs }
+{}
+
+/// A pair put last is what each key that equals its own finds.
+pub fn last_pair()
+    ensures { LastPair }
+{}
+
+/// A key finds nothing exactly where none equals it.
+pub fn missing_key()
+    ensures { MissingKey }
 {}

@@ -5,7 +5,6 @@ mod fields_by_name;
 mod for_people;
 mod hostile;
 mod literals;
-mod own_serializer;
 mod own_structs;
 mod own_types;
 mod round_trips;

@@ -25,3 +25,13 @@ pub use Rattle.content_de.specs.Sources.Deserializer.{subject}
 pub use Rattle.content_de.specs.Sources.Origin.{no_flags, tree_under}
 pub use Rattle.content_de.specs.Outcomes.{cause}
 pub use Rattle.content_de.specs.Reads.Read.{Reads}
+pub use Rattle.content_tree.specs.Values.Tree.{unmarked}
+pub use Rattle.content_tree.specs.Values.Value.{tree_data_of}
+pub use Rattle.content_tree.specs.Values.Text.{Text, text_of, bytes_of, owned_text, static_name}
+pub use Rattle.content_tree.specs.Values.Cases.{borrowed_text}
+pub use Rattle.content_tree.specs.Values.Lookups.{lookup, lookup_text, or_else}
+pub use Rattle.content_tree.specs.Orders.Trees.{same_tree}
+pub use Rattle.content_ser.specs.Scripts.Script.{and_then}
+pub use Rattle.content_ser.specs.Sending.Loose.{loose}
+pub use Rattle.content_ser.specs.Sending.TreeScript.{script_of, loose_script}
+pub use Rattle.content_ser.specs.Serializers.Step.{Step, run}
