@@ -1,1 +1,3 @@
+mod MergingLaws
 mod Placing
+mod Putting

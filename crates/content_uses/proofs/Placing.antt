@@ -1,5 +1,5 @@
 -- What stands at the end of a list, and errors that are handed on.
-use Rattle.std.proofs.Common.{◌≡◌, ℕ, List, [], ◌∷◌, ◌++◌, length, Option, Some, Result, Ok, Err, IfErr, IsErrAnd, slice_get, refl, ap, sym, subst, ◌∙◌}
+use Rattle.std.proofs.Common.{◌≡◌, ℕ, List, [], ◌∷◌, ◌++◌, length, Some, Result, Ok, Err, IfErr, IsErrAnd, slice_get, refl, ap, sym, subst, ◌∙◌}
 use Rattle.serde_content.specs.Names.Words.{Error, IsOutOfMemory}
 
 -- what is put at the end stands under the old length

@@ -1,6 +1,8 @@
 -- A store of records: the tree of each, in the order in which they were put.
-use Rattle.std.specs.Prelude.{◌≡◌, ℕ, List, [], ◌∷◌, ◌++◌, None, length, map}
+use Rattle.std.specs.Prelude.{◌≡◌, ℕ, List, [], ◌∷◌, ◌++◌, None, Result, IsErrAnd, codes, length, map}
+use Rattle.content_tree.specs.Errors.Kind.{IsCustomOrMemory}
 use Rattle.serde_content.specs.Names.Words.{Tree, tree_of, Script, calls_of, stop_of, SpellsWhole}
+use Rattle.serde_content.specs.Names.Words.{Error, kind_of}
 use Rattle.content_uses.specs.declared.store.Store.{Store}
 
 -- the trees of the records
@@ -12,3 +14,7 @@ abbrev pub IsPut : Script → (old new : List Tree) → ℕ → Type 0
 IsPut script old new number =
     (t : Tree) × (stop_of script ≡ None) × SpellsWhole (calls_of script) t
     × (new ≡ old ++ t ∷ []) × (number ≡ length old)
+
+-- no record has this number: an error that says so, or memory ran out
+abbrev pub IsUnknown : {A : Type 0} → Result A Error → Type 0
+IsUnknown r = IsErrAnd r (λ e. IsCustomOrMemory (codes "no such record") (kind_of e))

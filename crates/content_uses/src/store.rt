@@ -1,6 +1,6 @@
 //! Records of any type, kept as values, with typed views.
 
-ghost use Rattle.std.specs.Prelude.{◌≡◌, ◌≤◌, [], true, false, Some, None, IsErr, length, slice_get};
+ghost use Rattle.std.specs.Prelude.{◌≡◌, ◌≤◌, [], true, false, Some, None, length, slice_get};
 ghost use Rattle.std.specs.Prelude.{IfOk, IfErr};
 ghost use Rattle.serde_content.specs.Names.Words.{Tree, IsOutOfMemory, SpellsWhole, calls_of};
 ghost use Rattle.serde_content.specs.Names.Words.{stop_of, tree_of, Reads, no_flags, tree_under};
@@ -24,7 +24,7 @@ pub struct Store<'v, 'n> {
 }
 
 impl<'v, 'n: 'v> Store<'v, 'n> {
-    ghost use Rattle.content_uses.specs.Records.{records_of, IsPut};
+    ghost use Rattle.content_uses.specs.Records.{records_of, IsPut, IsUnknown};
 
     /// No records. It takes no memory.
     pub fn new(alloc: Global) -> Store<'v, 'n>
@@ -70,7 +70,7 @@ impl<'v, 'n: 'v> Store<'v, 'n> {
         ensures value { (t : Tree) → slice_get (records_of self.now) number ≡ Some t
             → Reads (T.refusal (tree_under no_flags t)) (T.gives (tree_under no_flags t))
             result }
-        ensures unknown { slice_get (records_of self.now) number ≡ None → IsErr result }
+        ensures unknown { slice_get (records_of self.now) number ≡ None → IsUnknown result }
     {
         let copy = self.copy(alloc, number)?;
         Deserializer::new(copy).deserialize(alloc)
@@ -82,13 +82,17 @@ impl<'v, 'n: 'v> Store<'v, 'n> {
     ///
     /// Those of [`view`](Store::view); where it was put as this type out of memory alone.
     pub fn get<T: RoundTrip<'v>>(&self, alloc: Global, number: usize) -> Result<T>
+        ensures read { (t : Tree) → slice_get (records_of self.now) number ≡ Some t
+            → Reads (T.refusal (tree_under no_flags t)) (T.gives (tree_under no_flags t))
+            result }
+        // where it is what was put as x
         ensures value { (x : T) (t : Tree) → T.exists x
             → slice_get (records_of self.now) number ≡ Some t
             → SpellsWhole (calls_of (T.script x false)) t → IfOk result (λ y. T.eq x y ≡ true) }
         ensures memory { (x : T) (t : Tree) → T.exists x
             → slice_get (records_of self.now) number ≡ Some t
             → SpellsWhole (calls_of (T.script x false)) t → IfErr result (λ e. IsOutOfMemory e) }
-        ensures unknown { slice_get (records_of self.now) number ≡ None → IsErr result }
+        ensures unknown { slice_get (records_of self.now) number ≡ None → IsUnknown result }
     {
         let copy = self.copy(alloc, number)?;
         from_value(alloc, copy, false)
@@ -100,7 +104,7 @@ impl<'v, 'n: 'v> Store<'v, 'n> {
             → IfOk result (λ copy. tree_of copy ≡ t) }
         ensures memory { (t : Tree) → slice_get (records_of self.now) number ≡ Some t
             → IfErr result (λ e. IsOutOfMemory e) }
-        ensures unknown { slice_get (records_of self.now) number ≡ None → IsErr result }
+        ensures unknown { slice_get (records_of self.now) number ≡ None → IsUnknown result }
     {
         match self.records.get(number) {
             Some(record) => record.try_clone(alloc),

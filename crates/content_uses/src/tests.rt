@@ -1,8 +1,9 @@
 //! The uses, run.
 
+use crate::merging::merge;
 use crate::store::{Store, put_and_get};
-use serde_content::Result as Answer;
 use serde_content::samples::Point;
+use serde_content::{Result as Answer, Value, value};
 use std::test::Fail;
 
 #[test]
@@ -31,5 +32,31 @@ fn records_are_kept(rt: HostRuntime) -> Result<(), Fail> {
     assert!(rt; store.len() == 3);
     let none: Answer<bool> = store.view(alloc, 3);
     assert!(rt; none.is_err());
+    Ok(())
+}
+
+#[test]
+fn configurations_are_merged(rt: HostRuntime) -> Result<(), Fail> {
+    let alloc = rt.alloc();
+
+    // A user's settings over the common ones.
+    let common = value!(in alloc; { "name": "serve", "limits": { "depth": 8u8, "size": 100u8 } })?;
+    let user = value!(in alloc; { "colour": true, "limits": { "size": 200u8 } })?;
+    let merged = merge(alloc, user, common)?;
+    let text = format!(in alloc; "{}", merged.display())?;
+    let wanted =
+        r#"{ "name": "serve", "limits": { "depth": 8u8, "size": 200u8 }, "colour": true }"#;
+    assert!(rt; text.as_str() == wanted);
+    Ok(())
+}
+
+#[test]
+fn the_last_of_equal_keys_is_put_over(rt: HostRuntime) -> Result<(), Fail> {
+    let alloc = rt.alloc();
+    let base = value!(in alloc; { "a": true, "a": false })?;
+    let merged = merge(alloc, value!(in alloc; { "a": 1u8 })?, base)?;
+    let text = format!(in alloc; "{}", merged.display())?;
+    assert!(rt; text.as_str() == r#"{ "a": true, "a": 1u8 }"#);
+    assert!(rt; merge(alloc, Value::Unit, merged)? == Value::Unit);
     Ok(())
 }

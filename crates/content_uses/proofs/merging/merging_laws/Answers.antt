@@ -1,0 +1,12 @@
+use Rattle.std.proofs.Common.{refl}
+use Rattle.content_uses.proofs.MergingLaws.{keys_find, no_map_wins, over_no_map_wins}
+use Rattle.content_uses.proofs.merging.merging_laws.Goals as goal
+
+pub returns : goal.returns
+returns c = record {
+  empty = λ ps. refl;
+  whole = no_map_wins;
+  over_none = over_no_map_wins;
+  found = keys_find;
+  order = λ e. absurd (cc e);
+}

@@ -1,0 +1,5 @@
+use Rattle.content_uses.proofs.Putting.{set_view}
+use Rattle.content_uses.proofs.merging.set_value.Goals as goal
+
+pub returns : goal.returns
+returns c = set_view c.args.pairs.now.items c.args.place c.index_mut-pair.result.now c.args.value c.requires c.index_mut-pair.ensures.value
