@@ -1,0 +1,123 @@
+//! The items in which no item stands.
+
+ghost use Rattle.std.specs.Prelude.{◌≡◌, ◌++◌, OnOk, pos, negsuc, encode_utf8};
+ghost use Rattle.content_tree.specs.Values.Ranges.{number_value};
+ghost use Rattle.content_cbor.specs.Item.{bytes_item, text_item, boolean_item, null_item};
+ghost use Rattle.content_cbor.specs.Item.{number_item, shortest, without_zeros};
+
+use crate::heads::{Major, write_head};
+use content_tree::Number;
+use std::alloc::AllocError;
+
+/// Appends null.
+pub(crate) fn write_null(out: &mut Vec<u8>) -> Result<(), AllocError>
+    ensures { OnOk result (out.new.items ≡ out.old.items ++ null_item) }
+{
+    write_head(out, Major::Simple, 22)
+}
+
+/// Appends a boolean.
+pub(crate) fn write_bool(boolean: bool, out: &mut Vec<u8>) -> Result<(), AllocError>
+    ensures { OnOk result (out.new.items ≡ out.old.items ++ boolean_item boolean) }
+{
+    write_head(out, Major::Simple, if boolean { 21 } else { 20 })
+}
+
+/// Appends a list of bytes.
+pub(crate) fn write_bytes(bytes: &[u8], out: &mut Vec<u8>) -> Result<(), AllocError>
+    ensures { OnOk result (out.new.items ≡ out.old.items ++ bytes_item bytes.now) }
+{
+    write_head(out, Major::Bytes, bytes.len() as u64)?;
+    out.extend_from_slice(bytes)
+}
+
+/// Appends a text.
+pub(crate) fn write_text(text: &str, out: &mut Vec<u8>) -> Result<(), AllocError>
+    ensures { OnOk result (out.new.items ≡ out.old.items ++ text_item text.now) }
+{
+    write_head(out, Major::Text, text.len() as u64)?;
+    out.extend_from_slice(text.as_bytes())
+}
+
+/// Appends a character, as a text.
+pub(crate) fn write_char(character: char, out: &mut Vec<u8>) -> Result<(), AllocError>
+    ensures { OnOk result (out.new.items ≡ out.old.items ++ text_item (encode_utf8 character)) }
+{
+    let mut buffer = [0; 4];
+    write_text(character.encode_utf8(&mut buffer), out)
+}
+
+/// Appends a number, whatever its kind.
+pub(crate) fn write_number(number: Number, out: &mut Vec<u8>) -> Result<(), AllocError>
+    ensures { OnOk result (out.new.items ≡ out.old.items ++ number_item (number_value number)) }
+{
+    match number {
+        Number::U8(number) => write_unsigned(u128::from(number), out),
+        Number::U16(number) => write_unsigned(u128::from(number), out),
+        Number::U32(number) => write_unsigned(u128::from(number), out),
+        Number::U64(number) => write_unsigned(u128::from(number), out),
+        Number::U128(number) => write_unsigned(number, out),
+        Number::I8(number) => write_signed(i128::from(number), out),
+        Number::I16(number) => write_signed(i128::from(number), out),
+        Number::I32(number) => write_signed(i128::from(number), out),
+        Number::I64(number) => write_signed(i128::from(number), out),
+        Number::I128(number) => write_signed(number, out),
+    }
+}
+
+/// Appends a signed number.
+fn write_signed(number: i128, out: &mut Vec<u8>) -> Result<(), AllocError>
+    ensures { OnOk result (out.new.items ≡ out.old.items ++ number_item number) }
+{
+    let size = number.unsigned_abs();
+    if number < 0 {
+        write_negative(size - 1, out)
+    } else {
+        write_unsigned(size, out)
+    }
+}
+
+/// Appends a number from 0.
+fn write_unsigned(number: u128, out: &mut Vec<u8>) -> Result<(), AllocError>
+    ensures { OnOk result (out.new.items ≡ out.old.items ++ number_item (pos number)) }
+{
+    match u64::try_from(number) {
+        Ok(number) => write_head(out, Major::Unsigned, number),
+        Err(_) => {
+            write_head(out, Major::Tag, 2)?;
+            write_shortest(number, out)
+        }
+    }
+}
+
+/// Appends -1 less this number.
+fn write_negative(number: u128, out: &mut Vec<u8>) -> Result<(), AllocError>
+    ensures { OnOk result (out.new.items ≡ out.old.items ++ number_item (negsuc number)) }
+{
+    match u64::try_from(number) {
+        Ok(number) => write_head(out, Major::Negative, number),
+        Err(_) => {
+            write_head(out, Major::Tag, 3)?;
+            write_shortest(number, out)
+        }
+    }
+}
+
+/// Appends the bytes of a number, as few as can be.
+fn write_shortest(number: u128, out: &mut Vec<u8>) -> Result<(), AllocError>
+    ensures { OnOk result (out.new.items ≡ out.old.items ++ bytes_item (shortest number)) }
+{
+    write_bytes(without_zeros(&number.to_be_bytes()), out)
+}
+
+/// The bytes behind the zeros at the front.
+#[tactic(auto, unfolding(crate::specs::Item::without_zeros))]
+fn without_zeros(bytes: &[u8]) -> &[u8]
+    ensures { result.now ≡ without_zeros bytes.now }
+{
+    let mut rest = bytes;
+    while let [0, behind @ ..] = rest {
+        rest = behind;
+    }
+    rest
+}
