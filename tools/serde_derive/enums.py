@@ -4,7 +4,7 @@ from typing import Callable, List
 from .declarations import Data, Item, Variant
 from .holder import Holder
 from .text import DESERIALIZE, KNOWN, SERIALIZE, alias, all_hold, arm, bracketed, clause, codes, elim
-from .text import facts, function, ghost, quoted, together
+from .text import facts, function, ghost, listed, quoted, together
 from .types import nest, snake
 
 
@@ -84,7 +84,7 @@ class EnumWriter:
     def deserialize(self) -> List[str]:
         heads = [f"variant_or {codes(v.wire)} {bracketed(h.refusal())}" for v, h in self.variants]
         arms = [arm(f'"{v.wire}"', h.read(self.making(v))) for v, h in self.variants]
-        return [ghost("refusal", f"enum_refusal {self.name}{nest(heads, 'no_variant')}"),
+        return [ghost("refusal", f"enum_refusal {self.name}{nest(heads, self.no_variant())}"),
                 ghost("gives", "λ s. " + self.each(
                     lambda v, h, x: f"EnumGives {self.name} {codes(v.wire)} {bracketed(h.gives(x))} s")),
                 function(DESERIALIZE.format(self.item.name),
@@ -92,7 +92,15 @@ class EnumWriter:
                          f" &[{quoted(self.item.variants)}])?;",
                          "let (tag, variant) = access.variant::<CowStr<'de>>(alloc)?;",
                          "match tag.as_str() {", *arms,
-                         '_ => Err(Error::custom(alloc, "unknown variant")),', "}")]
+                         self.unknown(), "}")]
+
+    def no_variant(self) -> str:
+        """The refusal of any other tag."""
+        return f"(no_variant_of {listed([v.wire for v in self.item.variants])})"
+
+    def unknown(self) -> str:
+        """The arm of any other tag."""
+        return f"tag => Err(unknown_variant(alloc, tag, &[{quoted(self.item.variants)}])),"
 
     def making(self, v: Variant) -> Callable[[List[str]], str]:
         """How the code makes a variant: by its own function, where it has one."""

@@ -2,7 +2,7 @@
 from typing import Callable, List, NamedTuple, Optional, Tuple
 
 from .declarations import Data
-from .text import clause, codes, fields_reader, together
+from .text import clause, codes, fields_reader, listed, together
 from .types import READ, TRIP, nest, snake
 
 
@@ -73,9 +73,8 @@ class Holder:
             inner=inner, see=see, place=place, count=self.count, name=codes(f.wire),
             or_="_or" * bool(f.missing), Or="Or" * bool(f.missing), missing=f.absent())
             for place, (f, inner, see) in enumerate(zip(self.fields[start:], inners, sees or inners))]
-        known = " ∷ ".join([codes(name)[1:-1] for name in self.names_known] + ["[]"])
         words = ("no_others", "closed") if self.data.closed else ("others_skipped", "skipped")
-        return nest(parts, end.format(known=f"({known})", left=words[0], end=words[1]))
+        return nest(parts, end.format(known=listed(self.names_known), left=words[0], end=words[1]))
 
     def by_name(self, word: str, row: str) -> str:
         """A row of fields, which is read by name."""

@@ -70,7 +70,7 @@ class TaggedWriter(EnumWriter):
     def refusals(self) -> str:
         """What each variant refuses."""
         heads = [f"variant_or {codes(v.wire)}{holder.refusal_row()}" for v, holder in self.variants]
-        return nest(heads, "no_variant")
+        return nest(heads, self.no_variant())
 
     def given(self, v: Variant, holder: Holder, values: List[str]) -> str:
         return f"TagThen {codes(self.tag)} {codes(v.wire)}{holder.gives_row(values)}"
@@ -89,7 +89,7 @@ class TaggedWriter(EnumWriter):
             "The variant that its tag names.", self.reader_name, self.item.name,
             f"tag_then {codes(self.tag)}{self.refusals()}", gives,
             [f'let tag = tag_field(alloc, &mut fields, "{self.tag}")?;', "match tag.as_str() {", *arms,
-             '_ => Err(Error::custom(alloc, "unknown variant")),', "}"])]
+             self.unknown(), "}"])]
 
     def deserialize(self) -> List[str]:
         name = codes(self.item.wire)

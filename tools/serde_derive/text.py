@@ -15,6 +15,11 @@ def codes(name: str) -> str:
     return f'(codes "{name}")'
 
 
+def listed(names: List[str]) -> str:
+    """Names as a list of contracts."""
+    return "(" + " ∷ ".join([codes(name)[1:-1] for name in names] + ["[]"]) + ")"
+
+
 def quoted(named: list) -> str:
     return ", ".join(f'"{one.wire}"' for one in named)
 

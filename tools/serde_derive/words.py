@@ -42,7 +42,7 @@ content_de.specs.Reads.Attempts IsTakenAs or_next
 content_de.specs.Reads.ByName read_by_name named_then named_or_then others_skipped no_others
 content_de.specs.Reads.ByName ReadByName NamedThen NamedOrThen NoOthers
 content_de.specs.Reads.Tagged tag_then TagThen
-content_de.specs.Reads.Own enum_refusal variant_or no_variant EnumGives
+content_de.specs.Reads.Own enum_refusal variant_or no_variant_of EnumGives
 content_de.specs.Reads.Own {' '.join(f'{s}_refusal {pascal(s)}Gives' for s in STYLES)}
 serde_content.specs.RoundTrip ComesBack CoercionKeeps flags under
 serde_content.specs.Laws.Leaves heedless_keeps natural_keeps integer_keeps
@@ -76,7 +76,7 @@ std.specs.declared.collections.BTreeMap BTreeMap
 USES = {
     "serde_content": "CowStr Deserializer Error Result RoundTrip",
     "serde_content::de": "Deserialize FieldsByName attempt end_fields field_or named_field next_part"
-                         " skip_fields tag_field",
+                         " skip_fields tag_field unknown_variant",
     "serde_content::ser": "Call Parts Serialize Serializer",
     "std::alloc": "Global",
     "std::collections": "BTreeMap",

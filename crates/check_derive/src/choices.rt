@@ -22,7 +22,8 @@ ghost use Rattle.content_de.specs.Reads.ByName.{read_by_name, named_then, named_
 ghost use Rattle.content_de.specs.Reads.ByName.{others_skipped, ReadByName, NamedThen, NamedOrThen};
 ghost use Rattle.content_de.specs.Reads.ByName.{NoOthers};
 ghost use Rattle.content_de.specs.Reads.Tagged.{tag_then, TagThen};
-ghost use Rattle.content_de.specs.Reads.Own.{variant_or, no_variant, struct_refusal, StructGives};
+ghost use Rattle.content_de.specs.Reads.Own.{variant_or, no_variant_of, struct_refusal};
+ghost use Rattle.content_de.specs.Reads.Own.{StructGives};
 ghost use Rattle.serde_content.specs.RoundTrip.{ComesBack, CoercionKeeps, flags, under};
 ghost use Rattle.serde_content.specs.Laws.Leaves.{heedless_keeps, natural_keeps, integer_keeps};
 ghost use Rattle.serde_content.specs.Laws.Leaves.{bool_back, text_back, u8_back, i32_back};
@@ -47,6 +48,7 @@ ghost use Rattle.check_derive.specs.declared.choices.Setting.TheVariants as sett
 
 use serde_content::de::{
     Deserialize, FieldsByName, attempt, field_or, named_field, skip_fields, tag_field,
+    unknown_variant,
 };
 use serde_content::ser::{Call, Parts, Serialize, Serializer};
 use serde_content::{Deserializer, Error, Result, RoundTrip};
@@ -126,7 +128,7 @@ fn read_command<'de, 'n: 'de>(alloc: Global, mut fields: FieldsByName<'de, 'n>) 
         (named_then (codes "x") (⟦<i32 as Deserialize<'de>>⟧.refusal)
         (named_or_then (codes "y") (⟦<Option<i32> as Deserialize<'de>>⟧.refusal)
         (others_skipped (codes "kind" ∷ codes "x" ∷ codes "y" ∷ []))))
-        no_variant))
+        (no_variant_of (codes "stop" ∷ codes "move" ∷ []))))
         (fields_left fields.entry))
         (elim [
           | command.Stop ↦ TagThen (codes "kind") (codes "stop")
@@ -148,7 +150,7 @@ fn read_command<'de, 'n: 'de>(alloc: Global, mut fields: FieldsByName<'de, 'n>) 
             let (x, y) = read_command_move(alloc, fields)?;
             Ok(make_command_move(x, y))
         }
-        _ => Err(Error::custom(alloc, "unknown variant")),
+        tag => Err(unknown_variant(alloc, tag, &["stop", "move"])),
     }
 }
 
@@ -193,7 +195,7 @@ impl<'de> Deserialize<'de> for Command {
         (named_then (codes "x") (⟦<i32 as Deserialize<'de>>⟧.refusal)
         (named_or_then (codes "y") (⟦<Option<i32> as Deserialize<'de>>⟧.refusal)
         (others_skipped (codes "kind" ∷ codes "x" ∷ codes "y" ∷ []))))
-        no_variant)))) };
+        (no_variant_of (codes "stop" ∷ codes "move" ∷ [])))))) };
 
     ghost gives = { λ s. elim [
       | command.Stop ↦ StructGives (codes "Command") (ReadByName
@@ -267,7 +269,7 @@ impl<'de> RoundTrip<'de> for Command {
             (named_then (codes "x") (⟦<i32 as Deserialize<'de>>⟧.refusal)
             (named_or_then (codes "y") (⟦<Option<i32> as Deserialize<'de>>⟧.refusal)
             (others_skipped (codes "kind" ∷ codes "x" ∷ codes "y" ∷ []))))
-            no_variant)) (λ f. refl)
+            (no_variant_of (codes "stop" ∷ codes "move" ∷ [])))) (λ f. refl)
             (skipped_keeps {Y = Unit {0}} (codes "kind" ∷ []))))).of_origin o people tt
             (record { free = p.free; given = p.given }) in
             record { free = q.free; given = q.given }
@@ -280,7 +282,7 @@ impl<'de> RoundTrip<'de> for Command {
             (named_then (codes "x") (⟦<i32 as Deserialize<'de>>⟧.refusal)
             (named_or_then (codes "y") (⟦<Option<i32> as Deserialize<'de>>⟧.refusal)
             (others_skipped (codes "kind" ∷ codes "x" ∷ codes "y" ∷ []))))
-            no_variant)) (λ f. refl)
+            (no_variant_of (codes "stop" ∷ codes "move" ∷ [])))) (λ f. refl)
             (named_keeps (codes "x") (λ (z : ℤ × (Option ℤ)). z.0) (integer_keeps kind.i32)
             (named_or_keeps (codes "y") (λ (x : (Option ℤ)). x ≡ None)
             (λ (z : ℤ × (Option ℤ)). z.1)

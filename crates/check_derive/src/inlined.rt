@@ -16,7 +16,8 @@ ghost use Rattle.content_de.specs.Reads.ByName.{read_by_name, named_then, named_
 ghost use Rattle.content_de.specs.Reads.ByName.{others_skipped, ReadByName, NamedThen, NamedOrThen};
 ghost use Rattle.content_de.specs.Reads.ByName.{NoOthers};
 ghost use Rattle.content_de.specs.Reads.Tagged.{tag_then, TagThen};
-ghost use Rattle.content_de.specs.Reads.Own.{variant_or, no_variant, struct_refusal, StructGives};
+ghost use Rattle.content_de.specs.Reads.Own.{variant_or, no_variant_of, struct_refusal};
+ghost use Rattle.content_de.specs.Reads.Own.{StructGives};
 ghost use Rattle.serde_content.specs.RoundTrip.{ComesBack, CoercionKeeps};
 ghost use Rattle.serde_content.specs.Laws.Leaves.{heedless_keeps, natural_keeps, integer_keeps};
 ghost use Rattle.serde_content.specs.Laws.Leaves.{text_back, u64_back, i32_back};
@@ -39,9 +40,11 @@ ghost use Rattle.std.specs.declared.string.String.{String};
 ghost use Rattle.content_tree.specs.Values.Ranges as kind;
 ghost use Rattle.check_derive.specs.declared.inlined.Change.TheVariants as change;
 
-use serde_content::de::{Deserialize, FieldsByName, field_or, named_field, skip_fields, tag_field};
+use serde_content::de::{
+    Deserialize, FieldsByName, field_or, named_field, skip_fields, tag_field, unknown_variant,
+};
 use serde_content::ser::{Call, Parts, Serialize, Serializer};
-use serde_content::{Deserializer, Error, Result, RoundTrip};
+use serde_content::{Deserializer, Result, RoundTrip};
 use std::alloc::Global;
 
 /// How much of something.
@@ -392,7 +395,7 @@ fn read_change<'de, 'n: 'de>(alloc: Global, mut fields: FieldsByName<'de, 'n>) -
         (named_then (codes "count") (⟦<i32 as Deserialize<'de>>⟧.refusal)
         (named_or_then (codes "unit") (⟦<Option<String> as Deserialize<'de>>⟧.refusal)
         (others_skipped (codes "op" ∷ codes "count" ∷ codes "unit" ∷ []))))
-        no_variant))
+        (no_variant_of (codes "clear" ∷ codes "add" ∷ []))))
         (fields_left fields.entry))
         (elim [
           | change.Clear ↦ TagThen (codes "op") (codes "clear")
@@ -414,7 +417,7 @@ fn read_change<'de, 'n: 'de>(alloc: Global, mut fields: FieldsByName<'de, 'n>) -
             let x1 = read_change_add(alloc, fields)?;
             Ok(Change::Add(x1))
         }
-        _ => Err(Error::custom(alloc, "unknown variant")),
+        tag => Err(unknown_variant(alloc, tag, &["clear", "add"])),
     }
 }
 
@@ -458,7 +461,7 @@ impl<'de> Deserialize<'de> for Change {
         (named_then (codes "count") (⟦<i32 as Deserialize<'de>>⟧.refusal)
         (named_or_then (codes "unit") (⟦<Option<String> as Deserialize<'de>>⟧.refusal)
         (others_skipped (codes "op" ∷ codes "count" ∷ codes "unit" ∷ []))))
-        no_variant)))) };
+        (no_variant_of (codes "clear" ∷ codes "add" ∷ [])))))) };
 
     ghost gives = { λ s. elim [
       | change.Clear ↦ StructGives (codes "Change") (ReadByName
@@ -533,7 +536,7 @@ impl<'de> RoundTrip<'de> for Change {
             (named_then (codes "count") (⟦<i32 as Deserialize<'de>>⟧.refusal)
             (named_or_then (codes "unit") (⟦<Option<String> as Deserialize<'de>>⟧.refusal)
             (others_skipped (codes "op" ∷ codes "count" ∷ codes "unit" ∷ []))))
-            no_variant)) (λ f. refl)
+            (no_variant_of (codes "clear" ∷ codes "add" ∷ [])))) (λ f. refl)
             (skipped_keeps {Y = Unit {0}} (codes "op" ∷ []))))).of_origin o people tt
             (record { free = p.free; given = p.given }) in
             record { free = q.free; given = q.given }
@@ -546,7 +549,7 @@ impl<'de> RoundTrip<'de> for Change {
             (named_then (codes "count") (⟦<i32 as Deserialize<'de>>⟧.refusal)
             (named_or_then (codes "unit") (⟦<Option<String> as Deserialize<'de>>⟧.refusal)
             (others_skipped (codes "op" ∷ codes "count" ∷ codes "unit" ∷ []))))
-            no_variant)) (λ f. refl)
+            (no_variant_of (codes "clear" ∷ codes "add" ∷ [])))) (λ f. refl)
             (named_keeps (codes "count") (λ (z : ℤ × (Option (String Global))). z.0)
             (integer_keeps kind.i32)
             (named_or_keeps (codes "unit") (λ (x : (Option (String Global))). x ≡ None)

@@ -21,7 +21,7 @@ ghost use Rattle.content_de.specs.Reads.Read.{Reads};
 ghost use Rattle.content_de.specs.Reads.ByName.{read_by_name, named_then, others_skipped};
 ghost use Rattle.content_de.specs.Reads.ByName.{ReadByName, NamedThen, NoOthers};
 ghost use Rattle.content_de.specs.Reads.Tagged.{tag_then, TagThen};
-ghost use Rattle.content_de.specs.Reads.Own.{variant_or, no_variant, unit_struct_refusal};
+ghost use Rattle.content_de.specs.Reads.Own.{variant_or, no_variant_of, unit_struct_refusal};
 ghost use Rattle.content_de.specs.Reads.Own.{newtype_struct_refusal, NewtypeStructGives};
 ghost use Rattle.content_de.specs.Reads.Own.{tuple_struct_refusal, TupleStructGives};
 ghost use Rattle.content_de.specs.Reads.Own.{struct_refusal, StructGives};
@@ -49,10 +49,10 @@ ghost use Rattle.check_derive.specs.declared.sorts.Message.TheVariants as messag
 
 use crate::types::Place;
 use serde_content::de::{
-    Deserialize, FieldsByName, named_field, next_part, skip_fields, tag_field,
+    Deserialize, FieldsByName, named_field, next_part, skip_fields, tag_field, unknown_variant,
 };
 use serde_content::ser::{Call, Parts, Serialize, Serializer};
-use serde_content::{Deserializer, Error, Result, RoundTrip};
+use serde_content::{Deserializer, Result, RoundTrip};
 use std::alloc::Global;
 use std::collections::BTreeMap;
 
@@ -305,7 +305,7 @@ fn read_message<'de, 'n: 'de>(alloc: Global, mut fields: FieldsByName<'de, 'n>) 
         (variant_or (codes "Text")
         (named_then (codes "c") (⟦<String as Deserialize<'de>>⟧.refusal)
         (others_skipped (codes "t" ∷ codes "c" ∷ [])))
-        no_variant))
+        (no_variant_of (codes "Ping" ∷ codes "Text" ∷ []))))
         (fields_left fields.entry))
         (elim [
           | message.Ping ↦ TagThen (codes "t") (codes "Ping")
@@ -325,7 +325,7 @@ fn read_message<'de, 'n: 'de>(alloc: Global, mut fields: FieldsByName<'de, 'n>) 
             let x1 = read_message_text(alloc, fields)?;
             Ok(Message::Text(x1))
         }
-        _ => Err(Error::custom(alloc, "unknown variant")),
+        tag => Err(unknown_variant(alloc, tag, &["Ping", "Text"])),
     }
 }
 
@@ -369,7 +369,7 @@ impl<'de> Deserialize<'de> for Message {
         (variant_or (codes "Text")
         (named_then (codes "c") (⟦<String as Deserialize<'de>>⟧.refusal)
         (others_skipped (codes "t" ∷ codes "c" ∷ [])))
-        no_variant)))) };
+        (no_variant_of (codes "Ping" ∷ codes "Text" ∷ [])))))) };
 
     ghost gives = { λ s. elim [
       | message.Ping ↦ StructGives (codes "Message") (ReadByName
@@ -420,7 +420,7 @@ impl<'de> RoundTrip<'de> for Message {
             (variant_or (codes "Text")
             (named_then (codes "c") (⟦<String as Deserialize<'de>>⟧.refusal)
             (others_skipped (codes "t" ∷ codes "c" ∷ [])))
-            no_variant)) (λ f. refl)
+            (no_variant_of (codes "Ping" ∷ codes "Text" ∷ [])))) (λ f. refl)
             (skipped_keeps {Y = Unit {0}} (codes "t" ∷ []))))).of_origin o people tt
             (record { free = p.free; given = p.given }) in
             record { free = q.free; given = q.given }
@@ -432,7 +432,7 @@ impl<'de> RoundTrip<'de> for Message {
             (variant_or (codes "Text")
             (named_then (codes "c") (⟦<String as Deserialize<'de>>⟧.refusal)
             (others_skipped (codes "t" ∷ codes "c" ∷ [])))
-            no_variant)) (λ f. refl)
+            (no_variant_of (codes "Ping" ∷ codes "Text" ∷ [])))) (λ f. refl)
             (named_keeps (codes "c") (λ (z : (String Global)). z)
             (heedless_keeps (λ o. refusal_of (text_from o))
             (λ o (x : String Global). IsTaken (text_from o) (HasContent (string_bytes x))))

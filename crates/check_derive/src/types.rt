@@ -26,7 +26,7 @@ ghost use Rattle.content_de.specs.Reads.Read.{Reads};
 ghost use Rattle.content_de.specs.Reads.ByName.{read_by_name, named_then, named_or_then};
 ghost use Rattle.content_de.specs.Reads.ByName.{others_skipped, no_others, ReadByName, NamedThen};
 ghost use Rattle.content_de.specs.Reads.ByName.{NamedOrThen, NoOthers};
-ghost use Rattle.content_de.specs.Reads.Own.{enum_refusal, variant_or, no_variant, EnumGives};
+ghost use Rattle.content_de.specs.Reads.Own.{enum_refusal, variant_or, no_variant_of, EnumGives};
 ghost use Rattle.content_de.specs.Reads.Own.{unit_variant_refusal, UnitVariantGives};
 ghost use Rattle.content_de.specs.Reads.Own.{newtype_variant_refusal, NewtypeVariantGives};
 ghost use Rattle.content_de.specs.Reads.Own.{tuple_variant_refusal, TupleVariantGives};
@@ -63,9 +63,10 @@ ghost use Rattle.check_derive.specs.declared.types.Step.TheVariants as step;
 
 use serde_content::de::{
     Deserialize, FieldsByName, end_fields, field_or, named_field, next_part, skip_fields,
+    unknown_variant,
 };
 use serde_content::ser::{Call, Parts, Serialize, Serializer};
-use serde_content::{CowStr, Deserializer, Error, Result, RoundTrip};
+use serde_content::{CowStr, Deserializer, Result, RoundTrip};
 use std::alloc::Global;
 use std::collections::BTreeMap;
 
@@ -275,7 +276,8 @@ impl<'de> Deserialize<'de> for Step {
         (named_then (codes "with") (⟦<String as Deserialize<'de>>⟧.refusal)
         (named_then (codes "at") (⟦<Place as Deserialize<'de>>⟧.refusal)
         (others_skipped (codes "with" ∷ codes "at" ∷ []))))))
-        no_variant)))) };
+        (no_variant_of (codes "open" ∷ codes "weighed" ∷ codes "moved-by" ∷ codes "left" ∷
+        [])))))) };
 
     ghost gives = { λ s. elim [
       | step.Open ↦ EnumGives (codes "Step") (codes "open") UnitVariantGives s
@@ -316,7 +318,7 @@ impl<'de> Deserialize<'de> for Step {
                 let (with, place) = read_step_left(alloc, fields)?;
                 Ok(Step::Left { with, place })
             }
-            _ => Err(Error::custom(alloc, "unknown variant")),
+            tag => Err(unknown_variant(alloc, tag, &["open", "weighed", "moved-by", "left"])),
         }
     }
 }

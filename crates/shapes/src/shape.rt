@@ -1,17 +1,17 @@
 //! An enum.
 
-ghost use Rattle.std.specs.Prelude.{codes, refl};
+ghost use Rattle.std.specs.Prelude.{◌∷◌, [], codes, refl};
 ghost use Rattle.content_ser.specs.Laws.StandardScripts.{leaf_lawful};
 ghost use Rattle.content_ser.specs.Laws.OwnScripts.{newtype_variant_lawful, unit_variant_lawful};
 ghost use Rattle.content_ser.specs.Scripts.Own.{newtype_variant_script, unit_variant_script};
-ghost use Rattle.content_de.specs.Reads.Own.{enum_refusal, variant_or, no_variant, EnumGives};
+ghost use Rattle.content_de.specs.Reads.Own.{enum_refusal, variant_or, no_variant_of, EnumGives};
 ghost use Rattle.content_de.specs.Reads.Own.{unit_variant_refusal, UnitVariantGives};
 ghost use Rattle.content_de.specs.Reads.Own.{newtype_variant_refusal, NewtypeVariantGives};
 ghost use Rattle.shapes.specs.declared.shape.Shape.TheVariants as shape;
 
-use serde_content::de::Deserialize;
+use serde_content::de::{Deserialize, unknown_variant};
 use serde_content::ser::{Call, Parts, Serialize, Serializer};
-use serde_content::{CowStr, Deserializer, Error, Result};
+use serde_content::{CowStr, Deserializer, Result};
 use std::alloc::Global;
 
 /// An enum of two variants.
@@ -50,7 +50,7 @@ impl<'de> Deserialize<'de> for Shape {
     ghost refusal = { enum_refusal (codes "Shape")
         (variant_or (codes "Dot") unit_variant_refusal
         (variant_or (codes "Ring") (newtype_variant_refusal (⟦<u32 as Deserialize<'de>>⟧.refusal))
-        no_variant)) };
+        (no_variant_of (codes "Dot" ∷ codes "Ring" ∷ [])))) };
 
     ghost gives = { λ s. elim [
       | shape.Dot ↦ EnumGives (codes "Shape") (codes "Dot") UnitVariantGives s
@@ -67,7 +67,7 @@ impl<'de> Deserialize<'de> for Shape {
                 Ok(Shape::Dot)
             }
             "Ring" => Ok(Shape::Ring(variant.newtype_variant(alloc)?)),
-            _ => Err(Error::custom(alloc, "unknown variant")),
+            tag => Err(unknown_variant(alloc, tag, &["Dot", "Ring"])),
         }
     }
 }
