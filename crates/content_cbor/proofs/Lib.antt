@@ -1,3 +1,4 @@
 pub mod Signs
 pub mod Writing
 pub mod HandedOn
+pub mod Read

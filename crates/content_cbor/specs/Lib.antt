@@ -2,3 +2,7 @@
 pub mod Heads
 pub mod Item
 pub mod Encoded
+pub mod Codes
+pub mod Inner
+pub mod Decoded
+pub mod PrintedFault

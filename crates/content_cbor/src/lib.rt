@@ -2,10 +2,18 @@
 
 #![tactic(auto)]
 
-pub use encoding::{encode, to_bytes};
-
+mod decode_error;
+mod decoding;
 mod encoding;
 mod heads;
 mod leaves;
+mod numbers;
+mod stop;
+mod strings;
+
+pub use decode_error::{DecodeError, Fault};
+pub use decoding::decode;
+pub use encoding::{encode, to_bytes};
+
 #[cfg(test)]
 mod tests;

@@ -1,7 +1,7 @@
 //! Values beside the bytes that RFC 8949 gives for them in its appendix A, and those of structs,
 //! variants and options, worked by hand.
 
-use crate::{encode, to_bytes};
+use crate::{decode, encode, to_bytes};
 use content_tree::{CowBytes, CowStr, Data, Enum, Number, Result as Answer, Struct, Value};
 use std::alloc::Global;
 use std::fmt::Write;
@@ -144,6 +144,11 @@ fn bytes_of_values(rt: HostRuntime) -> Result<(), Fail> {
         0xa2, 0x61, b'a', 0x01, 0x61, b'b', 0x82, 0x02, 0x19, 0x01, 0x2c,
     ];
     assert!(rt; bytes.as_slice() == wanted.as_slice());
+
+    // And back.
+    let value = decode(alloc, &[0x82, 0x01, 0x61, b'a'], 16)?;
+    let wanted = Value::Seq(vec![in alloc; Value::from(1u64), Value::from("a")]?);
+    assert!(rt; value == wanted);
 
     // What can be serialised.
     let bytes = to_bytes(alloc, &(Some(7u8), 'a', false))?;

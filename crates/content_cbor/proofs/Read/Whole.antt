@@ -1,0 +1,195 @@
+-- What codes a tree is read as it.
+use Rattle.std.proofs.Common.{◌≡◌, ℕ, suc, zero, ◌+◌, ◌<◌, ◌^◌, ℤ, pos, negsuc, Bool, true, false, cond, eqb, List, [], ◌∷◌, ◌++◌, length, Option, Some, None, Result, Ok, Err, ◌⊎◌, refl, sym, ap, subst, ◌∙◌, append_assoc, append-nil, arith, length-append, inl, inr}
+use Rattle.std.specs.Int.Digits.{number_from_digits}
+use Rattle.std.proofs.lemmas.Bool.{eqb-true}
+use Rattle.std.proofs.lemmas.List.{nil_from_length}
+use Rattle.content_tree.specs.Values.Text.{Text}
+use Rattle.content_tree.specs.Values.Tree as tree
+use Rattle.content_tree.specs.Values.Tree.{Tree}
+use Rattle.content_tree.specs.Values.Value.{trees_of, pairs_of}
+use Rattle.content_tree.specs.declared.number.Number.{Number}
+use Rattle.content_cbor.specs.Heads.{first_byte}
+use Rattle.content_cbor.specs.Codes.{Codes, Each, IsHead, IsInteger, IsItem, IsPair, IsString, Open, Parts, number_of}
+use Rattle.content_cbor.specs.declared.decode_error.Fault.TheVariants as fault
+use Rattle.content_cbor.specs.declared.heads.Head.{Head}
+use Rattle.content_cbor.specs.declared.heads.Major.{Major}
+use Rattle.content_cbor.specs.declared.heads.Major.TheVariants as major
+use Rattle.content_cbor.specs.declared.stop.Refusal.{Refusal}
+use Rattle.content_cbor.specs.declared.stop.Stop.{Stop}
+use Rattle.content_cbor.specs.declared.stop.Stop.TheVariants as stop
+use Rattle.content_cbor.specs.Inner.Reading.{◌>>=◌, Reader, Fails, at_break, each_at, head_at, inside_at, is_simple, item_at, leaf_at, pair_at, parts_at, refused, string_at, tag_at, until_at, whole_at}
+use Rattle.content_cbor.proofs.Read.Steps.{ok_is, bind_ok, failed}
+use Rattle.content_cbor.proofs.Read.Took.{IsBytes, Complete}
+use Rattle.content_cbor.proofs.Read.Parts.{Begins, each_complete, until_complete}
+use Rattle.content_cbor.proofs.Read.Heads.{head_again, opening_again, simple_again}
+use Rattle.content_cbor.proofs.Read.Strings.{string_complete, string_apart, string_begins, head_begins, opening_begins}
+use Rattle.content_cbor.proofs.Read.Tags.{unsigned_again, negative_again}
+use Rattle.content_cbor.proofs.Read.Items.{item_sound, pair_complete, pair_begins}
+
+-- ---- no item begins as a break does
+
+integer_begins : (z : ℤ) (bs rest : List ℕ) → IsInteger z bs → (0 < length bs) × (at_break (bs ++ rest) ≡ false)
+integer_begins (pos n) bs rest (inl w) = head_begins major.Unsigned n bs rest w
+integer_begins (negsuc n) bs rest (inl w) = head_begins major.Negative n bs rest w
+integer_begins (pos n) bs rest (inr w) =
+    let u = w.1 in
+    let split : bs ++ rest ≡ u.0 ++ (u.1 ++ rest) = ap (λ f. f ++ rest) u.6 ∙ append_assoc u.0 u.1 rest in
+    let b = head_begins major.Tag 2 u.0 (u.1 ++ rest) u.3 in
+    (omega (arith, b.0, ap length u.6, length-append u.0 u.1), ap at_break split ∙ b.1)
+integer_begins (negsuc n) bs rest (inr w) =
+    let u = w.1 in
+    let split : bs ++ rest ≡ u.0 ++ (u.1 ++ rest) = ap (λ f. f ++ rest) u.6 ∙ append_assoc u.0 u.1 rest in
+    let b = head_begins major.Tag 3 u.0 (u.1 ++ rest) u.3 in
+    (omega (arith, b.0, ap length u.6, length-append u.0 u.1), ap at_break split ∙ b.1)
+
+parts_begin : {A : Type 0} (Part : A → List ℕ → Type 0) (m : Major) → is_simple m ≡ false → (xs : List A) (bs rest : List ℕ) → Parts m Part xs bs
+    → (0 < length bs) × (at_break (bs ++ rest) ≡ false)
+parts_begin Part m simple xs bs rest (inl w) =
+    let split : bs ++ rest ≡ w.0 ++ (w.1 ++ rest) = ap (λ f. f ++ rest) w.4 ∙ append_assoc w.0 w.1 rest in
+    let b = head_begins m (length xs) w.0 (w.1 ++ rest) w.2 in
+    (omega (arith, b.0, ap length w.4, length-append w.0 w.1), ap at_break split ∙ b.1)
+parts_begin Part m simple xs bs rest (inr w) =
+    (omega (arith, ap length w.2), ap (λ f. at_break (f ++ rest)) w.2 ∙ opening_begins m ((w.0 ++ (255 ∷ [])) ++ rest) simple)
+
+one_byte_begins : (b : ℕ) (bs rest : List ℕ) → eqb b 255 ≡ false → bs ≡ b ∷ [] → (0 < length bs) × (at_break (bs ++ rest) ≡ false)
+one_byte_begins b bs rest other is = (omega (arith, ap length is), ap (λ f. at_break (f ++ rest)) is ∙ other)
+
+item_begins : (limit : ℕ) → Begins (Codes limit)
+item_begins zero t bs rest is = absurd is
+item_begins (suc limit) tree.absent bs rest is = one_byte_begins 246 bs rest refl is
+item_begins (suc limit) (tree.boolean true) bs rest is = one_byte_begins 245 bs rest refl is
+item_begins (suc limit) (tree.boolean false) bs rest is = one_byte_begins 244 bs rest refl is
+item_begins (suc limit) (tree.number n) bs rest is = integer_begins is.0 bs rest is.2
+item_begins (suc limit) (tree.text x) bs rest is = string_begins true x bs rest is
+item_begins (suc limit) (tree.octets x) bs rest is = string_begins false x bs rest is
+item_begins (suc limit) (tree.seq ts) bs rest is = parts_begin (Codes limit) major.Array refl is.0 bs rest is.2
+item_begins (suc limit) (tree.map ps) bs rest is = parts_begin (IsPair (Codes limit)) major.Map refl is.0 bs rest is.2
+item_begins (suc limit) tree.unit bs rest is = absurd is
+item_begins (suc limit) (tree.character c) bs rest is = absurd is
+item_begins (suc limit) (tree.present t) bs rest is = absurd is
+item_begins (suc limit) (tree.structure n d) bs rest is = absurd is
+item_begins (suc limit) (tree.enumeration n i v d) bs rest is = absurd is
+item_begins (suc limit) (tree.tuple ts) bs rest is = absurd is
+
+-- ---- parts
+
+-- where nothing may stand inside, no part does
+abbrev Room : {A : Type 0} → (A → List ℕ → Type 0) → ℕ → Type 0
+Room {A} Part limit = (x : A) (bs : List ℕ) → limit ≡ 0 → Part x bs → ⊥
+
+room : (limit : ℕ) → Room (Codes limit) limit
+room zero t bs none is = is
+room (suc limit) t bs none is = absurd cc
+
+pair_room : (limit : ℕ) → Room (IsPair (Codes limit)) limit
+pair_room limit p bs none is = room limit p.0 is.0 none is.2
+
+each_again : {A : Type 0} (Part : A → List ℕ → Type 0) (read : Reader A) → Complete Part read → (limit : ℕ) → Room Part limit
+    → (from : List ℕ) (xs : List A) (body rest : List ℕ) → Each Part xs body → parts_at read limit from (Some (length xs)) (body ++ rest) ≡ Ok (xs, rest)
+unfolding parts_at
+each_again Part read complete zero none from [] body rest is = each_complete Part read complete [] body rest is
+each_again Part read complete zero none from (x ∷ xs) body rest is = absurd (none x is.0 refl is.2)
+each_again Part read complete (suc limit) none from xs body rest is = each_complete Part read complete xs body rest is
+
+until_again : {A : Type 0} (Part : A → List ℕ → Type 0) (read : Reader A) → Complete Part read → Begins Part → (limit : ℕ) (from : List ℕ)
+    (xs : List A) (body rest : List ℕ) → Each Part xs body → parts_at read limit from None (body ++ (255 ∷ rest)) ≡ Ok (xs, rest)
+unfolding parts_at
+until_again Part read complete begins limit from xs body rest is =
+    until_complete Part read complete begins xs body rest (length (body ++ (255 ∷ rest))) is (omega (arith, length-append body (255 ∷ rest)))
+
+-- a head, and behind it parts
+abbrev Apart : {A : Type 0} → (A → List ℕ → Type 0) → Reader A → ℕ → Major → List A → List ℕ → List ℕ → Type 0
+Apart Part read limit m xs bs rest = (o : Option ℕ) × (after : List ℕ) × (head_at (bs ++ rest) ≡ Ok (record { «major» = m; number = o }, after))
+    × (parts_at read limit (bs ++ rest) o after ≡ Ok (xs, rest))
+
+parts_apart : {A : Type 0} (Part : A → List ℕ → Type 0) (read : Reader A) → Complete Part read → Begins Part → (limit : ℕ) → Room Part limit
+    → (m : Major) → is_simple m ≡ false → (xs : List A) (bs rest : List ℕ) → Parts m Part xs bs → Apart Part read limit m xs bs rest
+parts_apart Part read complete begins limit none m simple xs bs rest (inl w) =
+    let split : bs ++ rest ≡ w.0 ++ (w.1 ++ rest) = ap (λ f. f ++ rest) w.4 ∙ append_assoc w.0 w.1 rest in
+    (Some (length xs), w.1 ++ rest, ap head_at split ∙ head_again m (length xs) w.0 (w.1 ++ rest) simple w.2, each_again Part read complete limit none (bs ++ rest) xs w.1 rest w.3)
+parts_apart Part read complete begins limit none m simple xs bs rest (inr w) =
+    let split : bs ++ rest ≡ first_byte m 31 ∷ (w.0 ++ (255 ∷ rest)) = ap (λ f. f ++ rest) w.2 ∙ ap (λ f. first_byte m 31 ∷ f) (append_assoc w.0 (255 ∷ []) rest) in
+    (None, w.0 ++ (255 ∷ rest), ap head_at split ∙ opening_again m (w.0 ++ (255 ∷ rest)), until_again Part read complete begins limit (bs ++ rest) xs w.0 rest w.1)
+
+-- ---- items
+
+-- behind its head, what stands there is read
+behind : (limit : ℕ) (m : Major) (o : Option ℕ) (bs after : List ℕ) → head_at bs ≡ Ok (record { «major» = m; number = o }, after)
+    → item_at (suc limit) bs ≡ inside_at (item_at limit) limit bs m o after
+unfolding item_at
+behind limit m o bs after is = rw is refl
+
+integer_again : (limit : ℕ) (z : ℤ) (bs rest : List ℕ) → IsInteger z bs → item_at (suc limit) (bs ++ rest) ≡ Ok (tree.number (number_of z), rest)
+unfolding leaf_at
+integer_again limit (pos n) bs rest (inl w) = behind limit major.Unsigned (Some n) (bs ++ rest) rest (head_again major.Unsigned n bs rest refl w)
+integer_again limit (negsuc n) bs rest (inl w) = behind limit major.Negative (Some n) (bs ++ rest) rest (head_again major.Negative n bs rest refl w)
+integer_again limit (pos n) bs rest (inr w) =
+    let u = w.1 in
+    let split : bs ++ rest ≡ u.0 ++ (u.1 ++ rest) = ap (λ f. f ++ rest) u.6 ∙ append_assoc u.0 u.1 rest in
+    behind limit major.Tag (Some 2) (bs ++ rest) (u.1 ++ rest) (ap head_at split ∙ head_again major.Tag 2 u.0 (u.1 ++ rest) refl u.3)
+    ∙ rw (unsigned_again n (bs ++ rest) u.1 rest u.2 w.0 u.4 u.5) refl
+integer_again limit (negsuc n) bs rest (inr w) =
+    let u = w.1 in
+    let split : bs ++ rest ≡ u.0 ++ (u.1 ++ rest) = ap (λ f. f ++ rest) u.6 ∙ append_assoc u.0 u.1 rest in
+    behind limit major.Tag (Some 3) (bs ++ rest) (u.1 ++ rest) (ap head_at split ∙ head_again major.Tag 3 u.0 (u.1 ++ rest) refl u.3)
+    ∙ rw (negative_again n (bs ++ rest) u.1 rest u.2 w.0 u.4 u.5) refl
+
+simple_item : (limit n : ℕ) (t : Tree) (bs rest : List ℕ) → n < 24 → bs ≡ first_byte major.Simple n ∷ [] → leaf_at (bs ++ rest) major.Simple (Some n) rest ≡ Ok (t, rest)
+    → item_at (suc limit) (bs ++ rest) ≡ Ok (t, rest)
+simple_item limit n t bs rest lt is leaf = behind limit major.Simple (Some n) (bs ++ rest) rest (ap (λ f. head_at (f ++ rest)) is ∙ simple_again n rest lt) ∙ leaf
+
+pub item_complete : (limit : ℕ) → Complete (Codes limit) (item_at limit)
+unfolding leaf_at
+item_complete zero t bs rest is = absurd is
+item_complete (suc limit) tree.absent bs rest is = simple_item limit 22 tree.absent bs rest (omega arith) is refl
+item_complete (suc limit) (tree.boolean true) bs rest is = simple_item limit 21 (tree.boolean true) bs rest (omega arith) is refl
+item_complete (suc limit) (tree.boolean false) bs rest is = simple_item limit 20 (tree.boolean false) bs rest (omega arith) is refl
+item_complete (suc limit) (tree.number n) bs rest is = integer_again limit is.0 bs rest is.2 ∙ ap (λ k. Ok (tree.number k, rest)) (sym is.1)
+item_complete (suc limit) (tree.text x) bs rest is =
+    let p = string_apart true x bs rest is in
+    behind limit major.Text p.0 (bs ++ rest) (p.1 ++ rest) p.2 ∙ rw (string_complete true p.0 x p.1 rest p.3) refl
+item_complete (suc limit) (tree.octets x) bs rest is =
+    let p = string_apart false x bs rest is in
+    behind limit major.Bytes p.0 (bs ++ rest) (p.1 ++ rest) p.2 ∙ rw (string_complete false p.0 x p.1 rest p.3) refl
+item_complete (suc limit) (tree.seq ts) bs rest is =
+    let p = parts_apart (Codes limit) (item_at limit) (item_complete limit) (item_begins limit) limit (room limit) major.Array refl is.0 bs rest is.2 in
+    behind limit major.Array p.0 (bs ++ rest) p.1 p.2 ∙ rw p.3 (ap (λ u. Ok (tree.seq u, rest)) (sym is.1))
+item_complete (suc limit) (tree.map ps) bs rest is =
+    let p = parts_apart (IsPair (Codes limit)) (pair_at (item_at limit)) (pair_complete (Codes limit) (item_at limit) (item_complete limit)) (pair_begins (Codes limit) (item_begins limit))
+    limit (pair_room limit) major.Map refl is.0 bs rest is.2 in
+    behind limit major.Map p.0 (bs ++ rest) p.1 p.2 ∙ rw p.3 (ap (λ u. Ok (tree.map u, rest)) (sym is.1))
+item_complete (suc limit) tree.unit bs rest is = absurd is
+item_complete (suc limit) (tree.character c) bs rest is = absurd is
+item_complete (suc limit) (tree.present t) bs rest is = absurd is
+item_complete (suc limit) (tree.structure n d) bs rest is = absurd is
+item_complete (suc limit) (tree.enumeration n i v d) bs rest is = absurd is
+item_complete (suc limit) (tree.tuple ts) bs rest is = absurd is
+
+-- ---- whole
+
+pub whole_sound : (limit : ℕ) (bs : List ℕ) (t : Tree) → IsBytes bs → whole_at limit bs ≡ Ok t → Codes limit t bs
+unfolding whole_at
+whole_sound limit bs t fits e =
+    let a = bind_ok (item_at limit bs) (λ x. cond (eqb (length x.1) 0) (Ok x.0) (refused fault.Trailing x.1)) t e in
+    let g = failed (eqb (length a.0.1) 0) (record { «fault» = fault.Trailing; left = length a.0.1 }) (Ok a.0.0) t a.2 in
+    let i = item_sound limit bs a.0.0 a.0.1 fits a.1 in
+    let none : a.0.1 ≡ [] = nil_from_length a.0.1 (eqb-true _ _ g.0) in
+    let all : i.front ≡ bs = sym (append-nil i.front) ∙ ap (λ r. i.front ++ r) (sym none) ∙ sym i.split in
+    subst (λ u. Codes limit u bs) (ok_is a.0.0 t g.1) (subst (λ b. Codes limit a.0.0 b) all i.part)
+
+pub whole_complete : (limit : ℕ) (bs : List ℕ) (t : Tree) → Codes limit t bs → whole_at limit bs ≡ Ok t
+unfolding whole_at
+whole_complete limit bs t is =
+    let read : item_at limit bs ≡ Ok (t, []) = ap (item_at limit) (sym (append-nil bs)) ∙ item_complete limit t bs [] is in
+    rw read refl
+
+abbrev done : Tree → Result Tree Refusal
+done t = Ok t
+
+not_both : (t : Tree) (r : Refusal) → done t ≡ Err r → ⊥
+not_both t r e = absurd cc
+
+-- what is refused codes nothing
+pub refused_all : (limit : ℕ) (bs : List ℕ) (e : Stop) (r : Refusal) → e ≡ stop.Refused r → Fails e (whole_at limit bs) → (t : Tree) → Codes limit t bs → ⊥
+refused_all limit bs e r is fails t codes =
+    not_both t r (sym (whole_complete limit bs t codes) ∙ subst (λ s. Fails s (whole_at limit bs)) is fails)

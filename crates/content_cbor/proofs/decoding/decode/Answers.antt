@@ -1,0 +1,15 @@
+use Rattle.std.proofs.Common.{◌≡◌, sym, ◌∙◌, arith}
+use Rattle.content_tree.specs.Values.Value.{tree_of}
+use Rattle.content_cbor.proofs.Read.Steps.{ok_is}
+use Rattle.content_cbor.proofs.Read.Whole.{whole_sound, whole_complete, refused_all}
+use Rattle.content_cbor.proofs.decoding.decode.Goals as goal
+
+pub returns-in-Ok-clause-value : goal.returns-in-Ok-clause-value
+returns-in-Ok-clause-value c = whole_sound c.args.depth_limit c.args.bytes.now (tree_of c.in-Ok.value) (λ i. omega (arith, c.type_inv.bytes i)) c.in-Ok.ensures
+
+pub returns-in-Ok-clause-only : goal.returns-in-Ok-clause-only
+returns-in-Ok-clause-only c = λ t is. ok_is (tree_of c.in-Ok.value) t (sym c.in-Ok.ensures ∙ whole_complete c.args.depth_limit c.args.bytes.now t is)
+
+pub returns-in-Err-Refused-clause-only : goal.returns-in-Err-Refused-clause-only
+returns-in-Err-Refused-clause-only c = λ t is.
+    absurd (refused_all c.args.depth_limit c.args.bytes.now c.in-Err-Refused.field-0 c.in-Err-Refused.field-0-0 c.in-Err-Refused.field-0-is c.in-Err-Refused.ensures t is)

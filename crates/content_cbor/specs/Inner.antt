@@ -1,0 +1,2 @@
+-- Words of what is private.
+pub mod Reading

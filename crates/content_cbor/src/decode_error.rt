@@ -1,0 +1,81 @@
+//! Why bytes are refused, and where.
+
+ghost use Rattle.std.specs.Prelude.{Some};
+ghost use Rattle.content_cbor.specs.PrintedFault.{fault_text, error_text};
+
+use std::fmt;
+
+/// What is wrong with bytes.
+#[derive(Clone, Copy, Debug, PartialEq, Eq)]
+pub enum Fault {
+    /// They end inside an item.
+    Ended,
+    /// Bytes stand behind the item.
+    Trailing,
+    /// Items stand deeper in one another than the limit.
+    TooDeep,
+    /// A first byte that RFC 8949 gives no meaning.
+    Reserved,
+    /// A break where no array, map, text or bytes of unknown length may end.
+    Break,
+    /// A float.
+    Float,
+    /// A simple value other than false, true and null.
+    Simple,
+    /// A tag other than 2 and 3.
+    Tag,
+    /// A number past 128 bits.
+    TooWide,
+    /// An item under a tag or in a text or bytes of unknown length that can't stand there.
+    Misplaced,
+    /// A text that is no UTF-8.
+    NotUtf8,
+}
+
+impl fmt::Display for Fault {
+    ghost output = { λ f. Some (fault_text f) };
+
+    fn fmt<W: fmt::Write>(&self, f: &mut fmt::Formatter<W>) -> fmt::Result {
+        f.write_str(match self {
+            Fault::Ended => "the bytes end inside an item",
+            Fault::Trailing => "bytes behind the item",
+            Fault::TooDeep => "items nest too deep",
+            Fault::Reserved => "no first byte of an item",
+            Fault::Break => "a break out of place",
+            Fault::Float => "a float",
+            Fault::Simple => "an unknown simple value",
+            Fault::Tag => "an unknown tag",
+            Fault::TooWide => "a number past 128 bits",
+            Fault::Misplaced => "an item of a wrong kind",
+            Fault::NotUtf8 => "a text that is no UTF-8",
+        })
+    }
+}
+
+/// Why bytes can't be decoded. It prints as `refused at byte 1: a float`.
+#[derive(Clone, Copy, Debug, PartialEq, Eq)]
+pub enum DecodeError {
+    /// Memory ran out.
+    OutOfMemory,
+    /// What is wrong with the bytes, and where.
+    Refused {
+        /// The place, counted from 0, of the first byte of what is wrong: of a head, or of the
+        /// first character that is none; the length where bytes are missing.
+        at: usize,
+        /// What is wrong.
+        fault: Fault,
+    },
+}
+
+impl fmt::Display for DecodeError {
+    ghost output = { λ e. Some (error_text e) };
+
+    fn fmt<W: fmt::Write>(&self, f: &mut fmt::Formatter<W>) -> fmt::Result {
+        match self {
+            DecodeError::OutOfMemory => f.write_str("out of memory"),
+            DecodeError::Refused { at, fault } => write!(f, "refused at byte {at}: {fault}"),
+        }
+    }
+}
+
+impl std::error::Error for DecodeError {}

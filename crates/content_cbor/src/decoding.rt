@@ -1,0 +1,313 @@
+//! Bytes as values.
+
+ghost use Rattle.std.specs.Prelude.{◌≡◌, length, map, IfOk, IfErr};
+ghost use Rattle.content_tree.specs.Values.Tree.{Tree};
+ghost use Rattle.content_tree.specs.Values.Value.{tree_of, pair_tree};
+ghost use Rattle.content_cbor.specs.Codes.{Codes};
+ghost use Rattle.content_cbor.specs.Decoded.{IsReadAs, StopsAt};
+ghost use Rattle.content_cbor.specs.Inner.Reading.{Gives, each_at, inside_at, item_at, leaf_at};
+ghost use Rattle.content_cbor.specs.Inner.Reading.{pair_at, parts_at, simple_at, until_at, whole_at};
+
+use crate::decode_error::{DecodeError, Fault};
+use crate::heads::{Head, Major, after_break, read_head};
+use crate::numbers::{from_negative, from_unsigned, read_tag};
+use crate::stop::{Refusal, Stop, stop_at};
+use crate::strings::{read_byte_string, read_text_string};
+use content_tree::Value;
+use std::alloc::Global;
+
+/// The value that bytes of CBOR code: one data item, and nothing behind it.
+///
+/// A number is of 64 bits where it has room there, and else of 128; null is `None`; an array is a
+/// sequence, a map a map, with every pair in order. Texts and bytes of a known length are borrowed
+/// from the bytes, others are owned. Heads may be longer than they need be, lengths unknown.
+///
+/// `depth_limit` bounds how deep items stand in one another, and so the stack that is taken; the
+/// item's own depth is 1. Memory is taken for what holds parts, as it is read, and for texts and
+/// bytes of unknown length; a length alone reserves none.
+///
+/// # Errors
+///
+/// `Refused` for bytes that code no value, with the first fault from the left: floats, simple
+/// values other than false, true and null, tags other than 2 and 3 and numbers past 128 bits are
+/// faults too. `OutOfMemory`.
+///
+/// ```rust
+/// let value = decode(alloc, &[0x82, 0x01, 0x61, b'a'], 16)?;
+/// let wanted = Value::Seq(vec![in alloc; Value::from(1u64), Value::from("a")]?);
+/// assert!(rt; value == wanted);
+/// ```
+pub fn decode<'de>(
+    alloc: Global,
+    bytes: &'de [u8],
+    depth_limit: usize,
+) -> Result<Value<'de>, DecodeError>
+    ensures value { IfOk result (λ v. Codes depth_limit (tree_of v) bytes.now) }
+    ensures only { (t : Tree) → Codes depth_limit t bytes.now → IsReadAs t result }
+    ensures fault { IfErr result (λ e. StopsAt bytes.now e (whole_at depth_limit bytes.now)) }
+{
+    match read_whole(alloc, bytes, depth_limit) {
+        Ok(value) => Ok(value),
+        Err(Stop::OutOfMemory) => Err(DecodeError::OutOfMemory),
+        Err(Stop::Refused(Refusal { fault, left })) => Err(DecodeError::Refused {
+            at: bytes.len().saturating_sub(left),
+            fault,
+        }),
+    }
+}
+
+/// One item, and nothing behind it.
+#[tactic(auto, unfolding(crate::specs::Inner::Reading::whole_at))]
+fn read_whole<'de>(alloc: Global, bytes: &'de [u8], limit: usize) -> Result<Value<'de>, Stop>
+    ensures { Gives tree_of result (whole_at limit bytes.now) }
+{
+    let (value, rest) = read_item(alloc, limit, bytes)?;
+    if rest.len() == 0 {
+        Ok(value)
+    } else {
+        Err(stop_at(Fault::Trailing, rest))
+    }
+}
+
+/// A simple value, whose head stands at `from`.
+fn read_simple<'de>(
+    number: u64,
+    from: &[u8],
+    bytes: &'de [u8],
+) -> Result<(Value<'de>, &'de [u8]), Stop>
+    ensures { Gives (λ x. (tree_of x.0, x.1.now)) result (simple_at number from.now bytes.now) }
+{
+    match number {
+        20 => Ok((Value::Bool(false), bytes)),
+        21 => Ok((Value::Bool(true), bytes)),
+        22 => Ok((Value::Option(None), bytes)),
+        _ => Err(stop_at(Fault::Simple, from)),
+    }
+}
+
+/// An item that holds no other, behind its head, which stands at `from`.
+#[tactic(auto, unfolding(crate::specs::Inner::Reading::leaf_at))]
+fn read_leaf<'de>(
+    alloc: Global,
+    from: &[u8],
+    head: Head,
+    bytes: &'de [u8],
+) -> Result<(Value<'de>, &'de [u8]), Stop>
+    ensures { Gives (λ x. (tree_of x.0, x.1.now)) result
+        (leaf_at from.now head.«major» head.number bytes.now) }
+{
+    match (head.major, head.number) {
+        (Major::Unsigned, Some(number)) => {
+            Ok((Value::Number(from_unsigned(u128::from(number))), bytes))
+        }
+        (Major::Negative, Some(number)) => match from_negative(u128::from(number)) {
+            Some(number) => Ok((Value::Number(number), bytes)),
+            None => Err(stop_at(Fault::TooWide, from)),
+        },
+        (Major::Bytes, length) => {
+            let (content, rest) = read_byte_string(alloc, length, bytes)?;
+            Ok((Value::Bytes(content), rest))
+        }
+        (Major::Text, length) => {
+            let (content, rest) = read_text_string(alloc, length, bytes)?;
+            Ok((Value::String(content), rest))
+        }
+        (Major::Tag, Some(tag)) => {
+            let (number, rest) = read_tag(alloc, tag, from, bytes)?;
+            Ok((Value::Number(number), rest))
+        }
+        (Major::Simple, Some(number)) => read_simple(number, from, bytes),
+        (Major::Simple, None) => Err(stop_at(Fault::Break, from)),
+        _ => Err(stop_at(Fault::Reserved, from)),
+    }
+}
+
+/// The item at the front, within a limit of depth, and the bytes behind it.
+#[cycle(decode)]
+#[inline(never)]
+#[tactic(auto, unfolding(crate::specs::Inner::Reading::item_at))]
+fn read_item<'de>(
+    alloc: Global,
+    limit: usize,
+    bytes: &'de [u8],
+) -> Result<(Value<'de>, &'de [u8]), Stop>
+    ensures { Gives (λ x. (tree_of x.0, x.1.now)) result (item_at limit bytes.now) }
+{
+    if limit == 0 {
+        let fault = if bytes.len() == 0 {
+            Fault::Ended
+        } else {
+            Fault::TooDeep
+        };
+        return Err(stop_at(fault, bytes));
+    }
+    let (head, rest) = read_head(bytes)?;
+    match head.major {
+        Major::Array => {
+            let (items, rest) = read_items(alloc, limit - 1, bytes, head.number, rest)?;
+            Ok((Value::Seq(items), rest))
+        }
+        Major::Map => {
+            let (pairs, rest) = read_pairs(alloc, limit - 1, bytes, head.number, rest)?;
+            Ok((Value::Map(pairs), rest))
+        }
+        _ => read_leaf(alloc, bytes, head, rest),
+    }
+}
+
+/// The items of an array, whose head stands at `from`.
+#[cycle(decode)]
+#[inline(never)]
+#[tactic(auto, unfolding(crate::specs::Inner::Reading::parts_at))]
+fn read_items<'de>(
+    alloc: Global,
+    limit: usize,
+    from: &[u8],
+    count: Option<u64>,
+    bytes: &'de [u8],
+) -> Result<(Vec<Value<'de>>, &'de [u8]), Stop>
+    ensures { Gives (λ x. (map tree_of x.0.items, x.1.now)) result
+        (parts_at (item_at limit) limit from.now count bytes.now) }
+{
+    match count {
+        None => read_items_until_break(alloc, limit, bytes),
+        Some(count) => {
+            if limit == 0 && count > 0 {
+                Err(stop_at(Fault::TooDeep, from))
+            } else {
+                read_each_item(alloc, limit, count, bytes)
+            }
+        }
+    }
+}
+
+/// The pairs of a map, whose head stands at `from`.
+#[cycle(decode)]
+#[inline(never)]
+#[tactic(auto, unfolding(crate::specs::Inner::Reading::parts_at))]
+fn read_pairs<'de>(
+    alloc: Global,
+    limit: usize,
+    from: &[u8],
+    count: Option<u64>,
+    bytes: &'de [u8],
+) -> Result<(Vec<(Value<'de>, Value<'de>)>, &'de [u8]), Stop>
+    ensures { Gives (λ x. (map pair_tree x.0.items, x.1.now)) result
+        (parts_at (pair_at (item_at limit)) limit from.now count bytes.now) }
+{
+    match count {
+        None => read_pairs_until_break(alloc, limit, bytes),
+        Some(count) => {
+            if limit == 0 && count > 0 {
+                Err(stop_at(Fault::TooDeep, from))
+            } else {
+                read_each_pair(alloc, limit, count, bytes)
+            }
+        }
+    }
+}
+
+/// So many items.
+#[cycle(decode)]
+fn read_each_item<'de>(
+    alloc: Global,
+    limit: usize,
+    count: u64,
+    bytes: &'de [u8],
+) -> Result<(Vec<Value<'de>>, &'de [u8]), Stop>
+    ensures { Gives (λ x. (map tree_of x.0.items, x.1.now)) result
+        (each_at (item_at limit) count bytes.now) }
+{
+    let mut items = Vec::new(alloc);
+    let mut rest = bytes;
+    for _ in 0..count {
+        let (item, behind) = read_item(alloc, limit, rest)?;
+        items.push(item)?;
+        rest = behind;
+    }
+    Ok((items, rest))
+}
+
+/// Items up to a break.
+#[cycle(decode)]
+fn read_items_until_break<'de>(
+    alloc: Global,
+    limit: usize,
+    bytes: &'de [u8],
+) -> Result<(Vec<Value<'de>>, &'de [u8]), Stop>
+    ensures { Gives (λ x. (map tree_of x.0.items, x.1.now)) result
+        (until_at (item_at limit) (length bytes.now) bytes.now) }
+{
+    let mut items = Vec::new(alloc);
+    let mut rest = bytes;
+    // Each item takes a byte at least.
+    for _ in bytes {
+        if let Some(behind) = after_break(rest) {
+            return Ok((items, behind));
+        }
+        let (item, behind) = read_item(alloc, limit, rest)?;
+        items.push(item)?;
+        rest = behind;
+    }
+    Err(stop_at(Fault::Ended, &[]))
+}
+
+/// A key and a value.
+#[cycle(decode)]
+#[tactic(auto, unfolding(crate::specs::Inner::Reading::pair_at))]
+fn read_pair<'de>(
+    alloc: Global,
+    limit: usize,
+    bytes: &'de [u8],
+) -> Result<((Value<'de>, Value<'de>), &'de [u8]), Stop>
+    ensures { Gives (λ x. (pair_tree x.0, x.1.now)) result (pair_at (item_at limit) bytes.now) }
+{
+    let (key, rest) = read_item(alloc, limit, bytes)?;
+    let (value, rest) = read_item(alloc, limit, rest)?;
+    Ok(((key, value), rest))
+}
+
+/// So many pairs.
+#[cycle(decode)]
+fn read_each_pair<'de>(
+    alloc: Global,
+    limit: usize,
+    count: u64,
+    bytes: &'de [u8],
+) -> Result<(Vec<(Value<'de>, Value<'de>)>, &'de [u8]), Stop>
+    ensures { Gives (λ x. (map pair_tree x.0.items, x.1.now)) result
+        (each_at (pair_at (item_at limit)) count bytes.now) }
+{
+    let mut pairs = Vec::new(alloc);
+    let mut rest = bytes;
+    for _ in 0..count {
+        let (pair, behind) = read_pair(alloc, limit, rest)?;
+        pairs.push(pair)?;
+        rest = behind;
+    }
+    Ok((pairs, rest))
+}
+
+/// Pairs up to a break.
+#[cycle(decode)]
+fn read_pairs_until_break<'de>(
+    alloc: Global,
+    limit: usize,
+    bytes: &'de [u8],
+) -> Result<(Vec<(Value<'de>, Value<'de>)>, &'de [u8]), Stop>
+    ensures { Gives (λ x. (map pair_tree x.0.items, x.1.now)) result
+        (until_at (pair_at (item_at limit)) (length bytes.now) bytes.now) }
+{
+    let mut pairs = Vec::new(alloc);
+    let mut rest = bytes;
+    // Each pair takes a byte at least.
+    for _ in bytes {
+        if let Some(behind) = after_break(rest) {
+            return Ok((pairs, behind));
+        }
+        let (pair, behind) = read_pair(alloc, limit, rest)?;
+        pairs.push(pair)?;
+        rest = behind;
+    }
+    Err(stop_at(Fault::Ended, &[]))
+}
