@@ -3,6 +3,7 @@
 ghost use Rattle.std.specs.Prelude.{ℕ, ◌≡◌, ◌≤◌, ◌+◌, ◌^◌, ◌-◌, List, [], length, Option};
 ghost use Rattle.std.specs.Prelude.{MatchOption, IfOk};
 ghost use Rattle.serde_content.specs.Names.Words.{event_of, Event, seen_of, HasTaken, IsLimit};
+ghost use Rattle.serde_content.specs.Names.Aside.{answer_of};
 ghost use Rattle.content_cli.specs.Lines.{first_bad};
 ghost use Rattle.content_cli.specs.Verdicts.{AnswersLine, IsVerdict};
 ghost use Rattle.content_cli.specs.Views.{line_event};
@@ -10,8 +11,9 @@ ghost use Rattle.content_cli.specs.declared.calls.Verdict.TheVariants.{BadLine, 
 
 use crate::hex;
 use crate::line::{Line, first_bad_line, read_line, split_line};
-use serde_content::CowBytes;
-use serde_content::ser::{Builder, Call, CallsError, Serializer};
+use serde_content::laws::steps_are_exact;
+use serde_content::ser::{Aside, Builder, Call, CallsError, Sent, Serializer};
+use serde_content::{CowBytes, Error, ErrorKind};
 use std::alloc::{AllocError, Global};
 
 /// What lines of calls come to.
@@ -47,13 +49,22 @@ fn start<'v>(alloc: Global, limit: Option<usize>) -> Builder<'v>
     }
 }
 
-/// Makes the call that a line says.
-fn take_line(alloc: Global, builder: &mut Builder<'_>, line: Line<'_>) -> serde_content::Result<()>
+/// Makes the call that a line says, with its error put aside. The law `steps_are_exact` says that what
+/// the step says of it is exact.
+fn take_line(alloc: Global, builder: &mut Builder<'_>, line: Line<'_>, error: &mut Error) -> Sent
     ensures { (limit : Option ℕ) → (calls : List Event)
         → HasTaken limit calls (seen_of builder.old)
-        → AnswersLine limit calls (line_event line.entry) result builder.new }
+        → AnswersLine limit calls (line_event line.entry) (answer_of result error.new)
+        builder.new }
 {
-    builder.call(make_call(alloc, line)?)
+    steps_are_exact();
+    match make_call(alloc, line) {
+        Ok(call) => builder.call_aside(call, error),
+        Err(refused) => {
+            *error = Error::from(refused);
+            Err(Aside)
+        }
+    }
 }
 
 /// What lines come to of which one was refused, where these stand after it, the first of them at
@@ -76,6 +87,7 @@ pub fn read_calls<'v>(alloc: Global, body: &[u8], limit: Option<usize>) -> Verdi
     ensures { IsVerdict limit body.now result }
 {
     let mut builder = start(alloc, limit);
+    let mut error = Error::from(ErrorKind::OutOfMemory);
     let mut count = 0;
     let mut place = 0;
     let mut text = body;
@@ -85,7 +97,7 @@ pub fn read_calls<'v>(alloc: Global, body: &[u8], limit: Option<usize>) -> Verdi
             let Some(said) = read_line(line) else {
                 return Verdict::BadLine(place);
             };
-            if let Err(error) = take_line(alloc, &mut builder, said) {
+            if let Err(Aside) = take_line(alloc, &mut builder, said, &mut error) {
                 let refusal = CallsError { at: count, error };
                 return match rest {
                     Some(after) => after_refusal(refusal, place + 1, after),

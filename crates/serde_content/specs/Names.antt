@@ -5,3 +5,4 @@ pub mod ErrorKind
 pub mod Number
 pub mod Tree
 pub mod Cause
+pub mod Aside

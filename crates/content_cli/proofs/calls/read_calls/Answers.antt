@@ -40,7 +40,7 @@ returns-in-Err c =
     let body = c.args.body.now in
     let (same, refused) = refused_here c.args.limit body c.lines.builder c.lines.count c.lines.place c.lines.text.now line (lines_in c.split_line.result.1) c.lines.invariant
     (cut_lines c.split_line.result.1 c.lines.text.now line c.split_line.ensures.lines)
-    (line_event c.in-Some.said) c.in-Err.error c.take_line.new.builder c.in-Some.ensures (λ limit calls taken. c.in-Err.ensures limit calls taken) in
+    (line_event c.in-Some.said) c.take_line.new.error c.take_line.new.builder c.in-Some.ensures (λ limit calls taken. c.in-Err.ensures limit calls taken) in
     elim c.match-rest.branch [
       | in-Some-rest w ↦ subst (IsVerdict c.args.limit body) (sym w.result-is)
           (refused_or_bad c.args.limit body w.in-Some-rest.after.now (c.lines.place + 1) _ w.after_refusal.result (subst (λ o. first_bad body ≡ bad_from (c.lines.place + 1) (lines_in o)) w.in-Some-rest.is same) refused w.after_refusal.ensures)
