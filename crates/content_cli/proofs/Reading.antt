@@ -171,6 +171,10 @@ bad_after : (text : List ℕ) (place : ℕ) (b : Option ℕ) → first_bad text 
 bad_after text place b e =
     ap (λ n. bad_from n (lines_of text)) (none_more place) ∙ (shifted (lines_of text) place 0 ∙ ap (option_map (λ n. place + n)) (sym (position_from-zero is_bad (lines_of text)) ∙ e))
 
+-- the text begins with a bad line
+pub bad_begins : (limit : Option ℕ) (body : List ℕ) (builder : Builder) (count place : ℕ) (text : List ℕ) → HasRead limit body builder count place text → first_bad text ≡ Some 0 → first_bad body ≡ Some place
+bad_begins limit body builder count place text h e = h.bad ∙ (bad_after text place (Some 0) e ∙ ap Some (sym (none_more place)))
+
 -- a refusal, or a bad line after it
 pub refused_or_bad : (limit : Option ℕ) (body text : List ℕ) (place : ℕ) (e : CallsError) (r : Verdict) → first_bad body ≡ bad_from place (lines_of text) → IsRefusedWithin limit (calls_of body) e
     → MatchOption (first_bad text) (r ≡ Refused e) (λ further. r ≡ BadLine (place + further)) → IsVerdict limit body r

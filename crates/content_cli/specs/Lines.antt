@@ -3,11 +3,16 @@ use Rattle.std.specs.Prelude.{ℕ, ◌==◌, Bool, cond, ◌&&◌, not, List, le
 use Rattle.std.specs.Option.{option_to_list}
 use Rattle.std.specs.List.{slice_split, position, position_or_len, flat_map, before_first}
 use Rattle.serde_content.specs.Names.Words.{Event}
+use Rattle.content_cli.specs.Forms.{is_printable}
 use Rattle.content_cli.specs.Words.{event_in, limit_in}
 
 -- the byte that ends a line
 abbrev pub is_line_feed : ℕ → Bool
 is_line_feed b = b == 10
+
+-- a byte that no line may hold
+abbrev pub is_foreign : ℕ → Bool
+is_foreign b = not (is_printable b)
 
 -- the limit that the first line of an input sets, if it sets one
 abbrev pub limit_of : List ℕ → Option ℕ

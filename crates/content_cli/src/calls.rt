@@ -10,7 +10,7 @@ ghost use Rattle.content_cli.specs.Views.{line_event};
 ghost use Rattle.content_cli.specs.declared.calls.Verdict.TheVariants.{BadLine, Refused};
 
 use crate::hex;
-use crate::line::{Line, first_bad_line, read_line, split_line};
+use crate::line::{Line, first_bad_line, read_printable, split_line};
 use serde_content::laws::steps_are_exact;
 use serde_content::ser::{Aside, Builder, Call, CallsError, Sent, Serializer};
 use serde_content::{CowBytes, Error, ErrorKind};
@@ -92,9 +92,11 @@ pub fn read_calls<'v>(alloc: Global, body: &[u8], limit: Option<usize>) -> Verdi
     let mut place = 0;
     let mut text = body;
     'lines: loop {
-        let (line, rest) = split_line(text);
+        let Some((line, rest)) = split_line(text) else {
+            return Verdict::BadLine(place);
+        };
         if !line.is_empty() {
-            let Some(said) = read_line(line) else {
+            let Some(said) = read_printable(line) else {
                 return Verdict::BadLine(place);
             };
             if let Err(Aside) = take_line(alloc, &mut builder, said, &mut error) {

@@ -1,8 +1,9 @@
 //! What a line says.
 
 ghost use Rattle.std.specs.Prelude.{◌≡◌, ◌+◌, [], ◌∷◌, length, Option, MatchOption, true, false};
+ghost use Rattle.std.specs.Prelude.{IfSome, IsSomeAnd, None, Some};
 ghost use Rattle.std.specs.List.{list_all, position};
-ghost use Rattle.content_cli.specs.Lines.{is_bad, is_line_feed, lines_of, first_bad};
+ghost use Rattle.content_cli.specs.Lines.{is_bad, is_line_feed, is_foreign, lines_of, first_bad};
 ghost use Rattle.content_cli.specs.Forms.{is_printable};
 ghost use Rattle.content_cli.specs.Words.{event_in, of_parts, word_of, rest_of};
 ghost use Rattle.content_cli.specs.Views.{Reads, Spells};
@@ -45,13 +46,20 @@ fn is_printable_text(line: &[u8]) -> bool
     line.iter().all(|b| (32..127).contains(b))
 }
 
+/// A line of bytes from 32 to 126 as text.
+fn as_text(line: &[u8]) -> Option<&str>
+    ensures { list_all is_printable line.now ≡ true → IsSomeAnd result (λ t. t.now ≡ line.now) }
+{
+    str::from_utf8(line).ok()
+}
+
 /// The line as text, if its bytes are 32 to 126.
 pub fn text_of(line: &[u8]) -> Option<&str>
     ensures { MatchOption result (list_all is_printable line.now ≡ false)
         (λ t. (list_all is_printable line.now ≡ true) × (t.now ≡ line.now)) }
 {
     if is_printable_text(line) {
-        str::from_utf8(line).ok()
+        as_text(line)
     } else {
         None
     }
@@ -66,8 +74,15 @@ fn read_text(text: &str) -> Option<Line<'_>>
     }
 }
 
+/// What a line of bytes from 32 to 126 says, if it spells a call.
+pub fn read_printable(line: &[u8]) -> Option<Line<'_>>
+    ensures { list_all is_printable line.now ≡ true → Reads result (event_in line.now) }
+{
+    read_text(as_text(line)?)
+}
+
 /// What the line says, if it spells a call.
-pub fn read_line(line: &[u8]) -> Option<Line<'_>>
+fn read_line(line: &[u8]) -> Option<Line<'_>>
     ensures { Reads result (event_in line.now) }
 {
     read_text(text_of(line)?)
@@ -87,16 +102,32 @@ pub fn first_line_feed(text: &[u8]) -> Option<usize>
     text.iter().position(|b| *b == b'\n')
 }
 
-/// The first line, without its line feed, and what stands after that, where there is one.
-pub fn split_line(text: &[u8]) -> (&[u8], Option<&[u8]>)
-    ensures lines { MatchOption result.1 (lines_of text.now ≡ result.0.now ∷ [])
-        (λ rest. lines_of text.now ≡ result.0.now ∷ lines_of rest.now) }
-    ensures bytes { MatchOption result.1 (length text.now ≡ length result.0.now)
-        (λ rest. length text.now ≡ length result.0.now + (1 + length rest.now)) }
+/// Where the first byte stands that no line may hold.
+fn first_foreign(text: &[u8]) -> Option<usize>
+    ensures { result ≡ position is_foreign text.now }
 {
-    match first_line_feed(text) {
-        Some(end) => (&text[..end], Some(&text[end + 1..])),
-        None => (text, None),
+    text.iter().position(|b| !(32..127).contains(b))
+}
+
+/// The first line, without its line feed, and what stands after that, where there is one; or none
+/// where the line has a byte that no line may hold. One walk looks for both.
+pub fn split_line(text: &[u8]) -> Option<(&[u8], Option<&[u8]>)>
+    ensures bad { result ≡ None → first_bad text.now ≡ Some 0 }
+    ensures printable { IfSome result (λ cut. list_all is_printable cut.0.now ≡ true) }
+    ensures lines { IfSome result (λ cut. MatchOption cut.1 (lines_of text.now ≡ cut.0.now ∷ [])
+        (λ rest. lines_of text.now ≡ cut.0.now ∷ lines_of rest.now)) }
+    ensures bytes { IfSome result (λ cut. MatchOption cut.1 (length text.now ≡ length cut.0.now)
+        (λ rest. length text.now ≡ length cut.0.now + (1 + length rest.now))) }
+{
+    match first_foreign(text) {
+        None => Some((text, None)),
+        Some(end) => {
+            if text[end] == b'\n' {
+                Some((&text[..end], Some(&text[end + 1..])))
+            } else {
+                None
+            }
+        }
     }
 }
 
