@@ -1,8 +1,9 @@
 #!/usr/bin/env bash
 # bench/lines.sh: measures the program: builds it, runs it on sequences of 10,000, 100,000 and
 # 1,000,000 elements and on maps of as many keys, the shortest lines for a node, and prints the
-# seconds, the bytes a second and the peak of memory of each run. A measurement, not a test. It
-# needs GNU time.
+# seconds, the bytes a second and the peak of memory of each run; and then the instructions an item,
+# by callgrind, of 10,000 numbers, structs, texts of 100 bytes and entries of a map. A measurement,
+# not a test. It needs GNU time and valgrind.
 set -euo pipefail
 
 cd "$(dirname "$0")/../crates/content_cli"
@@ -29,3 +30,22 @@ measure() { # OPENING ITEM: the lines that open a compound, and those of one nod
 
 measure seq 'element\nu8 7'
 measure map 'key\nunit'
+
+printf '\n%-15s %9s\n' items instructions
+count() { # NAME OPENING ITEM: the lines of an item, where # is a number
+    awk -v opening="$2" -v item="$3" \
+        'BEGIN {
+            print opening
+            for (i = 0; i < 10000; i++) {
+                lines = item; gsub(/#/, i * 7919 % 30000 + 1, lines); print lines
+            }
+            print "end"
+        }' > "$folder/input"
+    valgrind --tool=callgrind --callgrind-out-file="$folder/counts" out/content_cli \
+        < "$folder/input" 2>&1 > "$folder/output" \
+        | awk -v name="$1" '/Collected/ { printf "%-15s %9d\n", name, $4 / 10000 }'
+}
+count numbers seq 'element\nu32 #'
+count structs seq 'element\nstruct Point 2\nfield x\nu32 #\nfield y\ni16 -#\nend'
+count texts seq "element\nstr $(printf '%0100d' 0)"
+count entries map 'key\nstr key #\nvalue\nu64 #'
