@@ -1,3 +1,4 @@
 pub mod RoundTrip
 pub mod Laws
 pub mod Names
+pub mod Named

@@ -1,5 +1,6 @@
 //! Reading: what a value is read by, and what can be read.
 
+pub use crate::taking::{read_five, read_four, read_one, read_six, read_three, read_two};
 pub use content_de::{
     Deserialize, EnumAccess, FieldsByName, IntoDeserializer, Map, Node, Seq, VariantAccess,
     attempt, end_fields, end_parts, field_or, named_field, next_field, next_part, skip_fields,

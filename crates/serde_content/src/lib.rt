@@ -19,7 +19,9 @@ pub mod laws;
 mod literals;
 mod round;
 pub mod samples;
+mod sending;
 pub mod ser;
+mod taking;
 #[cfg(test)]
 mod tests;
 mod values;
