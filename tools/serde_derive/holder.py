@@ -1,9 +1,21 @@
 """What is written of what a struct or a variant holds."""
 from typing import Callable, List, NamedTuple, Optional, Tuple
 
-from .declarations import Data
+from .declarations import Data, Field
 from .text import clause, codes, fields_reader, listed, together
 from .types import READ, TRIP, nest, snake
+from .words import READERS, SENDERS
+
+
+def sending(head: str, pairs: List[Tuple[str, str]]) -> str:
+    """The call that sends a compound: what opens it, and each value after the call that announces it."""
+    arguments = ["alloc", "serializer", head] + [part for pair in pairs for part in pair]
+    return f"{SENDERS[len(pairs) - 1]}({', '.join(arguments)})"
+
+
+def handed_on(head: str, pairs: List[Tuple[str, str]]) -> str:
+    """The parts of the first values, which a further function sends before others."""
+    return head + "".join(f".with({call}, {value})" for call, value in pairs)
 
 
 class Row(NamedTuple):
@@ -55,6 +67,7 @@ class Holder:
         self.of_variant = sort == "Variant"
         self.sender, self.reader = f"send_{snake(owner)}", f"read_{snake(owner)}"
         self.names_known = [f.wire for f in data.fields]
+        self.before: List[Tuple[str, str]] = []
         self.head = "" if self.of_variant else " " + self.names
         self.name = "" if self.of_variant else written[0]
 
@@ -97,29 +110,51 @@ class Holder:
             return f"{self.sender}(alloc, serializer, {', '.join(values)})"
         return self.chain(values)
 
+    def pairs(self, values: List[str], start: int = 0) -> List[Tuple[str, str]]:
+        """The values from a place on, each after the call that announces it."""
+        return [pair for f, value in zip(self.fields[start:], values) for pair in self.announced(f.wire, value)]
+
+    def announced(self, name: str, value: str) -> List[Tuple[str, str]]:
+        return [(f'Call::Field("{name}")' if self.data.named else "Call::TupleField", value)]
+
     def chain(self, values: List[str]) -> str:
         """The calls, one after another."""
-        if not self.fields:
+        if not self.fields and not self.before:
             return f"{self.call}.send(serializer)"
         if not self.many:
             return f"{self.call}.around({values[0]}, alloc, serializer)"
-        calls = [f'Call::Field("{f.wire}")' if self.data.named else "Call::TupleField" for f in self.fields]
-        with_values = "".join(f".with({call}, {value})" for call, value in zip(calls, values))
-        return f"{self.call}{with_values}.end(alloc, serializer)"
+        return sending(self.call, self.before + self.pairs(values))
 
     def send_function(self) -> List[str]:
-        """The function that sends more than two values; its proof sees none of their types."""
+        """The function that sends more than two values; its proof sees none of their types. Of more
+        than eight it hands on the first to a further one."""
         if self.count <= self.most:
             return []
-        places = range(1, self.count + 1)
-        types = ", ".join(["S: Serializer"] + [f"T{i}: Serialize" for i in places])
-        values = ", ".join(["alloc: Global", "serializer: &mut S"] + [f"x{i}: &T{i}" for i in places])
-        script = self.script([f"x{i}.now" for i in places], [f"T{i}.script" for i in places])
-        return ["/// Sends values of any types, so that its proof looks into none.\n"
-                f"fn {self.sender}<{types}>({values}) -> Result<()>\n"
-                + clause("ensures", f"Sends S.step S.refuses (S.seen serializer.old)\n({script})\n"
-                         "result (S.seen serializer.new)")
-                + f"{{\n{self.chain([f'x{i}' for i in places])}\n}}\n"]
+        texts, start, head, before = [], 0, self.call, self.before
+        while True:
+            places = range(start + 1, self.count + 1)
+            values, pairs = [f"x{i}" for i in places], before + self.pairs([f"x{i}" for i in places], start)
+            inner = [f"(T{i}.script x{i}.now)" for i in places]
+            script = f"P.first parts{self.row('script', inner, start=start)}" if start else self.script(
+                [f"{v}.now" for v in values], [f"T{i}.script" for i in places])
+            later = self.count if len(pairs) <= len(SENDERS) else start + 1
+            body = sending(head, pairs) if later == self.count else (
+                f"let parts = {handed_on(head, before + self.pairs(values[:1], start))};\n"
+                f"{self.sender_at(later)}(alloc, serializer, parts, {', '.join(values[1:])})")
+            types = ", ".join(["S: Serializer"] + ["P: Parts"] * bool(start) + [f"T{i}: Serialize" for i in places])
+            given = ", ".join(["alloc: Global", "serializer: &mut S"] + ["parts: P"] * bool(start)
+                              + [f"x{i}: &T{i}" for i in places])
+            about = "Sends values of any types after those parts." if start else (
+                "Sends values of any types, so that its proof looks into none.")
+            texts.insert(0, f"/// {about}\nfn {self.sender_at(start)}<{types}>({given}) -> Result<()>\n"
+                         + clause("ensures", f"Sends S.step S.refuses (S.seen serializer.old)\n({script})\n"
+                                  "result (S.seen serializer.new)") + f"{{\n{body}\n}}\n")
+            if later == self.count:
+                return texts
+            start, head, before = later, "parts", []
+
+    def sender_at(self, start: int) -> str:
+        return f"{self.sender}_from_{start + 1}" if start else self.sender
 
     def refusal_row(self) -> str:
         return self.row("refusal", [f"({f.type.member(READ, 'refusal')})" for f in self.fields])
@@ -157,28 +192,41 @@ class Holder:
         return [f"let inside = {start};", f"Ok({make(['inside.deserialize(alloc)?'])})"]
 
     def read_functions(self, made: str, result: str, values: List[str]) -> List[str]:
-        """The functions that read fields by name, two each, since proofs give up at many: the first
-        makes a value of this type, of which contracts see these values, and the others a tuple."""
-        texts = []
-        for start in range(0, self.count if self.data.named else 0, 2):
-            rest, later = self.fields[start:], self.data.places()[start + 2:]
+        """The functions that read fields by name: the first makes a value of this type, of which
+        contracts see these values. Where there are more than six it reads two, and the rest is
+        read by a further function, which makes a tuple."""
+        texts, start = [], 0
+        while self.data.named and start < self.count:
+            rest, places = self.fields[start:], self.data.places()[start:]
             if start:
-                made, result = together(self.data.places()[start:]), together([f.type.rust() for f in rest])
+                made, result = together(places), together([f.type.rust() for f in rest])
                 values = [f"z.{i}" for i in range(len(rest))] if len(rest) > 1 else ["z"]
-            lines = []
-            for f, p in list(zip(rest, self.data.places()[start:]))[:2]:
-                reader, missing = ("field_or", f", {f.missing[0]}") if f.missing else ("named_field", "")
-                lines.append(f'let {p} = {reader}(alloc, &mut fields, "{f.wire}"{missing})?;')
-            lines.append(f"let {together(later)} = {self.reader_at(start + 2)}(alloc, fields)?;" if later else
-                         f"{'end' if self.data.closed else 'skip'}_fields(alloc, fields, {self.known})?;")
+            if len(rest) > len(READERS):
+                lines = [self.taking(f, p) for f, p in list(zip(rest, places))[:2]]
+                lines.append(f"let {together(places[2:])} = {self.reader_at(start + 2)}(alloc, fields)?;")
+            else:
+                lines = [f"let {together(places)} = {self.taken(rest)}?;"]
+            lines = [self.taken(rest)] if made == together(places) and len(lines) == 1 else lines + [f"Ok({made})"]
             refusals = [f"({f.type.member(READ, 'refusal')})" for f in rest]
             gives = [f"({f.type.member(READ, 'gives')}) {v}" for f, v in zip(rest, values)]
             texts.insert(0, fields_reader(
                 "Fields, wherever they stand.", self.reader_at(start), result,
                 self.row("refusal", refusals, start=start),
-                f"λ z. {self.row('gives', gives, start=start)}\n(fields_left fields.entry)",
-                lines + [f"Ok({made})"]))
+                f"λ z. {self.row('gives', gives, start=start)}\n(fields_left fields.entry)", lines))
+            start += 2 if len(rest) > len(READERS) else len(rest)
         return texts
+
+    @staticmethod
+    def taking(f: Field, place: str) -> str:
+        """The statement that reads one field."""
+        reader, missing = ("field_or", f", {f.missing[0]}") if f.missing else ("named_field", "")
+        return f'let {place} = {reader}(alloc, &mut fields, "{f.wire}"{missing})?;'
+
+    def taken(self, fields: List[Field]) -> str:
+        """The call that reads all fields, up to six, and what is left over."""
+        each = "".join(f'"{f.wire}", {f"Some({f.missing[0]})" if f.missing else "None"}, ' for f in fields)
+        closed = "true" if self.data.closed else "false"
+        return f"{READERS[len(fields) - 1]}(alloc, fields, {each}{self.known}, {closed})"
 
     def reader_at(self, start: int) -> str:
         return f"{self.reader}_from_{start + 1}" if start else self.reader

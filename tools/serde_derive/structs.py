@@ -1,5 +1,5 @@
 """The impls of a struct."""
-from typing import Callable, Iterator, List, Optional
+from typing import Callable, Iterator, List, Optional, Tuple
 
 from .declarations import Data, Item
 from .holder import FLATTENED, Holder
@@ -13,16 +13,14 @@ class FlattenedHolder(Holder):
 
     def __init__(self, item: Item):
         super().__init__("Struct", [], item.data.flat(), item.name)
-        self.word, self.camel, self.head = "flattened", "Flattened", ""
+        self.word, self.camel, self.head, self.call = "flattened", "Flattened", "", "Call::Map(None)"
 
     def script(self, values: List[str], members: Optional[List[str]] = None) -> str:
         members = members or [f.type.member("Serialize", "script") for f in self.fields]
         return "flattened_script" + self.row("script", [f"({m} {v})" for m, v in zip(members, values)])
 
-    def chain(self, values: List[str]) -> str:
-        entries = "".join(f'.with(Call::Key, &"{f.wire}").with(Call::Value, {value})'
-                          for f, value in zip(self.fields, values))
-        return f"Call::Map(None){entries}.end(alloc, serializer)"
+    def announced(self, name: str, value: str) -> List[Tuple[str, str]]:
+        return [("Call::Key", f'&"{name}"'), ("Call::Value", value)]
 
     def read(self, make: Callable[[List[str]], str]) -> List[str]:
         return ["let fields = from.deserialize_map(alloc)?.by_name();", f"{self.reader}(alloc, fields)"]

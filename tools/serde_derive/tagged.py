@@ -20,7 +20,8 @@ class TaggedHolder(Holder):
         super().__init__("Struct", [name], data, item.name + v.name)
         self.names_known = [tag] + self.names_known
         self.tag, self.variant = tag, v.wire
-        self.call = f'Call::Struct("{name}", {self.count + 1}).with(Call::Field("{tag}"), &"{v.wire}")'
+        self.call = f'Call::Struct("{name}", {self.count + 1})'
+        self.before = self.announced(tag, f'&"{v.wire}"')
 
     def script(self, values: List[str], members: Optional[List[str]] = None) -> str:
         members = members or [f.type.member("Serialize", "script") for f in self.fields]
@@ -31,10 +32,6 @@ class TaggedHolder(Holder):
     def lawful(self, values: List[str]) -> str:
         laws = ["(leaf_lawful refl)"] + [f"({f.type.lawful(v)})" for f, v in zip(self.fields, values)]
         return "struct_lawful" + nest([f"field_fits {law}" for law in laws], "struct_end_fits")
-
-    def chain(self, values: List[str]) -> str:
-        fields = "".join(f'.with(Call::Field("{f.wire}"), {v})' for f, v in zip(self.fields, values))
-        return f"{self.call}{fields}.end(alloc, serializer)"
 
 
 class TaggedWriter(EnumWriter):

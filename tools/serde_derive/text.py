@@ -52,15 +52,17 @@ def function(signature: str, *lines: str) -> str:
 
 def fields_reader(about: str, name: str, result: str, refusal: str, gives: str, lines: List[str]) -> str:
     """A function that reads fields by name, under a contract of what it refuses and may give."""
-    signature = f"fn {name}<'de, 'n: 'de>(alloc: Global, mut fields: FieldsByName<'de, 'n>) -> Result<{result}>"
+    body = "\n".join(lines)
+    fields = "mut fields" if "&mut fields" in body else "fields"
+    signature = f"fn {name}<'de, 'n: 'de>(alloc: Global, {fields}: FieldsByName<'de, 'n>) -> Result<{result}>"
     reads = clause("ensures", f"Reads ({refusal}\n(fields_left fields.entry))\n({gives}) result")
-    return f"/// {about}\n{signature}\n{reads}{{\n" + "\n".join(lines) + "\n}\n"
+    return f"/// {about}\n{signature}\n{reads}{{\n{body}\n}}\n"
 
 
 def arm(pattern: str, lines: List[str]) -> str:
-    """An arm of a match: in braces, but where it is one value that is short or a chain."""
+    """An arm of a match: in braces, but where it is one value that is short."""
     text = f"{pattern} => {''.join(lines)},"
-    if len(lines) == 1 and ";" not in text and (len(text) <= 88 or ".end(" in text):
+    if len(lines) == 1 and ";" not in text and len(text) <= 88:
         return text
     return f"{pattern} => {{\n" + "\n".join(lines) + "\n}"
 

@@ -3,7 +3,7 @@ from typing import List
 
 from .declarations import Item, Refused, Variant
 from .enums import EnumWriter
-from .holder import Holder
+from .holder import Holder, sending
 from .text import DESERIALIZE, SERIALIZE, all_hold, arm, bracketed, codes, elim, facts, function, ghost
 from .text import together
 from .types import READ, nest
@@ -48,8 +48,7 @@ class UntaggedWriter(EnumWriter):
         places = v.data.places()
         if len(places) == 1:
             return f"{places[0]}.serialize(alloc, serializer)"
-        values = "".join(f".with(Call::Element, {p})" for p in places)
-        return f"Call::Tuple({len(places)}){values}.end(alloc, serializer)"
+        return sending(f"Call::Tuple({len(places)})", [("Call::Element", p) for p in places])
 
     def deserialize(self) -> List[str]:
         refusals = [f"({v.held().member(READ, 'refusal')} s)" for v in self.item.variants]

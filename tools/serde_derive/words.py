@@ -73,21 +73,25 @@ std.specs.declared.vec.Vec Vec
 std.specs.declared.boxed.Box Box
 std.specs.declared.collections.BTreeMap BTreeMap
 """)
+COUNTS = "one two three four five six seven eight".split()
+SENDERS, READERS = [f"send_{count}" for count in COUNTS], [f"read_{count}" for count in COUNTS[:6]]
 USES = {
     "serde_content": "CowStr Deserializer Error Result RoundTrip",
     "serde_content::de": "Deserialize FieldsByName attempt end_fields field_or named_field next_part"
-                         " skip_fields tag_field unknown_variant",
-    "serde_content::ser": "Call Parts Serialize Serializer",
+                         f" {' '.join(sorted(READERS))} skip_fields tag_field unknown_variant",
+    "serde_content::ser": f"Call Parts Serialize Serializer {' '.join(sorted(SENDERS))}",
     "std::alloc": "Global",
     "std::collections": "BTreeMap",
 }
-IN_TEXT = {"[]": "[]", "custom": "(custom ", "Some": "(Some "}
-METHODS = {"Parts": r"\.(?:end|around)\("}
+IN_TEXT = {"[]": "[]", "custom": "(custom ", "Some": "(Some (", "None": "≡ None", "true": "people true",
+           "false": "≡ false"}
+METHODS = {"Parts": r"\.(?:with|around)\("}
 TAKEN = {name for names in USES.values() for name in names.split()} | set(HOLDERS) | {"String", "Ok", "Err"}
 
 
 def words_of(text: str, table: Dict[str, str]) -> List[str]:
     """The lines that bring the words of a text, in the table's order."""
+    text = " ".join(text.split())
     used = set(re.findall(r"[^\W\d]\w*|[^\w\s]", text))
     by_module: Dict[str, List[str]] = {}
     for word, module in table.items():

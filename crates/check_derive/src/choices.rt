@@ -47,10 +47,9 @@ ghost use Rattle.check_derive.specs.declared.choices.Command.TheVariants as comm
 ghost use Rattle.check_derive.specs.declared.choices.Setting.TheVariants as setting;
 
 use serde_content::de::{
-    Deserialize, FieldsByName, attempt, field_or, named_field, skip_fields, tag_field,
-    unknown_variant,
+    Deserialize, FieldsByName, attempt, read_two, skip_fields, tag_field, unknown_variant,
 };
-use serde_content::ser::{Call, Parts, Serialize, Serializer};
+use serde_content::ser::{Call, Serialize, Serializer, send_one, send_three, send_two};
 use serde_content::{Deserializer, Error, Result, RoundTrip};
 use std::alloc::Global;
 
@@ -89,17 +88,23 @@ fn send_command_move<S: Serializer, T1: Serialize, T2: Serialize>(
         end_script)))
         result (S.seen serializer.new) }
 {
-    Call::Struct("Command", 3)
-        .with(Call::Field("kind"), &"move")
-        .with(Call::Field("x"), x1)
-        .with(Call::Field("y"), x2)
-        .end(alloc, serializer)
+    send_three(
+        alloc,
+        serializer,
+        Call::Struct("Command", 3),
+        Call::Field("kind"),
+        &"move",
+        Call::Field("x"),
+        x1,
+        Call::Field("y"),
+        x2,
+    )
 }
 
 /// Fields, wherever they stand.
 fn read_command_move<'de, 'n: 'de>(
     alloc: Global,
-    mut fields: FieldsByName<'de, 'n>,
+    fields: FieldsByName<'de, 'n>,
 ) -> Result<(i32, Option<i32>)>
     ensures { Reads (
         (named_then (codes "x") (⟦<i32 as Deserialize<'de>>⟧.refusal)
@@ -113,10 +118,16 @@ fn read_command_move<'de, 'n: 'de>(
         NoOthers))
         (fields_left fields.entry)) result }
 {
-    let x = named_field(alloc, &mut fields, "x")?;
-    let y = field_or(alloc, &mut fields, "y", None)?;
-    skip_fields(alloc, fields, &["kind", "x", "y"])?;
-    Ok((x, y))
+    read_two(
+        alloc,
+        fields,
+        "x",
+        None,
+        "y",
+        Some(None),
+        &["kind", "x", "y"],
+        false,
+    )
 }
 
 /// The variant that its tag names.
@@ -178,9 +189,15 @@ impl Serialize for Command {
 
     fn serialize<S: Serializer>(&self, alloc: Global, serializer: &mut S) -> Result<()> {
         match self {
-            Command::Stop => Call::Struct("Command", 1)
-                .with(Call::Field("kind"), &"stop")
-                .end(alloc, serializer),
+            Command::Stop => {
+                send_one(
+                    alloc,
+                    serializer,
+                    Call::Struct("Command", 1),
+                    Call::Field("kind"),
+                    &"stop",
+                )
+            }
             Command::Move { x, y } => send_command_move(alloc, serializer, x, y),
         }
     }
@@ -342,10 +359,17 @@ impl Serialize for Setting {
         match self {
             Setting::Flag(x1) => x1.serialize(alloc, serializer),
             Setting::Level(x1) => x1.serialize(alloc, serializer),
-            Setting::Range(x1, x2) => Call::Tuple(2)
-                .with(Call::Element, x1)
-                .with(Call::Element, x2)
-                .end(alloc, serializer),
+            Setting::Range(x1, x2) => {
+                send_two(
+                    alloc,
+                    serializer,
+                    Call::Tuple(2),
+                    Call::Element,
+                    x1,
+                    Call::Element,
+                    x2,
+                )
+            }
             Setting::Name(x1) => x1.serialize(alloc, serializer),
         }
     }

@@ -41,9 +41,9 @@ ghost use Rattle.content_tree.specs.Values.Ranges as kind;
 ghost use Rattle.check_derive.specs.declared.inlined.Change.TheVariants as change;
 
 use serde_content::de::{
-    Deserialize, FieldsByName, field_or, named_field, skip_fields, tag_field, unknown_variant,
+    Deserialize, FieldsByName, read_four, read_two, skip_fields, tag_field, unknown_variant,
 };
-use serde_content::ser::{Call, Parts, Serialize, Serializer};
+use serde_content::ser::{Call, Serialize, Serializer, send_eight, send_one, send_three, send_two};
 use serde_content::{Deserializer, Result, RoundTrip};
 use std::alloc::Global;
 
@@ -57,7 +57,7 @@ pub struct Amount {
 }
 
 /// Fields, wherever they stand.
-fn read_amount<'de, 'n: 'de>(alloc: Global, mut fields: FieldsByName<'de, 'n>) -> Result<Amount>
+fn read_amount<'de, 'n: 'de>(alloc: Global, fields: FieldsByName<'de, 'n>) -> Result<Amount>
     ensures { Reads (
         (named_then (codes "count") (⟦<i32 as Deserialize<'de>>⟧.refusal)
         (named_or_then (codes "unit") (⟦<Option<String> as Deserialize<'de>>⟧.refusal)
@@ -70,9 +70,16 @@ fn read_amount<'de, 'n: 'de>(alloc: Global, mut fields: FieldsByName<'de, 'n>) -
         NoOthers))
         (fields_left fields.entry)) result }
 {
-    let count = named_field(alloc, &mut fields, "count")?;
-    let unit = field_or(alloc, &mut fields, "unit", None)?;
-    skip_fields(alloc, fields, &["count", "unit"])?;
+    let (count, unit) = read_two(
+        alloc,
+        fields,
+        "count",
+        None,
+        "unit",
+        Some(None),
+        &["count", "unit"],
+        false,
+    )?;
     Ok(Amount { count, unit })
 }
 
@@ -88,10 +95,15 @@ impl Serialize for Amount {
         struct_end_fits)) };
 
     fn serialize<S: Serializer>(&self, alloc: Global, serializer: &mut S) -> Result<()> {
-        Call::Struct("Amount", 2)
-            .with(Call::Field("count"), &self.count)
-            .with(Call::Field("unit"), &self.unit)
-            .end(alloc, serializer)
+        send_two(
+            alloc,
+            serializer,
+            Call::Struct("Amount", 2),
+            Call::Field("count"),
+            &self.count,
+            Call::Field("unit"),
+            &self.unit,
+        )
     }
 }
 
@@ -176,44 +188,31 @@ fn send_line<S: Serializer, T1: Serialize, T2: Serialize, T3: Serialize, T4: Ser
         end_script)))))
         result (S.seen serializer.new) }
 {
-    Call::Map(None)
-        .with(Call::Key, &"goods")
-        .with(Call::Value, x1)
-        .with(Call::Key, &"count")
-        .with(Call::Value, x2)
-        .with(Call::Key, &"unit")
-        .with(Call::Value, x3)
-        .with(Call::Key, &"price")
-        .with(Call::Value, x4)
-        .end(alloc, serializer)
+    send_eight(
+        alloc,
+        serializer,
+        Call::Map(None),
+        Call::Key,
+        &"goods",
+        Call::Value,
+        x1,
+        Call::Key,
+        &"count",
+        Call::Value,
+        x2,
+        Call::Key,
+        &"unit",
+        Call::Value,
+        x3,
+        Call::Key,
+        &"price",
+        Call::Value,
+        x4,
+    )
 }
 
 /// Fields, wherever they stand.
-fn read_line_from_3<'de, 'n: 'de>(
-    alloc: Global,
-    mut fields: FieldsByName<'de, 'n>,
-) -> Result<(Option<String>, u64)>
-    ensures { Reads (
-        (named_or_then (codes "unit") (⟦<Option<String> as Deserialize<'de>>⟧.refusal)
-        (named_then (codes "price") (⟦<u64 as Deserialize<'de>>⟧.refusal)
-        (others_skipped (codes "goods" ∷ codes "count" ∷ codes "unit" ∷ codes "price" ∷
-        []))))
-        (fields_left fields.entry))
-        (λ z.
-        (NamedOrThen (codes "unit") (λ (x : (Option (String Global))). x ≡ None)
-        (⟦<Option<String> as Deserialize<'de>>⟧.gives) z.0
-        (NamedThen (codes "price") (⟦<u64 as Deserialize<'de>>⟧.gives) z.1
-        NoOthers))
-        (fields_left fields.entry)) result }
-{
-    let amount_unit = field_or(alloc, &mut fields, "unit", None)?;
-    let price = named_field(alloc, &mut fields, "price")?;
-    skip_fields(alloc, fields, &["goods", "count", "unit", "price"])?;
-    Ok((amount_unit, price))
-}
-
-/// Fields, wherever they stand.
-fn read_line<'de, 'n: 'de>(alloc: Global, mut fields: FieldsByName<'de, 'n>) -> Result<Line>
+fn read_line<'de, 'n: 'de>(alloc: Global, fields: FieldsByName<'de, 'n>) -> Result<Line>
     ensures { Reads (
         (named_then (codes "goods") (⟦<String as Deserialize<'de>>⟧.refusal)
         (named_then (codes "count") (⟦<i32 as Deserialize<'de>>⟧.refusal)
@@ -231,9 +230,20 @@ fn read_line<'de, 'n: 'de>(alloc: Global, mut fields: FieldsByName<'de, 'n>) -> 
         NoOthers))))
         (fields_left fields.entry)) result }
 {
-    let goods = named_field(alloc, &mut fields, "goods")?;
-    let amount_count = named_field(alloc, &mut fields, "count")?;
-    let (amount_unit, price) = read_line_from_3(alloc, fields)?;
+    let (goods, amount_count, amount_unit, price) = read_four(
+        alloc,
+        fields,
+        "goods",
+        None,
+        "count",
+        None,
+        "unit",
+        Some(None),
+        "price",
+        None,
+        &["goods", "count", "unit", "price"],
+        false,
+    )?;
     Ok(Line {
         goods,
         amount: Amount {
@@ -359,15 +369,21 @@ fn send_change_add<S: Serializer, T1: Serialize, T2: Serialize>(
         end_script)))
         result (S.seen serializer.new) }
 {
-    Call::Struct("Amount", 3)
-        .with(Call::Field("op"), &"add")
-        .with(Call::Field("count"), x1)
-        .with(Call::Field("unit"), x2)
-        .end(alloc, serializer)
+    send_three(
+        alloc,
+        serializer,
+        Call::Struct("Amount", 3),
+        Call::Field("op"),
+        &"add",
+        Call::Field("count"),
+        x1,
+        Call::Field("unit"),
+        x2,
+    )
 }
 
 /// Fields, wherever they stand.
-fn read_change_add<'de, 'n: 'de>(alloc: Global, mut fields: FieldsByName<'de, 'n>) -> Result<Amount>
+fn read_change_add<'de, 'n: 'de>(alloc: Global, fields: FieldsByName<'de, 'n>) -> Result<Amount>
     ensures { Reads (
         (named_then (codes "count") (⟦<i32 as Deserialize<'de>>⟧.refusal)
         (named_or_then (codes "unit") (⟦<Option<String> as Deserialize<'de>>⟧.refusal)
@@ -380,9 +396,16 @@ fn read_change_add<'de, 'n: 'de>(alloc: Global, mut fields: FieldsByName<'de, 'n
         NoOthers))
         (fields_left fields.entry)) result }
 {
-    let count = named_field(alloc, &mut fields, "count")?;
-    let unit = field_or(alloc, &mut fields, "unit", None)?;
-    skip_fields(alloc, fields, &["op", "count", "unit"])?;
+    let (count, unit) = read_two(
+        alloc,
+        fields,
+        "count",
+        None,
+        "unit",
+        Some(None),
+        &["op", "count", "unit"],
+        false,
+    )?;
     Ok(Amount { count, unit })
 }
 
@@ -444,9 +467,15 @@ impl Serialize for Change {
 
     fn serialize<S: Serializer>(&self, alloc: Global, serializer: &mut S) -> Result<()> {
         match self {
-            Change::Clear => Call::Struct("Change", 1)
-                .with(Call::Field("op"), &"clear")
-                .end(alloc, serializer),
+            Change::Clear => {
+                send_one(
+                    alloc,
+                    serializer,
+                    Call::Struct("Change", 1),
+                    Call::Field("op"),
+                    &"clear",
+                )
+            }
             Change::Add(x1) => send_change_add(alloc, serializer, &x1.count, &x1.unit),
         }
     }

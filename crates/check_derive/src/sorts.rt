@@ -49,9 +49,9 @@ ghost use Rattle.check_derive.specs.declared.sorts.Message.TheVariants as messag
 
 use crate::types::Place;
 use serde_content::de::{
-    Deserialize, FieldsByName, named_field, next_part, skip_fields, tag_field, unknown_variant,
+    Deserialize, FieldsByName, next_part, read_one, skip_fields, tag_field, unknown_variant,
 };
-use serde_content::ser::{Call, Parts, Serialize, Serializer};
+use serde_content::ser::{Call, Parts, Serialize, Serializer, send_one, send_two};
 use serde_content::{Deserializer, Result, RoundTrip};
 use std::alloc::Global;
 use std::collections::BTreeMap;
@@ -151,10 +151,15 @@ impl Serialize for Stop {
         tuple_end_fits)) };
 
     fn serialize<S: Serializer>(&self, alloc: Global, serializer: &mut S) -> Result<()> {
-        Call::TupleStruct("Stop", 2)
-            .with(Call::TupleField, &self.0)
-            .with(Call::TupleField, &self.1)
-            .end(alloc, serializer)
+        send_two(
+            alloc,
+            serializer,
+            Call::TupleStruct("Stop", 2),
+            Call::TupleField,
+            &self.0,
+            Call::TupleField,
+            &self.1,
+        )
     }
 }
 
@@ -279,10 +284,7 @@ pub enum Message {
 }
 
 /// Fields, wherever they stand.
-fn read_message_text<'de, 'n: 'de>(
-    alloc: Global,
-    mut fields: FieldsByName<'de, 'n>,
-) -> Result<String>
+fn read_message_text<'de, 'n: 'de>(alloc: Global, fields: FieldsByName<'de, 'n>) -> Result<String>
     ensures { Reads (
         (named_then (codes "c") (⟦<String as Deserialize<'de>>⟧.refusal)
         (others_skipped (codes "t" ∷ codes "c" ∷ [])))
@@ -292,9 +294,7 @@ fn read_message_text<'de, 'n: 'de>(
         NoOthers)
         (fields_left fields.entry)) result }
 {
-    let x1 = named_field(alloc, &mut fields, "c")?;
-    skip_fields(alloc, fields, &["t", "c"])?;
-    Ok(x1)
+    read_one(alloc, fields, "c", None, &["t", "c"], false)
 }
 
 /// The variant that its tag names.
@@ -350,13 +350,26 @@ impl Serialize for Message {
 
     fn serialize<S: Serializer>(&self, alloc: Global, serializer: &mut S) -> Result<()> {
         match self {
-            Message::Ping => Call::Struct("Message", 1)
-                .with(Call::Field("t"), &"Ping")
-                .end(alloc, serializer),
-            Message::Text(x1) => Call::Struct("Message", 2)
-                .with(Call::Field("t"), &"Text")
-                .with(Call::Field("c"), x1)
-                .end(alloc, serializer),
+            Message::Ping => {
+                send_one(
+                    alloc,
+                    serializer,
+                    Call::Struct("Message", 1),
+                    Call::Field("t"),
+                    &"Ping",
+                )
+            }
+            Message::Text(x1) => {
+                send_two(
+                    alloc,
+                    serializer,
+                    Call::Struct("Message", 2),
+                    Call::Field("t"),
+                    &"Text",
+                    Call::Field("c"),
+                    x1,
+                )
+            }
         }
     }
 }

@@ -62,10 +62,9 @@ ghost use Rattle.check_derive.specs.declared.types.Step.{Step};
 ghost use Rattle.check_derive.specs.declared.types.Step.TheVariants as step;
 
 use serde_content::de::{
-    Deserialize, FieldsByName, end_fields, field_or, named_field, next_part, skip_fields,
-    unknown_variant,
+    Deserialize, FieldsByName, next_part, read_six, read_two, unknown_variant,
 };
-use serde_content::ser::{Call, Parts, Serialize, Serializer};
+use serde_content::ser::{Call, Parts, Serialize, Serializer, send_six, send_two};
 use serde_content::{CowStr, Deserializer, Result, RoundTrip};
 use std::alloc::Global;
 use std::collections::BTreeMap;
@@ -80,7 +79,7 @@ pub struct Place {
 }
 
 /// Fields, wherever they stand.
-fn read_place<'de, 'n: 'de>(alloc: Global, mut fields: FieldsByName<'de, 'n>) -> Result<Place>
+fn read_place<'de, 'n: 'de>(alloc: Global, fields: FieldsByName<'de, 'n>) -> Result<Place>
     ensures { Reads (
         (named_then (codes "streetName") (⟦<String as Deserialize<'de>>⟧.refusal)
         (named_or_then (codes "floor") (⟦<Option<u8> as Deserialize<'de>>⟧.refusal)
@@ -93,9 +92,16 @@ fn read_place<'de, 'n: 'de>(alloc: Global, mut fields: FieldsByName<'de, 'n>) ->
         NoOthers))
         (fields_left fields.entry)) result }
 {
-    let street_name = named_field(alloc, &mut fields, "streetName")?;
-    let floor = field_or(alloc, &mut fields, "floor", None)?;
-    end_fields(alloc, fields, &["streetName", "floor"])?;
+    let (street_name, floor) = read_two(
+        alloc,
+        fields,
+        "streetName",
+        None,
+        "floor",
+        Some(None),
+        &["streetName", "floor"],
+        true,
+    )?;
     Ok(Place { street_name, floor })
 }
 
@@ -111,10 +117,15 @@ impl Serialize for Place {
         struct_end_fits)) };
 
     fn serialize<S: Serializer>(&self, alloc: Global, serializer: &mut S) -> Result<()> {
-        Call::Struct("Place", 2)
-            .with(Call::Field("streetName"), &self.street_name)
-            .with(Call::Field("floor"), &self.floor)
-            .end(alloc, serializer)
+        send_two(
+            alloc,
+            serializer,
+            Call::Struct("Place", 2),
+            Call::Field("streetName"),
+            &self.street_name,
+            Call::Field("floor"),
+            &self.floor,
+        )
     }
 }
 
@@ -196,7 +207,7 @@ fn make_step_moved(x1: i32, x2: i32) -> Step
 /// Fields, wherever they stand.
 fn read_step_left<'de, 'n: 'de>(
     alloc: Global,
-    mut fields: FieldsByName<'de, 'n>,
+    fields: FieldsByName<'de, 'n>,
 ) -> Result<(String, Place)>
     ensures { Reads (
         (named_then (codes "with") (⟦<String as Deserialize<'de>>⟧.refusal)
@@ -209,10 +220,16 @@ fn read_step_left<'de, 'n: 'de>(
         NoOthers))
         (fields_left fields.entry)) result }
 {
-    let with = named_field(alloc, &mut fields, "with")?;
-    let place = named_field(alloc, &mut fields, "at")?;
-    skip_fields(alloc, fields, &["with", "at"])?;
-    Ok((with, place))
+    read_two(
+        alloc,
+        fields,
+        "with",
+        None,
+        "at",
+        None,
+        &["with", "at"],
+        false,
+    )
 }
 
 impl Serialize for Step {
@@ -251,14 +268,28 @@ impl Serialize for Step {
             Step::Weighed(x1) => {
                 Call::NewtypeVariant("Step", 1, "weighed").around(x1, alloc, serializer)
             }
-            Step::Moved(x1, x2) => Call::TupleVariant("Step", 2, "moved-by", 2)
-                .with(Call::TupleField, x1)
-                .with(Call::TupleField, x2)
-                .end(alloc, serializer),
-            Step::Left { with, place } => Call::StructVariant("Step", 3, "left", 2)
-                .with(Call::Field("with"), with)
-                .with(Call::Field("at"), place)
-                .end(alloc, serializer),
+            Step::Moved(x1, x2) => {
+                send_two(
+                    alloc,
+                    serializer,
+                    Call::TupleVariant("Step", 2, "moved-by", 2),
+                    Call::TupleField,
+                    x1,
+                    Call::TupleField,
+                    x2,
+                )
+            }
+            Step::Left { with, place } => {
+                send_two(
+                    alloc,
+                    serializer,
+                    Call::StructVariant("Step", 3, "left", 2),
+                    Call::Field("with"),
+                    with,
+                    Call::Field("at"),
+                    place,
+                )
+            }
         }
     }
 }
@@ -473,82 +504,27 @@ fn send_order<
         end_script)))))))
         result (S.seen serializer.new) }
 {
-    Call::Struct("Order", 6)
-        .with(Call::Field("order-id"), x1)
-        .with(Call::Field("to"), x2)
-        .with(Call::Field("steps"), x3)
-        .with(Call::Field("goods"), x4)
-        .with(Call::Field("size"), x5)
-        .with(Call::Field("note"), x6)
-        .end(alloc, serializer)
-}
-
-/// Fields, wherever they stand.
-fn read_order_from_5<'de, 'n: 'de>(
-    alloc: Global,
-    mut fields: FieldsByName<'de, 'n>,
-) -> Result<((u16, u16, u16), Option<Box<String>>)>
-    ensures { Reads (
-        (named_then (codes "size") (⟦<(u16, u16, u16) as Deserialize<'de>>⟧.refusal)
-        (named_or_then (codes "note") (⟦<Option<Box<String>> as Deserialize<'de>>⟧.refusal)
-        (others_skipped (codes "order-id" ∷ codes "to" ∷ codes "steps" ∷ codes "goods" ∷
-        codes "size" ∷ codes "note" ∷ []))))
-        (fields_left fields.entry))
-        (λ z.
-        (NamedThen (codes "size") (⟦<(u16, u16, u16) as Deserialize<'de>>⟧.gives) z.0
-        (NamedOrThen (codes "note") (λ (x : (Option (Box (String Global) Global))). x ≡
-        None) (⟦<Option<Box<String>> as Deserialize<'de>>⟧.gives) z.1
-        NoOthers))
-        (fields_left fields.entry)) result }
-{
-    let size = named_field(alloc, &mut fields, "size")?;
-    let note = field_or(alloc, &mut fields, "note", None)?;
-    skip_fields(
+    send_six(
         alloc,
-        fields,
-        &["order-id", "to", "steps", "goods", "size", "note"],
-    )?;
-    Ok((size, note))
+        serializer,
+        Call::Struct("Order", 6),
+        Call::Field("order-id"),
+        x1,
+        Call::Field("to"),
+        x2,
+        Call::Field("steps"),
+        x3,
+        Call::Field("goods"),
+        x4,
+        Call::Field("size"),
+        x5,
+        Call::Field("note"),
+        x6,
+    )
 }
 
 /// Fields, wherever they stand.
-fn read_order_from_3<'de, 'n: 'de>(
-    alloc: Global,
-    mut fields: FieldsByName<'de, 'n>,
-) -> Result<
-    (
-        Vec<Step>,
-        BTreeMap<String, u32>,
-        (u16, u16, u16),
-        Option<Box<String>>,
-    ),
->
-    ensures { Reads (
-        (named_or_then (codes "steps") (⟦<Vec<Step> as Deserialize<'de>>⟧.refusal)
-        (named_then (codes "goods") (⟦<BTreeMap<String, u32> as Deserialize<'de>>⟧.refusal)
-        (named_then (codes "size") (⟦<(u16, u16, u16) as Deserialize<'de>>⟧.refusal)
-        (named_or_then (codes "note") (⟦<Option<Box<String>> as Deserialize<'de>>⟧.refusal)
-        (others_skipped (codes "order-id" ∷ codes "to" ∷ codes "steps" ∷ codes "goods" ∷
-        codes "size" ∷ codes "note" ∷ []))))))
-        (fields_left fields.entry))
-        (λ z.
-        (NamedOrThen (codes "steps") (λ (x : (Vec Step Global)). x.items ≡ [])
-        (⟦<Vec<Step> as Deserialize<'de>>⟧.gives) z.0
-        (NamedThen (codes "goods") (⟦<BTreeMap<String, u32> as Deserialize<'de>>⟧.gives) z.1
-        (NamedThen (codes "size") (⟦<(u16, u16, u16) as Deserialize<'de>>⟧.gives) z.2
-        (NamedOrThen (codes "note") (λ (x : (Option (Box (String Global) Global))). x ≡
-        None) (⟦<Option<Box<String>> as Deserialize<'de>>⟧.gives) z.3
-        NoOthers))))
-        (fields_left fields.entry)) result }
-{
-    let steps = field_or(alloc, &mut fields, "steps", Vec::new(alloc))?;
-    let goods = named_field(alloc, &mut fields, "goods")?;
-    let (size, note) = read_order_from_5(alloc, fields)?;
-    Ok((steps, goods, size, note))
-}
-
-/// Fields, wherever they stand.
-fn read_order<'de, 'n: 'de>(alloc: Global, mut fields: FieldsByName<'de, 'n>) -> Result<Order>
+fn read_order<'de, 'n: 'de>(alloc: Global, fields: FieldsByName<'de, 'n>) -> Result<Order>
     ensures { Reads (
         (named_then (codes "order-id") (⟦<u64 as Deserialize<'de>>⟧.refusal)
         (named_then (codes "to") (⟦<Place as Deserialize<'de>>⟧.refusal)
@@ -572,9 +548,24 @@ fn read_order<'de, 'n: 'de>(alloc: Global, mut fields: FieldsByName<'de, 'n>) ->
         NoOthers))))))
         (fields_left fields.entry)) result }
 {
-    let id = named_field(alloc, &mut fields, "order-id")?;
-    let to = named_field(alloc, &mut fields, "to")?;
-    let (steps, goods, size, note) = read_order_from_3(alloc, fields)?;
+    let (id, to, steps, goods, size, note) = read_six(
+        alloc,
+        fields,
+        "order-id",
+        None,
+        "to",
+        None,
+        "steps",
+        Some(Vec::new(alloc)),
+        "goods",
+        None,
+        "size",
+        None,
+        "note",
+        Some(None),
+        &["order-id", "to", "steps", "goods", "size", "note"],
+        false,
+    )?;
     Ok(Order {
         id,
         to,
