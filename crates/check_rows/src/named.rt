@@ -14,7 +14,7 @@ macro_rules! with_type {
 macro_rules! case_named {
     ($name:expr, $of:ident, [$($known:ident),* $(,)?]) => {
         match $name {
-            $(name if name == stringify!($known) => Ok($of::$known),)*
+            $(stringify!($known) => Ok($of::$known),)*
             _ => Err(Failure::NoRow),
         }
     };
