@@ -4,7 +4,7 @@
 macro_rules! with_type {
     ($name:expr, $done:ident $given:tt, [$($known:ty),* $(,)?], $other:expr) => {
         match $name {
-            $(name if name == stringify!($known) => $done::<$known> $given,)*
+            $(stringify!($known) => $done::<$known> $given,)*
             _ => $other,
         }
     };
