@@ -2,3 +2,5 @@ pub mod Signs
 pub mod Writing
 pub mod HandedOn
 pub mod Read
+pub mod Coded
+pub mod Forms

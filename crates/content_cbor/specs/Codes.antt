@@ -1,5 +1,5 @@
 -- Which bytes code a tree: heads of any length, definite and indefinite lengths.
-use Rattle.std.specs.Prelude.{◌≡◌, ◌⊎◌, ℕ, suc, zero, ◌^◌, ◌<◌, ℤ, pos, negsuc, Bool, true}
+use Rattle.std.specs.Prelude.{◌≡◌, ◌⊎◌, ℕ, suc, zero, ◌^◌, ◌<◌, ℤ, pos, negsuc, true}
 use Rattle.std.specs.Prelude.{List, [], ◌∷◌, ◌++◌, length, nat_lt, if◌then◌else◌}
 use Rattle.std.specs.List.{concat}
 use Rattle.std.specs.Int.{Width, to_be_bytes, w8, w16, w32, w64}

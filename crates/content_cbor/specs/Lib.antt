@@ -3,6 +3,8 @@ pub mod Heads
 pub mod Item
 pub mod Encoded
 pub mod Codes
+pub mod Form
+pub mod Laws
 pub mod Inner
 pub mod Decoded
 pub mod PrintedFault

@@ -6,6 +6,7 @@ mod decode_error;
 mod decoding;
 mod encoding;
 mod heads;
+pub mod laws;
 mod leaves;
 mod numbers;
 mod stop;

@@ -1,5 +1,5 @@
 -- Heads that are read.
-use Rattle.std.proofs.Common.{◌≡◌, ℕ, suc, zero, ◌+◌, ◌*◌, ◌/◌, ◌%◌, ◌^◌, ◌<◌, ◌≤◌, Bool, true, false, cond, eqb, ltb, List, [], ◌∷◌, ◌++◌, get_or, length, take, drop, Option, Some, None, Result, Ok, Err, ◌⊎◌, refl, sym, ap, subst, ◌∙◌, arith, inl, inr}
+use Rattle.std.proofs.Common.{◌≡◌, ℕ, ◌/◌, ◌%◌, ◌<◌, ◌≤◌, Bool, true, false, cond, eqb, ltb, List, [], ◌∷◌, ◌++◌, length, take, drop, Option, Some, None, Result, Ok, ◌⊎◌, refl, sym, ap, subst, ◌∙◌, arith, inl, inr}
 use Rattle.std.specs.Int.{Width, byte_len, from_be_bytes, to_be_bytes, w8, w16, w32, w64}
 use Rattle.std.proofs.lemmas.Bool.{ltb-false, ltb-true, le-ltb, lt-ltb, eqb-true, eqb-false}
 use Rattle.std.proofs.lemmas.List.{take_at, drop_at, take-append-drop, length-append, length-take}
@@ -12,7 +12,7 @@ use Rattle.content_cbor.specs.declared.heads.Head.{Head}
 use Rattle.content_cbor.specs.declared.heads.Major.{Major}
 use Rattle.content_cbor.specs.declared.heads.Major.TheVariants as major
 use Rattle.content_cbor.specs.declared.stop.Refusal.{Refusal}
-use Rattle.content_cbor.specs.Inner.Reading.{◌>>=◌, Reader, argument_at, head_at, is_simple, major_of, number_at, refused}
+use Rattle.content_cbor.specs.Inner.Reading.{◌>>=◌, argument_at, head_at, is_simple, major_of, number_at, refused}
 use Rattle.content_cbor.proofs.Read.Steps.{ok_is, bind_ok, chosen, passed}
 use Rattle.content_cbor.proofs.Read.Took.{IsBytes, IsBytes-drop, IsBytes-rest, IsBytes-take, Took, Sound}
 

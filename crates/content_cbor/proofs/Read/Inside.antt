@@ -1,5 +1,5 @@
 -- What stands behind the head of an array or a map.
-use Rattle.std.proofs.Common.{◌≡◌, ℕ, suc, zero, ◌-◌, ◌<◌, List, Result, Ok, Err, refl, sym, ap, ◌∙◌, arith}
+use Rattle.std.proofs.Common.{◌≡◌, ℕ, suc, zero, ◌-◌, ◌<◌, List, Ok, refl, ◌∙◌, arith}
 use Rattle.content_tree.specs.Values.Tree as tree
 use Rattle.content_tree.specs.Values.Tree.{Tree}
 use Rattle.content_tree.specs.Values.Value.{trees_of, pairs_of}
@@ -7,7 +7,7 @@ use Rattle.content_cbor.specs.declared.heads.Head.{Head}
 use Rattle.content_cbor.specs.declared.heads.Major.TheVariants as major
 use Rattle.content_cbor.specs.declared.stop.Stop.{Stop}
 use Rattle.content_cbor.specs.declared.stop.Stop.TheVariants as stop
-use Rattle.content_cbor.specs.Inner.Reading.{◌>>=◌, Fails, head_at, inside_at, item_at, pair_at, parts_at}
+use Rattle.content_cbor.specs.Inner.Reading.{Fails, head_at, inside_at, item_at, pair_at, parts_at}
 
 one_less : (n : ℕ) → suc n - 1 ≡ n
 one_less n = omega arith

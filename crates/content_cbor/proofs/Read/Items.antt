@@ -1,27 +1,21 @@
 -- Items that are read.
-use Rattle.std.proofs.Common.{◌≡◌, ℕ, suc, zero, ◌+◌, ◌<◌, ◌^◌, ℤ, pos, negsuc, Bool, true, false, cond, eqb, List, [], ◌∷◌, ◌++◌, length, Option, Some, None, Result, Ok, Err, ◌⊎◌, refl, sym, ap, subst, ◌∙◌, append_assoc, append-nil, arith, length-append, inl, inr}
-use Rattle.std.specs.Int.Digits.{number_from_digits}
+use Rattle.std.proofs.Common.{◌≡◌, ℕ, suc, zero, pos, negsuc, true, false, cond, eqb, List, [], ◌∷◌, ◌++◌, length, Option, Some, None, Ok, refl, sym, ap, subst, ◌∙◌, append_assoc, append-nil, arith, length-append, inl, inr}
 use Rattle.std.proofs.lemmas.Bool.{eqb-true}
-use Rattle.std.proofs.lemmas.List.{nil_from_length}
-use Rattle.content_tree.specs.Values.Text.{Text}
 use Rattle.content_tree.specs.Values.Tree as tree
 use Rattle.content_tree.specs.Values.Tree.{Tree}
 use Rattle.content_tree.specs.Values.Value.{trees_of, pairs_of}
-use Rattle.content_tree.specs.declared.number.Number.{Number}
 use Rattle.content_cbor.specs.Heads.{first_byte}
-use Rattle.content_cbor.specs.Codes.{Codes, Each, IsHead, IsItem, IsPair, IsString, Open, Parts, number_of}
+use Rattle.content_cbor.specs.Codes.{Codes, Each, IsHead, IsItem, IsPair, Parts, number_of}
 use Rattle.content_cbor.specs.declared.decode_error.Fault.TheVariants as fault
-use Rattle.content_cbor.specs.declared.heads.Head.{Head}
 use Rattle.content_cbor.specs.declared.heads.Major.{Major}
 use Rattle.content_cbor.specs.declared.heads.Major.TheVariants as major
-use Rattle.content_cbor.specs.declared.stop.Refusal.{Refusal}
-use Rattle.content_cbor.specs.Inner.Reading.{◌>>=◌, Reader, at_break, each_at, head_at, inside_at, is_simple, item_at, leaf_at, pair_at, parts_at, refused, simple_at, string_at, tag_at, until_at, whole_at}
-use Rattle.content_cbor.proofs.Read.Steps.{ok_is, bind_ok, chosen, failed}
+use Rattle.content_cbor.specs.Inner.Reading.{◌>>=◌, Reader, at_break, each_at, head_at, inside_at, item_at, leaf_at, pair_at, parts_at, refused, simple_at, string_at, tag_at}
+use Rattle.content_cbor.proofs.Read.Steps.{ok_is, bind_ok, chosen}
 use Rattle.content_cbor.proofs.Read.Took.{IsBytes, Took, Sound, Complete, regrouped}
-use Rattle.content_cbor.proofs.Read.Parts.{Begins, Ends, each_sound, each_complete, until_sound, until_complete}
-use Rattle.content_cbor.proofs.Read.Heads.{HeadOf, head_sound, head_again, numbered, opening_again, simple_again}
-use Rattle.content_cbor.proofs.Read.Strings.{string_sound, string_complete, string_whole, string_apart, string_begins, head_begins, opening_begins}
-use Rattle.content_cbor.proofs.Read.Tags.{IsNumber, tag_sound, unsigned_again, negative_again}
+use Rattle.content_cbor.proofs.Read.Parts.{Begins, Ends, each_sound, until_sound}
+use Rattle.content_cbor.proofs.Read.Heads.{HeadOf, head_sound, numbered}
+use Rattle.content_cbor.proofs.Read.Strings.{string_sound, string_whole}
+use Rattle.content_cbor.proofs.Read.Tags.{tag_sound}
 
 -- a tree, by what stands behind a head
 abbrev Behind : (Tree → List ℕ → Type 0) → List ℕ → Tree → List ℕ → Type 0

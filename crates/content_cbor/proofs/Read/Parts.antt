@@ -1,8 +1,8 @@
 -- Parts one after another, so many or up to a break.
-use Rattle.std.proofs.Common.{◌≡◌, ℕ, suc, zero, ◌+◌, ◌<◌, ◌≤◌, Bool, true, false, cond, List, [], ◌∷◌, ◌++◌, length, drop, Result, Ok, ◌⊎◌, refl, sym, ap, subst, ◌∙◌, append_assoc, append-nil, arith, length-append, inl, inr}
+use Rattle.std.proofs.Common.{◌≡◌, ℕ, suc, zero, ◌<◌, true, false, List, [], ◌∷◌, ◌++◌, length, drop, Ok, refl, sym, ap, subst, ◌∙◌, append_assoc, arith, length-append, inl, inr}
 use Rattle.std.proofs.lemmas.Bool.{eqb-true}
 use Rattle.content_cbor.specs.Codes.{Each}
-use Rattle.content_cbor.specs.Inner.Reading.{◌>>=◌, Reader, refused, at_break, each_at, until_at}
+use Rattle.content_cbor.specs.Inner.Reading.{◌>>=◌, Reader, at_break, each_at, until_at}
 use Rattle.content_cbor.proofs.Read.Steps.{ok_is, bind_ok, chosen}
 use Rattle.content_cbor.proofs.Read.Took.{IsBytes, IsBytes-rest, Took, Sound, Complete, regrouped}
 

@@ -2,7 +2,7 @@
 use Rattle.std.proofs.Common.{◌≡◌, ℕ, Bool, true, false, cond, Option, Some, None, Result, Ok, Err, List, ◌⊎◌, refl, inl, inr}
 use Rattle.content_cbor.specs.declared.decode_error.Fault.{Fault}
 use Rattle.content_cbor.specs.declared.stop.Refusal.{Refusal}
-use Rattle.content_cbor.specs.Inner.Reading.{◌>>=◌, or_refused, refused}
+use Rattle.content_cbor.specs.Inner.Reading.{◌>>=◌, or_refused}
 
 abbrev done : {A : Type 0} → A → Result A Refusal
 done x = Ok x

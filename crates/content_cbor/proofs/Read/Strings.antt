@@ -1,5 +1,5 @@
 -- Texts and bytes that are read.
-use Rattle.std.proofs.Common.{◌≡◌, ℕ, ◌+◌, ◌-◌, ◌*◌, ◌<◌, ◌≤◌, Bool, true, false, cond, eqb, ltb, List, [], ◌∷◌, ◌++◌, length, take, drop, Option, Some, None, Result, Ok, Err, ◌⊎◌, refl, sym, ap, subst, ◌∙◌, append_assoc, arith, length-append, inl, inr}
+use Rattle.std.proofs.Common.{◌≡◌, ℕ, ◌-◌, ◌<◌, Bool, true, false, cond, eqb, ltb, List, [], ◌∷◌, ◌++◌, length, take, drop, Option, Some, None, Result, Ok, Err, refl, sym, ap, subst, ◌∙◌, append_assoc, arith, length-append, inl, inr}
 use Rattle.std.specs.List.{concat}
 use Rattle.std.specs.Str.{IsUtf8, is_utf8}
 use Rattle.std.specs.Str.Lossy.{utf8_valid_len}
@@ -8,17 +8,17 @@ use Rattle.std.proofs.lemmas.List.{take_at, drop_at, take-append-drop, length-ta
 use Rattle.std.proofs.lemmas.Str.{is_utf8-from_IsUtf8, IsUtf8-from_is_utf8}
 use Rattle.content_tree.specs.Values.Text.{Text, owned_text, static_name}
 use Rattle.content_cbor.specs.Heads.{code, first_byte}
-use Rattle.content_cbor.specs.Codes.{IsContent, IsHead, IsPiece, IsString, Open, info_of}
+use Rattle.content_cbor.specs.Codes.{IsContent, IsHead, IsPiece, IsString, info_of}
 use Rattle.content_cbor.specs.declared.decode_error.Fault.TheVariants as fault
 use Rattle.content_cbor.specs.declared.heads.Head.{Head}
 use Rattle.content_cbor.specs.declared.heads.Major.{Major}
 use Rattle.content_cbor.specs.declared.heads.Major.TheVariants as major
 use Rattle.content_cbor.specs.declared.stop.Refusal.{Refusal}
-use Rattle.content_cbor.specs.Inner.Reading.{◌>>=◌, Reader, at_break, bytes_at, chunk_at, chunk_length, chunks_at, content_at, head_at, is_simple, or_refused, string_at, until_at}
+use Rattle.content_cbor.specs.Inner.Reading.{◌>>=◌, at_break, bytes_at, chunk_at, chunk_length, chunks_at, content_at, head_at, is_simple, or_refused, string_at, until_at}
 use Rattle.content_cbor.proofs.Read.Steps.{ok_is, bind_ok, passed, failed, there}
 use Rattle.content_cbor.proofs.Read.Took.{IsBytes, IsBytes-drop, Took, Sound, Complete, regrouped}
 use Rattle.content_cbor.proofs.Read.Parts.{Begins, Ends, until_sound, until_complete}
-use Rattle.content_cbor.proofs.Read.Heads.{HeadOf, HeadIs, head_sound, head_again, infos, numbered, opening_again}
+use Rattle.content_cbor.proofs.Read.Heads.{HeadOf, head_sound, head_again, infos, numbered, opening_again}
 
 -- the major type of a text or of bytes
 abbrev pub string_major : Bool → Major

@@ -1,19 +1,17 @@
 -- Numbers under a tag.
-use Rattle.std.proofs.Common.{◌≡◌, ℕ, ◌^◌, ◌<◌, ℤ, pos, negsuc, Bool, true, false, cond, eqb, ltb, List, ◌++◌, Option, Some, None, Result, Ok, Err, ◌⊎◌, refl, sym, ap, subst, ◌∙◌, append_assoc, inl, inr}
+use Rattle.std.proofs.Common.{◌≡◌, ℕ, ◌^◌, ◌<◌, ℤ, pos, negsuc, Bool, true, false, cond, eqb, ltb, List, ◌++◌, Option, Some, None, Ok, refl, subst, inl, inr}
 use Rattle.std.specs.Int.Digits.{number_from_digits}
 use Rattle.std.proofs.lemmas.Bool.{eqb-true, ltb-true, lt-ltb}
 use Rattle.content_tree.specs.Values.Text.{Text}
 use Rattle.content_tree.specs.declared.number.Number.{Number}
-use Rattle.content_cbor.specs.Codes.{IsHead, IsInteger, IsString, IsTagged, number_of}
+use Rattle.content_cbor.specs.Codes.{IsHead, IsInteger, IsString, number_of}
 use Rattle.content_cbor.specs.declared.decode_error.Fault.TheVariants as fault
-use Rattle.content_cbor.specs.declared.heads.Head.{Head}
 use Rattle.content_cbor.specs.declared.heads.Major.{Major}
 use Rattle.content_cbor.specs.declared.heads.Major.TheVariants as major
-use Rattle.content_cbor.specs.declared.stop.Refusal.{Refusal}
-use Rattle.content_cbor.specs.Inner.Reading.{◌>>=◌, Reader, head_at, octets_at, octets_of, or_refused, refused, string_at, tag_at, tagged_at, tagged_number}
+use Rattle.content_cbor.specs.Inner.Reading.{◌>>=◌, head_at, octets_at, octets_of, or_refused, refused, tag_at, tagged_at, tagged_number}
 use Rattle.content_cbor.proofs.Read.Steps.{ok_is, bind_ok, chosen, there}
 use Rattle.content_cbor.proofs.Read.Took.{IsBytes, Took, Sound, Complete, regrouped}
-use Rattle.content_cbor.proofs.Read.Heads.{HeadOf, head_sound, numbered}
+use Rattle.content_cbor.proofs.Read.Heads.{HeadOf, head_sound}
 use Rattle.content_cbor.proofs.Read.Strings.{string_sound, string_complete, string_whole, string_apart}
 
 -- a text of bytes whose head was read

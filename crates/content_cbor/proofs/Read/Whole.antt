@@ -1,23 +1,18 @@
 -- What codes a tree is read as it.
-use Rattle.std.proofs.Common.{◌≡◌, ℕ, suc, zero, ◌+◌, ◌<◌, ◌^◌, ℤ, pos, negsuc, Bool, true, false, cond, eqb, List, [], ◌∷◌, ◌++◌, length, Option, Some, None, Result, Ok, Err, ◌⊎◌, refl, sym, ap, subst, ◌∙◌, append_assoc, append-nil, arith, length-append, inl, inr}
-use Rattle.std.specs.Int.Digits.{number_from_digits}
+use Rattle.std.proofs.Common.{◌≡◌, ℕ, suc, zero, ◌<◌, ℤ, pos, negsuc, true, false, cond, eqb, List, [], ◌∷◌, ◌++◌, length, Option, Some, None, Result, Ok, Err, refl, sym, ap, subst, ◌∙◌, append_assoc, append-nil, arith, length-append, inl, inr}
 use Rattle.std.proofs.lemmas.Bool.{eqb-true}
 use Rattle.std.proofs.lemmas.List.{nil_from_length}
-use Rattle.content_tree.specs.Values.Text.{Text}
 use Rattle.content_tree.specs.Values.Tree as tree
 use Rattle.content_tree.specs.Values.Tree.{Tree}
-use Rattle.content_tree.specs.Values.Value.{trees_of, pairs_of}
-use Rattle.content_tree.specs.declared.number.Number.{Number}
 use Rattle.content_cbor.specs.Heads.{first_byte}
-use Rattle.content_cbor.specs.Codes.{Codes, Each, IsHead, IsInteger, IsItem, IsPair, IsString, Open, Parts, number_of}
+use Rattle.content_cbor.specs.Codes.{Codes, Each, IsInteger, IsPair, Parts, number_of}
 use Rattle.content_cbor.specs.declared.decode_error.Fault.TheVariants as fault
-use Rattle.content_cbor.specs.declared.heads.Head.{Head}
 use Rattle.content_cbor.specs.declared.heads.Major.{Major}
 use Rattle.content_cbor.specs.declared.heads.Major.TheVariants as major
 use Rattle.content_cbor.specs.declared.stop.Refusal.{Refusal}
 use Rattle.content_cbor.specs.declared.stop.Stop.{Stop}
 use Rattle.content_cbor.specs.declared.stop.Stop.TheVariants as stop
-use Rattle.content_cbor.specs.Inner.Reading.{◌>>=◌, Reader, Fails, at_break, each_at, head_at, inside_at, is_simple, item_at, leaf_at, pair_at, parts_at, refused, string_at, tag_at, until_at, whole_at}
+use Rattle.content_cbor.specs.Inner.Reading.{Reader, Fails, at_break, head_at, inside_at, is_simple, item_at, leaf_at, pair_at, parts_at, refused, whole_at}
 use Rattle.content_cbor.proofs.Read.Steps.{ok_is, bind_ok, failed}
 use Rattle.content_cbor.proofs.Read.Took.{IsBytes, Complete}
 use Rattle.content_cbor.proofs.Read.Parts.{Begins, each_complete, until_complete}
@@ -193,3 +188,7 @@ not_both t r e = absurd cc
 pub refused_all : (limit : ℕ) (bs : List ℕ) (e : Stop) (r : Refusal) → e ≡ stop.Refused r → Fails e (whole_at limit bs) → (t : Tree) → Codes limit t bs → ⊥
 refused_all limit bs e r is fails t codes =
     not_both t r (sym (whole_complete limit bs t codes) ∙ subst (λ s. Fails s (whole_at limit bs)) is fails)
+
+-- no bytes code two trees
+pub one_tree : (limit : ℕ) (bs : List ℕ) (t u : Tree) → Codes limit t bs → Codes limit u bs → t ≡ u
+one_tree limit bs t u first second = ok_is t u (sym (whole_complete limit bs t first) ∙ whole_complete limit bs u second)

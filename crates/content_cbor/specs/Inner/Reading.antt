@@ -1,5 +1,5 @@
 -- Reading from the left, up to the first fault.
-use Rattle.std.specs.Prelude.{◌≡◌, ℕ, suc, zero, ◌-◌, ◌/◌, ◌%◌, ◌^◌, Bool, true, false, ℤ, pos, negsuc, List, [], ◌∷◌, length}
+use Rattle.std.specs.Prelude.{◌≡◌, ℕ, suc, zero, ◌-◌, ◌/◌, ◌%◌, ◌^◌, Bool, true, false, pos, negsuc, List, [], ◌∷◌, length}
 use Rattle.std.specs.List.{concat}
 use Rattle.std.specs.Prelude.{take, drop, Option, Some, None, Result, Ok, Err, nat_lt, nat_eq, if◌then◌else◌}
 use Rattle.std.specs.Int.{Width, byte_len, from_be_bytes, w8, w16, w32, w64}

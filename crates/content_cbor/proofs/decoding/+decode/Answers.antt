@@ -1,4 +1,4 @@
-use Rattle.std.proofs.Common.{◌≡◌, ◌++◌, ◌-◌, ◌∷◌, [], List, ℕ, Ok, map, length, drop, ap, sym, ◌∙◌, append-nil, append_assoc, rules, arith}
+use Rattle.std.proofs.Common.{◌++◌, ◌∷◌, [], Ok, map, length, drop, ap, sym, ◌∙◌, append-nil, rules, arith}
 use Rattle.std.proofs.lemmas.Result.{err_from_is_err_and}
 use Rattle.content_tree.specs.Values.Value.{tree_of, pair_tree}
 use Rattle.content_tree.proofs.Views.{tree_of-Seq, tree_of-Map}

@@ -1,4 +1,4 @@
-use Rattle.std.proofs.Common.{◌≡◌, sym, ◌∙◌, arith}
+use Rattle.std.proofs.Common.{sym, ◌∙◌, arith}
 use Rattle.content_tree.specs.Values.Value.{tree_of}
 use Rattle.content_cbor.proofs.Read.Steps.{ok_is}
 use Rattle.content_cbor.proofs.Read.Whole.{whole_sound, whole_complete, refused_all}

@@ -1,4 +1,4 @@
-use Rattle.std.proofs.Common.{◌≡◌, ◌++◌, ◌-◌, ◌∷◌, [], List, ℕ, Ok, length, drop, true, ap, string_bytes, sym, ◌∙◌, append-nil, append_assoc, rules}
+use Rattle.std.proofs.Common.{◌++◌, Ok, length, drop, true, ap, string_bytes, sym, ◌∙◌, append-nil, append_assoc, rules}
 use Rattle.std.specs.List.{concat}
 use Rattle.std.proofs.lemmas.Result.{err_from_is_err_and}
 use Rattle.content_cbor.specs.Inner.Reading.{chunk_at, chunks_at}

@@ -1,0 +1,5 @@
+use Rattle.content_cbor.proofs.Coded.{coded}
+use Rattle.content_cbor.proofs.laws.items_code_forms.Goals as goal
+
+pub returns : goal.returns
+returns c = coded
