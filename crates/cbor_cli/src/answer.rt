@@ -1,16 +1,26 @@
 //! What is answered to a line.
 
-use crate::digits::read_digits;
-use content_cbor::{DecodeError, decode};
+use crate::digits::{read_digits, write_digits};
+use content_cbor::{DecodeError, decode, encode};
+use content_tree::Value;
 use std::alloc::{AllocError, Global};
 
 /// How deep items may stand in one another.
 const DEPTH_LIMIT: usize = 128;
 
-/// The value that the bytes code, as it prints, or why they are refused.
+/// The value as it prints and, behind a tab, its bytes in as few as can be.
+fn written(alloc: Global, value: &Value<'_>) -> Result<String, AllocError> {
+    let mut text = format!(in alloc; "{}\t", value.display())?;
+    // Only out of memory keeps them back.
+    let bytes = encode(alloc, value).ok().ok_or(AllocError)?;
+    write_digits(&mut text, bytes.as_slice())?;
+    Ok(text)
+}
+
+/// The value that the bytes code, or why they are refused.
 fn decoded(alloc: Global, bytes: &[u8]) -> Result<String, AllocError> {
     match decode(alloc, bytes, DEPTH_LIMIT) {
-        Ok(value) => format!(in alloc; "{}", value.display()),
+        Ok(value) => written(alloc, &value),
         Err(DecodeError::OutOfMemory) => Err(AllocError),
         Err(refusal) => format!(in alloc; "{refusal}"),
     }

@@ -1,4 +1,4 @@
-//! Bytes from hexadecimal digits.
+//! Bytes as hexadecimal digits.
 
 use std::alloc::{AllocError, Global};
 
@@ -30,4 +30,12 @@ pub fn read_digits(alloc: Global, digits: &str) -> Result<Option<Vec<u8>>, Alloc
         }
     }
     Ok(Some(bytes))
+}
+
+/// Adds the digits of bytes.
+pub fn write_digits(out: &mut String, bytes: &[u8]) -> Result<(), AllocError> {
+    for byte in bytes {
+        write!(out, "{byte:02x}")?;
+    }
+    Ok(())
 }

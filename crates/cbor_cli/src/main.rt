@@ -1,5 +1,6 @@
 //! Prints the values that CBOR codes: of each line of the standard input, the value of the bytes
-//! that its hexadecimal digits spell, or why they are refused.
+//! that its hexadecimal digits spell and, behind a tab, the fewest bytes that code it; or why they
+//! are refused.
 #![tactic(auto)]
 
 mod answer;
