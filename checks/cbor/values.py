@@ -20,10 +20,13 @@ def text(chance):
 
 
 def number(chance):
-    """A number of at most 128 bits, more often near a bound."""
-    bound = 1 << chance.choice([0, 3, 5, 8, 16, 31, 32, 63, 64, 65, 100, 127])
-    size = chance.choice([chance.randrange(bound), max(bound - chance.randrange(3), 0)])
-    return size if chance.random() < 0.5 else -1 - size
+    """A number of at most 128 bits, as often as not near a bound."""
+    negative = chance.random() < 0.5
+    limit = 1 << (127 if negative else 128)
+    bound = 1 << chance.choice([0, 3, 5, 8, 16, 31, 32, 63, 64, 65, 100, 127, 128])
+    size = chance.choice([chance.randrange(bound), bound + chance.randint(-2, 1)])
+    size = max(0, min(size, limit - 1))
+    return -1 - size if negative else size
 
 
 def leaf(chance):
