@@ -49,8 +49,8 @@ fn start<'v>(alloc: Global, limit: Option<usize>) -> Builder<'v>
     }
 }
 
-/// Makes the call that a line says, with its error put aside. The law `steps_are_exact` says that what
-/// the step says of it is exact.
+/// Makes the call that a line says, with its error put aside. The law `steps_are_exact` says that
+/// what the step says of it is exact.
 fn take_line(alloc: Global, builder: &mut Builder<'_>, line: Line<'_>, error: &mut Error) -> Sent
     ensures { (limit : Option ℕ) → (calls : List Event)
         → HasTaken limit calls (seen_of builder.old)

@@ -1,5 +1,6 @@
 //! Compounds sent in one call: what opens them, each value after the call that announces it, and
-//! the end. They are chains of [`Parts::with`] up to [`Parts::end`], proved once for all types.
+//! the end. They are chains of [`Parts::with`] up to [`Parts::end`], proved once for all types:
+//! one function for each count of values, since a function has a fixed number of types.
 
 ghost use Rattle.content_ser.specs.Scripts.Begins.{value_first};
 ghost use Rattle.content_ser.specs.Scripts.Sends.{Sends};

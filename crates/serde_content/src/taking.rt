@@ -1,4 +1,5 @@
-//! Fields read by name in one call, each wherever it stands, and what is left over.
+//! Fields read by name in one call, each wherever it stands, and what is left over: one function for
+//! each count of fields, since a function has a fixed number of types.
 
 ghost use Rattle.std.specs.Prelude.{◌≡◌, map, ⊤};
 ghost use Rattle.content_de.specs.Accesses.ByName.{fields_left, field_named, without_field};
