@@ -6,7 +6,8 @@ ghost use Rattle.content_tree.specs.Values.Value.{tree_of, pair_tree};
 ghost use Rattle.content_cbor.specs.Codes.{Codes};
 ghost use Rattle.content_cbor.specs.Decoded.{IsReadAs, StopsAt};
 ghost use Rattle.content_cbor.specs.Inner.Reading.{Gives, each_at, inside_at, item_at, leaf_at};
-ghost use Rattle.content_cbor.specs.Inner.Reading.{pair_at, parts_at, simple_at, until_at, whole_at};
+ghost use Rattle.content_cbor.specs.Inner.Reading.{pair_at, parts_at, simple_at, until_at};
+ghost use Rattle.content_cbor.specs.Inner.Reading.{whole_at};
 
 use crate::decode_error::{DecodeError, Fault};
 use crate::heads::{Head, Major, after_break, read_head};

@@ -2,7 +2,8 @@
 
 ghost use Rattle.std.specs.Prelude.{◌≡◌, ◌++◌, ◌*◌, OnOk, IfSome, IfNone, drop, true, false};
 ghost use Rattle.content_cbor.specs.Heads.{code, head};
-ghost use Rattle.content_cbor.specs.Inner.Reading.{Gives, argument_at, at_break, head_at, major_of, number_at};
+ghost use Rattle.content_cbor.specs.Inner.Reading.{Gives, argument_at, at_break, head_at};
+ghost use Rattle.content_cbor.specs.Inner.Reading.{major_of, number_at};
 ghost use Rattle.std.specs.Int.{w8, w16, w32, w64};
 
 use crate::decode_error::Fault;

@@ -7,9 +7,9 @@ pub fn one_tree()
     ensures { OneTree }
 {}
 
-/// The item of a tree codes the tree's form: what `encode` writes `decode` reads as the form, within
-/// a limit that the form keeps, where texts are UTF-8 and lengths and numbers have room in 64 and
-/// 128 bits, as they have in memory.
+/// The item of a tree codes the tree's form: what `encode` writes `decode` reads as the form,
+/// within a limit that the form keeps, where texts are UTF-8 and lengths and numbers have room in
+/// 64 and 128 bits, as they have in memory.
 pub fn items_code_forms()
     ensures { ItemsCodeForms }
 {}

@@ -2,7 +2,8 @@
 
 ghost use Rattle.std.specs.Prelude.{◌≡◌, ◌++◌, string_bytes, false, true};
 ghost use Rattle.content_tree.specs.Values.Text.{text_of, bytes_of};
-ghost use Rattle.content_cbor.specs.Inner.Reading.{Gives, bytes_at, chunk_at, chunk_length, chunks_at};
+ghost use Rattle.content_cbor.specs.Inner.Reading.{Gives, bytes_at, chunk_at, chunk_length};
+ghost use Rattle.content_cbor.specs.Inner.Reading.{chunks_at};
 ghost use Rattle.content_cbor.specs.Inner.Reading.{content_at, string_at};
 
 use crate::decode_error::Fault;
