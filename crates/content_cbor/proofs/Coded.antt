@@ -15,7 +15,7 @@ use Rattle.content_cbor.specs.Heads.{first_byte, head}
 use Rattle.content_cbor.specs.Item.{boolean_item, bytes_item, null_item, number_item, shortest, without_zeros, item, each_item, pair_items, field_items, data_item, variant_item, text_item}
 use Rattle.content_cbor.specs.Codes as size
 use Rattle.content_cbor.specs.Codes.{Codes, Each, IsHead, IsInteger, IsTagged, IsContent, IsPiece, IsString, IsPair, Parts}
-use Rattle.content_cbor.specs.Form.{form, each_form, pair_forms, field_forms, data_form, variant_form, text_form, Fits, EachFits, PairsFit, FieldsFit, DataFits, VariantFits, IsInRange, IsText}
+use Rattle.content_cbor.specs.Form.{form, each_form, pair_forms, field_forms, data_form, variant_form, text_form, entry_form, depth, each_depth, pair_depths, Fits, EachFits, PairsFit, FieldsFit, DataFits, IsInRange, IsText, CodesForm}
 use Rattle.content_cbor.specs.declared.heads.Major.{Major}
 use Rattle.content_cbor.specs.declared.heads.Major.TheVariants as major
 
@@ -172,77 +172,124 @@ whole m Part xs n body len room each = inl (head m n, body, subst (λ k. IsHead 
 
 -- ---- trees
 
-entry_is : (limit : ℕ) (v : List ℕ) (t : Tree) (bs : List ℕ) → IsText v → Codes (suc limit) t bs
-    → Codes (suc (suc limit)) (tree.map (tree.pair_then (text_form v) t tree.no_pairs)) ((head major.Map 1 ++ text_item v) ++ bs)
-entry_is limit v t bs fits is = (
+some_depth : (t : Tree) → 1 ≤ depth t
+some_depth tree.unit = omega arith
+some_depth (tree.boolean b) = omega arith
+some_depth (tree.number n) = omega arith
+some_depth (tree.character c) = omega arith
+some_depth (tree.text x) = omega arith
+some_depth (tree.octets x) = omega arith
+some_depth (tree.seq ts) = omega arith
+some_depth (tree.map ps) = omega arith
+some_depth tree.absent = omega arith
+some_depth (tree.present t) = omega arith
+some_depth (tree.structure n d) = omega arith
+some_depth (tree.enumeration n i v d) = omega arith
+some_depth (tree.tuple ts) = omega arith
+
+key_is : (limit : ℕ) (k : List ℕ) → IsText k → 0 < limit → Codes limit (text_form k) (text_item k)
+key_is zero k is some = absurd (omega (arith, some))
+key_is (suc limit) k is some = text_is k is
+
+entry_is : (limit : ℕ) (v : List ℕ) (t : Tree) (bs : List ℕ) → IsText v → 0 < limit → Codes limit t bs
+    → Codes (suc limit) (entry_form v t) ((head major.Map 1 ++ text_item v) ++ bs)
+entry_is limit v t bs fits some is = (
   (text_form v, t) ∷ [],
   refl,
   inl (
     head major.Map 1,
     text_item v ++ bs,
     head_is major.Map 1 (omega arith),
-    (text_item v ++ bs, [], (text_item v, bs, text_is v fits, is, refl), refl, sym (append-nil (text_item v ++ bs))),
+    (text_item v ++ bs, [], (text_item v, bs, key_is limit v fits some, is, refl), refl, sym (append-nil (text_item v ++ bs))),
     append_assoc (head major.Map 1) (text_item v) bs,
   ),
 )
 
-key_is : (limit : ℕ) (k : List ℕ) → IsText k → 0 < limit → Codes limit (text_form k) (text_item k)
-key_is zero k is some = absurd (omega (arith, some))
-key_is (suc limit) k is some = text_is k is
+-- the depth of an entry
+in_entry : (limit : ℕ) (v : List ℕ) (t : Tree) → depth (entry_form v t) ≤ suc limit → (0 < limit) × (depth t ≤ limit)
+in_entry limit v t le = (omega (arith, le), omega (arith, le))
+
+array_is : (limit : ℕ) (ts : Trees) → count ts < 2 ^ 64 → Each (Codes limit) (forms ts) (each_item ts)
+    → Codes (suc limit) (tree.seq (each_form ts)) (head major.Array (count ts) ++ each_item ts)
+array_is limit ts room each = (forms ts, each_is ts, whole major.Array (Codes limit) (forms ts) (count ts) (each_item ts) (counted ts) room each)
+
+map_is : (limit : ℕ) (ps : Pairs) → count_pairs ps < 2 ^ 64 → Each (IsPair (Codes limit)) (pair_list ps) (pair_items ps)
+    → Codes (suc limit) (tree.map (pair_forms ps)) (head major.Map (count_pairs ps) ++ pair_items ps)
+map_is limit ps room each =
+    (pair_list ps, pairs_are ps, whole major.Map (IsPair (Codes limit)) (pair_list ps) (count_pairs ps) (pair_items ps) (counted_pairs ps) room each)
+
+fields_map_is : (limit : ℕ) (fs : Fields) → count_fields fs < 2 ^ 64 → Each (IsPair (Codes limit)) (field_list fs) (field_items fs)
+    → Codes (suc limit) (tree.map (field_forms fs)) (head major.Map (count_fields fs) ++ field_items fs)
+fields_map_is limit fs room each =
+    (field_list fs, fields_are fs, whole major.Map (IsPair (Codes limit)) (field_list fs) (count_fields fs) (field_items fs) (counted_fields fs) room each)
 
 mutual
-  pub coded : (limit : ℕ) (t : Tree) → Fits limit t → Codes limit (form t) (item t)
-  coded zero t fits = absurd fits
-  coded (suc limit) tree.unit fits = null_is
-  coded (suc limit) (tree.boolean true) fits = boolean_is true
-  coded (suc limit) (tree.boolean false) fits = boolean_is false
-  coded (suc limit) (tree.number n) fits = (number_value n, refl, integer_is (number_value n) fits)
-  coded (suc limit) (tree.character c) fits = text_is _ fits
-  coded (suc limit) (tree.text t) fits = text_is t.content fits
-  coded (suc limit) (tree.octets t) fits = string_is major.Bytes t.content fits tt
-  coded (suc limit) (tree.seq ts) fits =
-      (forms ts, each_is ts, whole major.Array (Codes limit) (forms ts) (count ts) (each_item ts) (counted ts) fits.0 (each_coded limit ts fits.1))
-  coded (suc limit) (tree.map ps) fits =
-      (pair_list ps, pairs_are ps, whole major.Map (IsPair (Codes limit)) (pair_list ps) (count_pairs ps) (pair_items ps) (counted_pairs ps) fits.0 (pairs_coded limit ps fits.1))
-  coded (suc limit) tree.absent fits = null_is
-  coded (suc limit) (tree.present t) fits = coded (suc limit) t fits
-  coded (suc limit) (tree.structure n d) fits = data_coded (suc limit) d fits
-  coded (suc limit) (tree.enumeration n i v d) fits = variant_coded limit v.content d fits.0 fits.1
-  coded (suc limit) (tree.tuple ts) fits =
-      (forms ts, each_is ts, whole major.Array (Codes limit) (forms ts) (count ts) (each_item ts) (counted ts) fits.0 (each_coded limit ts fits.1))
+  pub coded : (limit : ℕ) (t : Tree) → Fits t → depth (form t) ≤ limit → Codes limit (form t) (item t)
+  coded zero t fits le = absurd (omega (arith, some_depth (form t), le))
+  coded (suc limit) tree.unit fits le = null_is
+  coded (suc limit) (tree.boolean true) fits le = boolean_is true
+  coded (suc limit) (tree.boolean false) fits le = boolean_is false
+  coded (suc limit) (tree.number n) fits le = (number_value n, refl, integer_is (number_value n) fits)
+  coded (suc limit) (tree.character c) fits le = text_is _ fits
+  coded (suc limit) (tree.text t) fits le = text_is t.content fits
+  coded (suc limit) (tree.octets t) fits le = string_is major.Bytes t.content fits tt
+  coded (suc limit) (tree.seq ts) fits le = array_is limit ts fits.0 (each_coded limit ts fits.1 (omega (arith, le)))
+  coded (suc limit) (tree.map ps) fits le = map_is limit ps fits.0 (pairs_coded limit ps fits.1 (omega (arith, le)))
+  coded (suc limit) tree.absent fits le = null_is
+  coded (suc limit) (tree.present t) fits le = coded (suc limit) t fits le
+  coded (suc limit) (tree.structure n d) fits le = data_coded (suc limit) d fits le
+  coded (suc limit) (tree.enumeration n i v d) fits le = variant_coded limit v.content d fits.0 fits.1 le
+  coded (suc limit) (tree.tuple ts) fits le = array_is limit ts fits.0 (each_coded limit ts fits.1 (omega (arith, le)))
 
-  data_coded : (limit : ℕ) (d : TreeData) → DataFits limit d → Codes limit (data_form d) (data_item d)
-  data_coded zero d fits = absurd fits
-  data_coded (suc limit) tree.no_data fits = null_is
-  data_coded (suc limit) (tree.one t) fits = coded (suc limit) t fits
-  data_coded (suc limit) (tree.many ts) fits =
-      (forms ts, each_is ts, whole major.Array (Codes limit) (forms ts) (count ts) (each_item ts) (counted ts) fits.0 (each_coded limit ts fits.1))
-  data_coded (suc limit) (tree.named fs) fits =
-      (field_list fs, fields_are fs, whole major.Map (IsPair (Codes limit)) (field_list fs) (count_fields fs) (field_items fs) (counted_fields fs) fits.0 (fields_coded limit fs fits.1))
+  data_coded : (limit : ℕ) (d : TreeData) → DataFits d → depth (data_form d) ≤ limit → Codes limit (data_form d) (data_item d)
+  data_coded zero d fits le = absurd (omega (arith, some_depth (data_form d), le))
+  data_coded (suc limit) tree.no_data fits le = null_is
+  data_coded (suc limit) (tree.one t) fits le = coded (suc limit) t fits le
+  data_coded (suc limit) (tree.many ts) fits le = array_is limit ts fits.0 (each_coded limit ts fits.1 (omega (arith, le)))
+  data_coded (suc limit) (tree.named fs) fits le = fields_map_is limit fs fits.0 (fields_coded limit fs fits.1 (omega (arith, le)))
 
-  variant_coded : (limit : ℕ) (v : List ℕ) (d : TreeData) → IsText v → VariantFits limit d → Codes (suc limit) (variant_form v d) (variant_item v d)
-  variant_coded limit v tree.no_data is fits = text_is v is
-  variant_coded zero v (tree.one t) is fits = absurd fits
-  variant_coded zero v (tree.many ts) is fits = absurd fits
-  variant_coded zero v (tree.named fs) is fits = absurd fits
-  variant_coded (suc limit) v (tree.one t) is fits = entry_is limit v (form t) (item t) is (coded (suc limit) t fits)
-  variant_coded (suc limit) v (tree.many ts) is fits =
-      entry_is limit v (tree.seq (each_form ts)) (head major.Array (count ts) ++ each_item ts) is
-      (forms ts, each_is ts, whole major.Array (Codes limit) (forms ts) (count ts) (each_item ts) (counted ts) fits.0 (each_coded limit ts fits.1))
-  variant_coded (suc limit) v (tree.named fs) is fits =
-      entry_is limit v (tree.map (field_forms fs)) (head major.Map (count_fields fs) ++ field_items fs) is
-      (field_list fs, fields_are fs, whole major.Map (IsPair (Codes limit)) (field_list fs) (count_fields fs) (field_items fs) (counted_fields fs) fits.0 (fields_coded limit fs fits.1))
+  variant_coded : (limit : ℕ) (v : List ℕ) (d : TreeData) → IsText v → DataFits d → depth (variant_form v d) ≤ suc limit
+      → Codes (suc limit) (variant_form v d) (variant_item v d)
+  variant_coded limit v tree.no_data is fits le = text_is v is
+  variant_coded limit v (tree.one t) is fits le =
+      let h = in_entry limit v (form t) le in
+      entry_is limit v (form t) (item t) is h.0 (coded limit t fits h.1)
+  variant_coded zero v (tree.many ts) is fits le = absurd (omega (arith, le))
+  variant_coded zero v (tree.named fs) is fits le = absurd (omega (arith, le))
+  variant_coded (suc limit) v (tree.many ts) is fits le =
+      let h = in_entry (suc limit) v (tree.seq (each_form ts)) le in
+      entry_is (suc limit) v (tree.seq (each_form ts)) (head major.Array (count ts) ++ each_item ts) is h.0
+      (array_is limit ts fits.0 (each_coded limit ts fits.1 (omega (arith, h.1))))
+  variant_coded (suc limit) v (tree.named fs) is fits le =
+      let h = in_entry (suc limit) v (tree.map (field_forms fs)) le in
+      entry_is (suc limit) v (tree.map (field_forms fs)) (head major.Map (count_fields fs) ++ field_items fs) is h.0
+      (fields_map_is limit fs fits.0 (fields_coded limit fs fits.1 (omega (arith, h.1))))
 
-  each_coded : (limit : ℕ) (ts : Trees) → EachFits limit ts → Each (Codes limit) (forms ts) (each_item ts)
-  each_coded limit tree.no_trees fits = refl
-  each_coded limit (tree.tree_then t ts) fits = (item t, each_item ts, coded limit t fits.0, each_coded limit ts fits.1, refl)
+  each_coded : (limit : ℕ) (ts : Trees) → EachFits ts → each_depth (each_form ts) ≤ limit → Each (Codes limit) (forms ts) (each_item ts)
+  each_coded limit tree.no_trees fits le = refl
+  each_coded limit (tree.tree_then t ts) fits le =
+      (item t, each_item ts, coded limit t fits.0 (omega (arith, le)), each_coded limit ts fits.1 (omega (arith, le)), refl)
 
-  pairs_coded : (limit : ℕ) (ps : Pairs) → PairsFit limit ps → Each (IsPair (Codes limit)) (pair_list ps) (pair_items ps)
-  pairs_coded limit tree.no_pairs fits = refl
-  pairs_coded limit (tree.pair_then k t ps) fits =
-      (item k ++ item t, pair_items ps, (item k, item t, coded limit k fits.0, coded limit t fits.1, refl), pairs_coded limit ps fits.2, refl)
+  pairs_coded : (limit : ℕ) (ps : Pairs) → PairsFit ps → pair_depths (pair_forms ps) ≤ limit → Each (IsPair (Codes limit)) (pair_list ps) (pair_items ps)
+  pairs_coded limit tree.no_pairs fits le = refl
+  pairs_coded limit (tree.pair_then k t ps) fits le = (
+    item k ++ item t,
+    pair_items ps,
+    (item k, item t, coded limit k fits.0 (omega (arith, le)), coded limit t fits.1 (omega (arith, le)), refl),
+    pairs_coded limit ps fits.2 (omega (arith, le)),
+    refl,
+  )
 
-  fields_coded : (limit : ℕ) (fs : Fields) → FieldsFit limit fs → Each (IsPair (Codes limit)) (field_list fs) (field_items fs)
-  fields_coded limit tree.no_fields fits = refl
-  fields_coded limit (tree.field_then k t fs) fits =
-      (text_item k.content ++ item t, field_items fs, (text_item k.content, item t, key_is limit k.content fits.0 fits.1, coded limit t fits.2, refl), fields_coded limit fs fits.3, refl)
+  fields_coded : (limit : ℕ) (fs : Fields) → FieldsFit fs → pair_depths (field_forms fs) ≤ limit → Each (IsPair (Codes limit)) (field_list fs) (field_items fs)
+  fields_coded limit tree.no_fields fits le = refl
+  fields_coded limit (tree.field_then k t fs) fits le = (
+    text_item k.content ++ item t,
+    field_items fs,
+    (text_item k.content, item t, key_is limit k.content fits.0 (omega (arith, le)), coded limit t fits.1 (omega (arith, le)), refl),
+    fields_coded limit fs fits.2 (omega (arith, le)),
+    refl,
+  )
+
+-- the item of a tree that fits codes its form
+pub codes_form : (t : Tree) → Fits t → CodesForm t (item t)
+codes_form t fits limit le = coded limit t fits le

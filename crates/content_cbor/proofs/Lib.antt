@@ -4,3 +4,4 @@ pub mod HandedOn
 pub mod Read
 pub mod Coded
 pub mod Forms
+pub mod Kept

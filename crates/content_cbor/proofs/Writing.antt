@@ -1,5 +1,5 @@
 -- Lists that are written, item by item.
-use Rattle.std.proofs.Common.{◌≡◌, ℕ, suc, ◌≤◌, List, [], ◌∷◌, ◌++◌, length, drop, refl, ap, sym, ◌∙◌}
+use Rattle.std.proofs.Common.{◌≡◌, ℕ, suc, ◌≤◌, List, [], ◌∷◌, ◌++◌, length, drop, refl, ap, sym, subst, ◌∙◌}
 use Rattle.std.proofs.Common.{append-nil, append_assoc, Result, Ok, Err, OnOk}
 use Rattle.std.proofs.lemmas.List.{drop_all}
 use Rattle.content_tree.specs.Values.Value.{trees_view, pairs_view, fields_view}
@@ -12,6 +12,15 @@ pub ended : {A : Type 0} (f : List A → List ℕ) (xs : List A) (i : ℕ) (out 
     → length xs ≤ i → out ++ f (drop i xs) ≡ whole → out ≡ whole
 ended f xs i out whole none past so_far =
     sym (append-nil out) ∙ ap (λ r. out ++ r) (sym none) ∙ ap (λ ys. out ++ f ys) (sym (drop_all i xs past)) ∙ so_far
+
+-- at the end nothing is left, and what holds of all if of the rest holds of all
+pub all_fit : {A : Type 0} (F : List A → Type 0) (xs : List A) (i : ℕ) → F [] → length xs ≤ i → (F (drop i xs) → F xs) → F xs
+all_fit F xs i none past so_far = so_far (subst F (sym (drop_all i xs past)) none)
+
+-- one fact beside another
+pub and_fits : {E A : Type 0} (B : Type 0) (r : Result (Unit {0}) E) → A → OnOk r B → OnOk r (A × B)
+and_fits B (Ok x) a b = (a, b)
+and_fits B (Err e) a b = tt
 
 -- one write after another
 pub then_wrote : {E : Type 0} (r : Result (Unit {0}) E) (old mid new a b all : List ℕ) → mid ≡ old ++ a → OnOk r (new ≡ mid ++ b)

@@ -1,12 +1,12 @@
 -- What of a tree its data item keeps.
-use Rattle.std.specs.Prelude.{ℕ, suc, zero, ◌^◌, ◌<◌, ℤ, pos, negsuc, List, length, encode_utf8}
+use Rattle.std.specs.Prelude.{ℕ, suc, ◌^◌, ◌<◌, ◌≤◌, ℤ, pos, negsuc, List, length, encode_utf8, max}
 use Rattle.std.specs.Str.{IsUtf8}
 use Rattle.content_tree.specs.Values.Text.{static_name}
 use Rattle.content_tree.specs.Values.Tree as tree
 use Rattle.content_tree.specs.Values.Tree.{Tree, TreeData, Trees, Pairs, Fields}
 use Rattle.content_tree.specs.Values.Ranges.{number_value}
 use Rattle.content_ser.specs.Sending.TreeScript.{count, count_pairs, count_fields}
-use Rattle.content_cbor.specs.Codes.{number_of}
+use Rattle.content_cbor.specs.Codes.{Codes, number_of}
 
 -- a text that is borrowed
 abbrev pub text_form : List ℕ → Tree
@@ -62,6 +62,27 @@ abbrev mutual
   field_forms tree.no_fields = tree.no_pairs
   field_forms (tree.field_then k t fs) = tree.pair_then (text_form k.content) (form t) (field_forms fs)
 
+abbrev mutual
+  -- how deep items stand in one another in a form; its own depth is 1
+  pub depth : Tree → ℕ
+  depth (tree.seq ts) = suc (each_depth ts)
+  depth (tree.map ps) = suc (pair_depths ps)
+  depth t = 1
+
+  -- the greatest, or 0
+  pub each_depth : Trees → ℕ
+  each_depth tree.no_trees = 0
+  each_depth (tree.tree_then t ts) = max (depth t) (each_depth ts)
+
+  -- the greatest of keys and values, or 0
+  pub pair_depths : Pairs → ℕ
+  pair_depths tree.no_pairs = 0
+  pair_depths (tree.pair_then k t ps) = max (max (depth k) (depth t)) (pair_depths ps)
+
+-- the bytes code the tree's form, within each limit that it keeps
+abbrev pub CodesForm : Tree → List ℕ → Type 0
+CodesForm t bs = (limit : ℕ) → depth (form t) ≤ limit → Codes limit (form t) bs
+
 -- a length that a head can say
 abbrev pub IsLength : ℕ → Type 0
 IsLength n = n < 2 ^ 64
@@ -76,47 +97,40 @@ IsInRange (pos n) = n < 2 ^ 128
 IsInRange (negsuc n) = n < 2 ^ 127
 
 abbrev mutual
-  -- what any value in memory is: texts are UTF-8, and lengths and numbers have room; and its item keeps the limit
-  pub Fits : ℕ → Tree → Type 0
-  Fits zero t = ⊥
-  Fits (suc limit) tree.unit = Unit {0}
-  Fits (suc limit) (tree.boolean b) = Unit {0}
-  Fits (suc limit) (tree.number n) = IsInRange (number_value n)
-  Fits (suc limit) (tree.character c) = IsText (encode_utf8 c)
-  Fits (suc limit) (tree.text t) = IsText t.content
-  Fits (suc limit) (tree.octets t) = IsLength (length t.content)
-  Fits (suc limit) (tree.seq ts) = IsLength (count ts) × EachFits limit ts
-  Fits (suc limit) (tree.map ps) = IsLength (count_pairs ps) × PairsFit limit ps
-  Fits (suc limit) tree.absent = Unit {0}
-  Fits (suc limit) (tree.present t) = Fits (suc limit) t
-  Fits (suc limit) (tree.structure n d) = DataFits (suc limit) d
-  Fits (suc limit) (tree.enumeration n i v d) = IsText v.content × VariantFits limit d
-  Fits (suc limit) (tree.tuple ts) = IsLength (count ts) × EachFits limit ts
+  -- what the tree of any value is: texts are UTF-8, and lengths and numbers have room
+  pub Fits : Tree → Type 0
+  Fits tree.unit = Unit {0}
+  Fits (tree.boolean b) = Unit {0}
+  Fits (tree.number n) = IsInRange (number_value n)
+  Fits (tree.character c) = IsText (encode_utf8 c)
+  Fits (tree.text t) = IsText t.content
+  Fits (tree.octets t) = IsLength (length t.content)
+  Fits (tree.seq ts) = IsLength (count ts) × EachFits ts
+  Fits (tree.map ps) = IsLength (count_pairs ps) × PairsFit ps
+  Fits tree.absent = Unit {0}
+  Fits (tree.present t) = Fits t
+  Fits (tree.structure n d) = DataFits d
+  Fits (tree.enumeration n i v d) = IsText v.content × DataFits d
+  Fits (tree.tuple ts) = IsLength (count ts) × EachFits ts
 
-  -- the same of what a struct holds
-  pub DataFits : ℕ → TreeData → Type 0
-  DataFits zero d = ⊥
-  DataFits (suc limit) tree.no_data = Unit {0}
-  DataFits (suc limit) (tree.one t) = Fits (suc limit) t
-  DataFits (suc limit) (tree.many ts) = IsLength (count ts) × EachFits limit ts
-  DataFits (suc limit) (tree.named fs) = IsLength (count_fields fs) × FieldsFit limit fs
+  -- the same of what a struct or a variant holds
+  pub DataFits : TreeData → Type 0
+  DataFits tree.no_data = Unit {0}
+  DataFits (tree.one t) = Fits t
+  DataFits (tree.many ts) = IsLength (count ts) × EachFits ts
+  DataFits (tree.named fs) = IsLength (count_fields fs) × FieldsFit fs
 
-  -- the same of what a variant holds
-  pub VariantFits : ℕ → TreeData → Type 0
-  VariantFits limit tree.no_data = Unit {0}
-  VariantFits zero d = ⊥
-  VariantFits (suc limit) (tree.one t) = Fits (suc limit) t
-  VariantFits (suc limit) (tree.many ts) = IsLength (count ts) × EachFits limit ts
-  VariantFits (suc limit) (tree.named fs) = IsLength (count_fields fs) × FieldsFit limit fs
+  -- of each tree
+  pub EachFits : Trees → Type 0
+  EachFits tree.no_trees = Unit {0}
+  EachFits (tree.tree_then t ts) = Fits t × EachFits ts
 
-  pub EachFits : ℕ → Trees → Type 0
-  EachFits limit tree.no_trees = Unit {0}
-  EachFits limit (tree.tree_then t ts) = Fits limit t × EachFits limit ts
+  -- of each key and value
+  pub PairsFit : Pairs → Type 0
+  PairsFit tree.no_pairs = Unit {0}
+  PairsFit (tree.pair_then k t ps) = Fits k × Fits t × PairsFit ps
 
-  pub PairsFit : ℕ → Pairs → Type 0
-  PairsFit limit tree.no_pairs = Unit {0}
-  PairsFit limit (tree.pair_then k t ps) = Fits limit k × Fits limit t × PairsFit limit ps
-
-  pub FieldsFit : ℕ → Fields → Type 0
-  FieldsFit limit tree.no_fields = Unit {0}
-  FieldsFit limit (tree.field_then k t fs) = IsText k.content × (0 < limit) × Fits limit t × FieldsFit limit fs
+  -- of each field, and its key is a text
+  pub FieldsFit : Fields → Type 0
+  FieldsFit tree.no_fields = Unit {0}
+  FieldsFit (tree.field_then k t fs) = IsText k.content × Fits t × FieldsFit fs

@@ -1,8 +1,8 @@
 -- What holds of all items.
-use Rattle.std.specs.Prelude.{◌≡◌, ℕ, List}
+use Rattle.std.specs.Prelude.{◌≡◌, ◌≤◌, ℕ, List}
 use Rattle.content_tree.specs.Values.Tree.{Tree}
 use Rattle.content_cbor.specs.Codes.{Codes}
-use Rattle.content_cbor.specs.Form.{form, Fits}
+use Rattle.content_cbor.specs.Form.{form, depth, CodesForm, Fits}
 use Rattle.content_cbor.specs.Item.{item}
 
 -- no bytes code two trees
@@ -11,7 +11,16 @@ OneTree = (limit : ℕ) (bytes : List ℕ) (t u : Tree) → Codes limit t bytes 
 
 -- the item of a tree codes the tree's form
 abbrev pub ItemsCodeForms : Type 0
-ItemsCodeForms = (limit : ℕ) (t : Tree) → Fits limit t → Codes limit (form t) (item t)
+ItemsCodeForms = (t : Tree) → Fits t → CodesForm t (item t)
+
+-- bytes code a tree only within limits that it keeps
+abbrev pub LimitsAreKept : Type 0
+LimitsAreKept = (limit : ℕ) (bytes : List ℕ) (t : Tree) → Codes limit t bytes → depth t ≤ limit
+
+-- what bytes code within a limit they code within each greater one
+abbrev pub LimitsWiden : Type 0
+LimitsWiden = (limit greater : ℕ) (bytes : List ℕ) (t : Tree) → limit ≤ greater
+    → Codes limit t bytes → Codes greater t bytes
 
 -- a form is its own form
 abbrev pub FormsStay : Type 0

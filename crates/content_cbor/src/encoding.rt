@@ -5,9 +5,12 @@
 
 ghost use Rattle.std.specs.Prelude.{◌≡◌, ◌++◌, OnOk, IfOk, IfErr, false};
 ghost use Rattle.content_tree.specs.Errors.Kind.{IsOutOfMemory};
+ghost use Rattle.content_tree.specs.Values.Tree as tree;
 ghost use Rattle.content_tree.specs.Values.Value.{tree_of, tree_data_of, enum_tree, held_view};
 ghost use Rattle.content_tree.specs.Values.Value.{trees_view, pairs_view, fields_view};
 ghost use Rattle.content_cbor.specs.Encoded.{Encoded};
+ghost use Rattle.content_cbor.specs.Form.{CodesForm, Fits, DataFits, EachFits, PairsFit};
+ghost use Rattle.content_cbor.specs.Form.{FieldsFit, IsLength, IsText};
 ghost use Rattle.content_cbor.specs.Heads.{head};
 ghost use Rattle.content_cbor.specs.Item.{item, text_item, data_item, each_item, pair_items};
 ghost use Rattle.content_cbor.specs.Item.{field_items};
@@ -40,10 +43,32 @@ use std::result::Result as StdResult;
 /// ```
 pub fn encode<'a, 'n>(alloc: Global, value: &NamedValue<'a, 'n>) -> Result<Vec<u8>>
     ensures value { IfOk result (λ bytes. bytes.items ≡ item (tree_of value.now)) }
+    // so within each limit that it keeps it is decoded as its form
+    ensures form { IfOk result (λ bytes. CodesForm (tree_of value.now) bytes.items) }
     ensures memory { IfErr result (λ e. IsOutOfMemory e) }
 {
     let mut out = Vec::new(alloc);
     write_value(value, &mut out)?;
+    Ok(out)
+}
+
+/// Values as one data item, an array of their items.
+///
+/// # Errors
+///
+/// `OutOfMemory`.
+///
+/// ```rust
+/// let bytes = encode_array(alloc, &[Value::from(1u8), Value::from("a")])?;
+/// assert!(rt; bytes.as_slice() == [0x82, 0x01, 0x61, b'a'].as_slice());
+/// ```
+pub fn encode_array<'a, 'n>(alloc: Global, items: &[NamedValue<'a, 'n>]) -> Result<Vec<u8>>
+    ensures value { IfOk result (λ bytes. bytes.items ≡ item (tree.seq (trees_view items.now))) }
+    ensures form { IfOk result (λ bytes. CodesForm (tree.seq (trees_view items.now)) bytes.items) }
+    ensures memory { IfErr result (λ e. IsOutOfMemory e) }
+{
+    let mut out = Vec::new(alloc);
+    write_array(items, &mut out)?;
     Ok(out)
 }
 
@@ -66,7 +91,8 @@ pub fn to_bytes<T: Serialize>(alloc: Global, value: &T) -> Result<Vec<u8>>
 #[cycle(encode)]
 #[inline(never)]
 fn write_value<'a, 'n>(value: &NamedValue<'a, 'n>, out: &mut Vec<u8>) -> StdResult<(), AllocError>
-    ensures { OnOk result (out.new.items ≡ out.old.items ++ item (tree_of value.now)) }
+    ensures value { OnOk result (out.new.items ≡ out.old.items ++ item (tree_of value.now)) }
+    ensures fits { OnOk result (Fits (tree_of value.now)) }
 {
     match value {
         NamedValue::Unit => write_null(out),
@@ -90,7 +116,8 @@ fn write_held<'a, 'n>(
     held: &Option<Box<NamedValue<'a, 'n>>>,
     out: &mut Vec<u8>,
 ) -> StdResult<(), AllocError>
-    ensures { OnOk result (out.new.items ≡ out.old.items ++ item (held_view held.now)) }
+    ensures value { OnOk result (out.new.items ≡ out.old.items ++ item (held_view held.now)) }
+    ensures fits { OnOk result (Fits (held_view held.now)) }
 {
     match held {
         None => write_null(out),
@@ -102,7 +129,9 @@ fn write_held<'a, 'n>(
 #[cycle(encode)]
 #[inline(never)]
 fn write_data<'a, 'n>(inside: &NamedData<'a, 'n>, out: &mut Vec<u8>) -> StdResult<(), AllocError>
-    ensures { OnOk result (out.new.items ≡ out.old.items ++ data_item (tree_data_of inside.now)) }
+    ensures value { OnOk result (out.new.items ≡ out.old.items
+        ++ data_item (tree_data_of inside.now)) }
+    ensures fits { OnOk result (DataFits (tree_data_of inside.now)) }
 {
     match inside {
         NamedData::Unit => write_null(out),
@@ -116,7 +145,8 @@ fn write_data<'a, 'n>(inside: &NamedData<'a, 'n>, out: &mut Vec<u8>) -> StdResul
 #[cycle(encode)]
 #[inline(never)]
 fn write_variant<'a, 'n>(node: &NamedEnum<'a, 'n>, out: &mut Vec<u8>) -> StdResult<(), AllocError>
-    ensures { OnOk result (out.new.items ≡ out.old.items ++ item (enum_tree node.now)) }
+    ensures value { OnOk result (out.new.items ≡ out.old.items ++ item (enum_tree node.now)) }
+    ensures fits { OnOk result (Fits (enum_tree node.now)) }
 {
     let name = node.variant.as_str();
     match &node.data {
@@ -138,8 +168,9 @@ fn write_variant<'a, 'n>(node: &NamedEnum<'a, 'n>, out: &mut Vec<u8>) -> StdResu
 
 /// Appends the head of a map of one pair, and its key.
 fn write_entry_of(name: &str, out: &mut Vec<u8>) -> StdResult<(), AllocError>
-    ensures { OnOk result (out.new.items ≡ out.old.items
+    ensures value { OnOk result (out.new.items ≡ out.old.items
         ++ (head Major.Map 1 ++ text_item name.now)) }
+    ensures fits { OnOk result (IsText name.now) }
 {
     write_head(out, Major::Map, 1)?;
     write_text(name, out)
@@ -148,13 +179,12 @@ fn write_entry_of(name: &str, out: &mut Vec<u8>) -> StdResult<(), AllocError>
 /// Appends an array.
 #[cycle(encode)]
 #[inline(never)]
-fn write_array<'a, 'n>(
-    items: &Vec<NamedValue<'a, 'n>>,
-    out: &mut Vec<u8>,
-) -> StdResult<(), AllocError>
-    ensures { OnOk result (out.new.items ≡ out.old.items
-        ++ (head Major.Array (count (trees_view items.now.items))
-        ++ each_item (trees_view items.now.items))) }
+fn write_array<'a, 'n>(items: &[NamedValue<'a, 'n>], out: &mut Vec<u8>) -> StdResult<(), AllocError>
+    ensures value { OnOk result (out.new.items ≡ out.old.items
+        ++ (head Major.Array (count (trees_view items.now))
+        ++ each_item (trees_view items.now))) }
+    ensures fits { OnOk result (IsLength (count (trees_view items.now))
+        × EachFits (trees_view items.now)) }
 {
     write_head(out, Major::Array, items.len() as u64)?;
     for item in items {
@@ -170,9 +200,11 @@ fn write_map<'a, 'n>(
     pairs: &Vec<(NamedValue<'a, 'n>, NamedValue<'a, 'n>)>,
     out: &mut Vec<u8>,
 ) -> StdResult<(), AllocError>
-    ensures { OnOk result (out.new.items ≡ out.old.items
+    ensures value { OnOk result (out.new.items ≡ out.old.items
         ++ (head Major.Map (count_pairs (pairs_view pairs.now.items))
         ++ pair_items (pairs_view pairs.now.items))) }
+    ensures fits { OnOk result (IsLength (count_pairs (pairs_view pairs.now.items))
+        × PairsFit (pairs_view pairs.now.items)) }
 {
     write_head(out, Major::Map, pairs.len() as u64)?;
     for (key, value) in pairs {
@@ -189,9 +221,11 @@ fn write_fields<'a, 'n>(
     fields: &Vec<(CowStr<'n>, NamedValue<'a, 'n>)>,
     out: &mut Vec<u8>,
 ) -> StdResult<(), AllocError>
-    ensures { OnOk result (out.new.items ≡ out.old.items
+    ensures value { OnOk result (out.new.items ≡ out.old.items
         ++ (head Major.Map (count_fields (fields_view fields.now.items))
         ++ field_items (fields_view fields.now.items))) }
+    ensures fits { OnOk result (IsLength (count_fields (fields_view fields.now.items))
+        × FieldsFit (fields_view fields.now.items)) }
 {
     write_head(out, Major::Map, fields.len() as u64)?;
     for (key, value) in fields {

@@ -1,9 +1,10 @@
 //! The items in which no item stands.
 
-ghost use Rattle.std.specs.Prelude.{◌≡◌, ◌++◌, OnOk, pos, negsuc, encode_utf8};
+ghost use Rattle.std.specs.Prelude.{◌≡◌, ◌++◌, OnOk, pos, negsuc, encode_utf8, length};
 ghost use Rattle.content_tree.specs.Values.Ranges.{number_value};
 ghost use Rattle.content_cbor.specs.Item.{bytes_item, text_item, boolean_item, null_item};
 ghost use Rattle.content_cbor.specs.Item.{number_item, shortest, without_zeros};
+ghost use Rattle.content_cbor.specs.Form.{IsInRange, IsLength, IsText};
 
 use crate::heads::{Major, write_head};
 use content_tree::Number;
@@ -25,7 +26,8 @@ pub(crate) fn write_bool(boolean: bool, out: &mut Vec<u8>) -> Result<(), AllocEr
 
 /// Appends a list of bytes.
 pub(crate) fn write_bytes(bytes: &[u8], out: &mut Vec<u8>) -> Result<(), AllocError>
-    ensures { OnOk result (out.new.items ≡ out.old.items ++ bytes_item bytes.now) }
+    ensures value { OnOk result (out.new.items ≡ out.old.items ++ bytes_item bytes.now) }
+    ensures fits { IsLength (length bytes.now) }
 {
     write_head(out, Major::Bytes, bytes.len() as u64)?;
     out.extend_from_slice(bytes)
@@ -33,7 +35,8 @@ pub(crate) fn write_bytes(bytes: &[u8], out: &mut Vec<u8>) -> Result<(), AllocEr
 
 /// Appends a text.
 pub(crate) fn write_text(text: &str, out: &mut Vec<u8>) -> Result<(), AllocError>
-    ensures { OnOk result (out.new.items ≡ out.old.items ++ text_item text.now) }
+    ensures value { OnOk result (out.new.items ≡ out.old.items ++ text_item text.now) }
+    ensures fits { IsText text.now }
 {
     write_head(out, Major::Text, text.len() as u64)?;
     out.extend_from_slice(text.as_bytes())
@@ -41,7 +44,9 @@ pub(crate) fn write_text(text: &str, out: &mut Vec<u8>) -> Result<(), AllocError
 
 /// Appends a character, as a text.
 pub(crate) fn write_char(character: char, out: &mut Vec<u8>) -> Result<(), AllocError>
-    ensures { OnOk result (out.new.items ≡ out.old.items ++ text_item (encode_utf8 character)) }
+    ensures value { OnOk result (out.new.items ≡ out.old.items
+        ++ text_item (encode_utf8 character)) }
+    ensures fits { IsText (encode_utf8 character) }
 {
     let mut buffer = [0; 4];
     write_text(character.encode_utf8(&mut buffer), out)
@@ -49,7 +54,9 @@ pub(crate) fn write_char(character: char, out: &mut Vec<u8>) -> Result<(), Alloc
 
 /// Appends a number, whatever its kind.
 pub(crate) fn write_number(number: Number, out: &mut Vec<u8>) -> Result<(), AllocError>
-    ensures { OnOk result (out.new.items ≡ out.old.items ++ number_item (number_value number)) }
+    ensures value { OnOk result (out.new.items ≡ out.old.items
+        ++ number_item (number_value number)) }
+    ensures fits { IsInRange (number_value number) }
 {
     match number {
         Number::U8(number) => write_unsigned(u128::from(number), out),
@@ -67,7 +74,8 @@ pub(crate) fn write_number(number: Number, out: &mut Vec<u8>) -> Result<(), Allo
 
 /// Appends a signed number.
 fn write_signed(number: i128, out: &mut Vec<u8>) -> Result<(), AllocError>
-    ensures { OnOk result (out.new.items ≡ out.old.items ++ number_item number) }
+    ensures value { OnOk result (out.new.items ≡ out.old.items ++ number_item number) }
+    ensures fits { IsInRange number }
 {
     let size = number.unsigned_abs();
     if number < 0 {
@@ -79,7 +87,8 @@ fn write_signed(number: i128, out: &mut Vec<u8>) -> Result<(), AllocError>
 
 /// Appends a number from 0.
 fn write_unsigned(number: u128, out: &mut Vec<u8>) -> Result<(), AllocError>
-    ensures { OnOk result (out.new.items ≡ out.old.items ++ number_item (pos number)) }
+    ensures value { OnOk result (out.new.items ≡ out.old.items ++ number_item (pos number)) }
+    ensures fits { IsInRange (pos number) }
 {
     match u64::try_from(number) {
         Ok(number) => write_head(out, Major::Unsigned, number),

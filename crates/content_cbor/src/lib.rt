@@ -9,12 +9,14 @@ mod heads;
 pub mod laws;
 mod leaves;
 mod numbers;
+mod round;
 mod stop;
 mod strings;
 
 pub use decode_error::{DecodeError, Fault};
 pub use decoding::decode;
-pub use encoding::{encode, to_bytes};
+pub use encoding::{encode, encode_array, to_bytes};
+pub use round::round_trip;
 
 #[cfg(test)]
 mod tests;

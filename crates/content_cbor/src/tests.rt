@@ -1,7 +1,7 @@
 //! Values beside the bytes that RFC 8949 gives for them in its appendix A, and those of structs,
 //! variants and options, worked by hand.
 
-use crate::{decode, encode, to_bytes};
+use crate::{decode, encode, encode_array, round_trip, to_bytes};
 use content_tree::{CowBytes, CowStr, Data, Enum, Number, Result as Answer, Struct, Value};
 use std::alloc::Global;
 use std::fmt::Write;
@@ -153,6 +153,27 @@ fn bytes_of_values(rt: HostRuntime) -> Result<(), Fail> {
     // What can be serialised.
     let bytes = to_bytes(alloc, &(Some(7u8), 'a', false))?;
     assert!(rt; bytes.as_slice() == [0x83, 0x07, 0x61, b'a', 0xf4].as_slice());
+    Ok(())
+}
+
+#[test]
+fn what_is_kept_of_values(rt: HostRuntime) -> Result<(), Fail> {
+    let alloc = rt.alloc();
+    let value = Value::Tuple(vec![in alloc; Value::from(7u8), Value::Unit]?);
+    let wanted = Value::Seq(vec![in alloc; Value::from(7u64), Value::Option(None)]?);
+    assert!(rt; round_trip(alloc, &value, 2)? == wanted);
+
+    // The array is deeper than its items.
+    match round_trip(alloc, &value, 1) {
+        Ok(_) => assert!(rt; false),
+        Err(error) => {
+            let text = format!(in alloc; "{error}")?;
+            assert!(rt; text.as_str() == "refused at byte 0: items nest too deep");
+        }
+    }
+
+    let bytes = encode_array(alloc, &[Value::from(1u8), Value::from("a")])?;
+    assert!(rt; bytes.as_slice() == [0x82, 0x01, 0x61, b'a'].as_slice());
     Ok(())
 }
 

@@ -6,4 +6,4 @@ pub returns : goal.returns
 unfolding shortest
 returns c =
     let e : c.without_zeros.result.now ≡ shortest c.args.number = c.without_zeros.ensures ∙ ap without_zeros c.to_be_bytes.ensures in
-    subst (λ bs. OnOk c.write_bytes.result (c.write_bytes.new.out.items ≡ c.args.out.now.items ++ bytes_item bs)) e c.write_bytes.ensures
+    subst (λ bs. OnOk c.write_bytes.result (c.write_bytes.new.out.items ≡ c.args.out.now.items ++ bytes_item bs)) e c.write_bytes.ensures.value

@@ -1,0 +1,47 @@
+//! Values as bytes and back.
+
+ghost use Rattle.std.specs.Prelude.{◌≤◌, ◌<◌, IsErr};
+ghost use Rattle.content_tree.specs.Values.Tree.{owned};
+ghost use Rattle.content_tree.specs.Values.Value.{tree_of};
+ghost use Rattle.content_cbor.specs.Decoded.{IsReadAs};
+ghost use Rattle.content_cbor.specs.Form.{depth, form};
+
+use crate::decode_error::DecodeError;
+use crate::decoding::decode;
+use crate::encoding::encode;
+use content_tree::{NamedValue, Value};
+use std::alloc::Global;
+
+/// What CBOR keeps of a value: it is encoded, and the bytes are decoded, with every text and byte
+/// value owned.
+///
+/// The depth of an array or a map is one more than that of the deepest item in it, of any other
+/// item 1.
+///
+/// # Errors
+///
+/// `Refused` exactly where the item is deeper than the limit; `OutOfMemory`.
+///
+/// ```rust
+/// let value = Value::Tuple(vec![in alloc; Value::from(7u8), Value::Unit]?);
+/// let wanted = Value::Seq(vec![in alloc; Value::from(7u64), Value::Option(None)]?);
+/// assert!(rt; round_trip(alloc, &value, 2)? == wanted);
+/// ```
+pub fn round_trip<'a, 'n>(
+    alloc: Global,
+    value: &NamedValue<'a, 'n>,
+    depth_limit: usize,
+) -> Result<Value<'static>, DecodeError>
+    ensures value { depth (form (tree_of value.now)) ≤ depth_limit
+        → IsReadAs (owned (form (tree_of value.now))) result }
+    ensures refused { depth_limit < depth (form (tree_of value.now)) → IsErr result }
+{
+    let Ok(bytes) = encode(alloc, value) else {
+        return Err(DecodeError::OutOfMemory);
+    };
+    let kept = decode(alloc, &bytes, depth_limit)?;
+    match kept.into_owned(alloc) {
+        Ok(kept) => Ok(kept),
+        Err(_) => Err(DecodeError::OutOfMemory),
+    }
+}
