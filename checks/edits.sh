@@ -1,24 +1,11 @@
 #!/usr/bin/env bash
 # checks/edits.sh [CRATE/EDIT ..]: of each grouped edit, checks/edits/CRATE/EDIT.edit, compares the functions that the
 # check refuses with the list beside it, EDIT.md. The gate counts an edit that one function refuses; this says of each
-# function of a grouped edit that it is refused. With no argument it tries them all. It ends with status 1 where a listed
-# function is not refused. It needs out/ of each crate, as `rt check` leaves it, works on copies, and takes one to three
-# minutes an edit.
+# function of a grouped edit that it is refused. With no argument it tries them all, JOBS (or else 2) side by side. It
+# ends with status 1 where a listed function is not refused. It needs out/ of each crate, as `rt check` leaves it, and
+# works on copies.
 set -u
 top=$(cd "$(dirname "$0")/.." && pwd)
-room=$(mktemp -d)
-trap 'rm -rf "$room"' EXIT
-
-edits=()
-if [ $# -gt 0 ]; then
-    for name in "$@"; do edits+=("$top/checks/edits/$name.edit"); done
-else
-    edits=("$top"/checks/edits/*/*.edit)
-fi
-
-cp "$top/crates.txt" "$room/"
-[ ! -f "$top/HANDLES" ] || cp "$top/HANDLES" "$room/"
-cp -r "$top/crates" "$room/crates"
 
 # Applies an edit to a crate's folder: each 'old:' text stands once in the file named above it.
 apply() {
@@ -40,17 +27,19 @@ for line in open(edit, encoding="utf-8").read().split("\n"):
 PYTHON
 }
 
-failed=0
-for edit in "${edits[@]}"; do
-    crate=$(basename "$(dirname "$edit")")
-    name=$crate/$(basename "$edit" .edit)
-    list=${edit%.edit}.md
-    [ -f "$list" ] || { echo "$name: no list of what it must refuse"; failed=1; continue; }
-    rm -rf "$room/crates/$crate"
-    cp -r "$top/crates/$crate" "$room/crates/$crate"
-    apply "$edit" "$room/crates/$crate" || { failed=1; continue; }
+# Tries one edit, in a copy of the crates. What was proved is linked, since it is much, and a check never writes into it.
+try_edit() {
+    local name=$1 crate=${1%/*} list=$top/checks/edits/$1.md missing=0
+    [ -f "$list" ] || { echo "$name: no list of what it must refuse"; return 1; }
+    room=$(mktemp -d)
+    trap 'rm -rf "$room"' EXIT
+    cp "$top/crates.txt" "$room/"
+    [ ! -f "$top/HANDLES" ] || cp "$top/HANDLES" "$room/"
+    cp -rl "$top/crates" "$room/crates" 2> /dev/null || cp -rf "$top/crates" "$room/"
+    find "$room/crates/$crate" -path '*/out/rlib' -prune -o -type f ! -name '*.oantt' -print0 |
+        while IFS= read -r -d '' file; do cp -p "$file" "$file.own" && mv "$file.own" "$file"; done
+    apply "$top/checks/edits/$name.edit" "$room/crates/$crate" || return 1
     (cd "$room/crates/$crate" && rt check --jobs 1 > "$room/log" 2>&1)
-    missing=0
     while read -r function; do
         if grep -qE "^fn $function: proved" "$room/log"; then
             echo "$name: proved, and must be refused: $function"; missing=1
@@ -58,6 +47,15 @@ for edit in "${edits[@]}"; do
             echo "$name: the check says nothing of $function"; missing=1
         fi
     done < <(sed -n 's/^- `\(.*\)`$/\1/p' "$list")
-    if [ $missing = 0 ]; then echo "$name: each is refused"; else failed=1; fi
-done
-exit $failed
+    [ $missing = 0 ] && echo "$name: each is refused"
+    return $missing
+}
+
+if [ "${1-}" = --one ]; then
+    try_edit "$2"
+    exit
+fi
+if [ $# = 0 ]; then
+    set -- $(cd "$top/checks/edits" && ls -- */*.edit | sed 's/\.edit$//')
+fi
+printf '%s\n' "$@" | xargs -P "${JOBS:-2}" -n 1 "$0" --one || exit 1

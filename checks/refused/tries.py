@@ -118,12 +118,14 @@ def tried(case):
     for refused, answers in tries:
         how = " ".join(f"{name}={at}" for name, at in refused.items())
         wrong += faults(how, run(program, text, **refused), *answers)
-    for at in range(1, ample.writes + 1):
-        ran = run(program, text, FAIL_WRITE=at)
+    failures = [{"FAIL_WRITE": at} for at in range(1, ample.writes + 1)]
+    failures += [{"FAIL_READ": at, "FAIL_WRITE": 1} for at in range(1, ample.reads + 1)]
+    for failed in failures:
+        ran = run(program, text, **failed)
         # nothing is said of what went out
         answer = ran.answer[0], 5 if program == "content_cli" else 4
-        wrong += faults(f"FAIL_WRITE={at}", ran, answer)
-    return case, 1 + len(tries) + ample.writes, wrong
+        wrong += faults(" ".join(f"{name}={at}" for name, at in failed.items()), ran, answer)
+    return case, 1 + len(tries) + len(failures), wrong
 
 
 def contents(path):
@@ -148,9 +150,11 @@ def some_rows():
 def cases():
     """Each program with each small input: that of the rows has one row a run, some of each sort
     and two that differ."""
-    # an input, `-> STATUS ANSWER`, and an empty line where another input follows
-    lines = re.split(rb"(?m)^-> (\d) (.*\n)\n?", contents(f"{here}/lines"))
-    for text, status, answer in zip(lines[::3], lines[1::3], lines[2::3]):
+    # an input, `-> STATUS ANSWER`, and an empty line where another input follows; behind `-|` the
+    # input has no newline at its end
+    lines = re.split(rb"(?m)^-([>|]) (\d) (.*\n)\n?", contents(f"{here}/lines"))
+    for text, end, status, answer in zip(*(lines[at::4] for at in range(4))):
+        text = text[:-1] if end == b"|" else text
         yield Case("content_cli", text, (answer, int(status)))
     if lines[-1]:
         sys.exit(f"{here}/lines: no answer stands behind {lines[-1]!r}")

@@ -13,8 +13,6 @@ mod numbers;
 mod port;
 mod ports;
 mod run;
-#[cfg(test)]
-mod tests;
 mod words;
 mod write;
 

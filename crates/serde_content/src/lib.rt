@@ -22,6 +22,4 @@ pub mod samples;
 mod sending;
 pub mod ser;
 mod taking;
-#[cfg(test)]
-mod tests;
 mod values;

@@ -1,0 +1,12 @@
+//! What needs a type, a serialiser or a session of its own, with expected values written by hand.
+//! All else is rows, which `check_rows` runs.
+
+mod derived;
+mod fields_by_name;
+mod for_people;
+mod hostile;
+mod literals;
+mod own_structs;
+mod own_types;
+mod readme;
+mod round_trips;

@@ -1,0 +1,69 @@
+//! Fields taken by name, wherever they stand, and what they leave.
+
+use serde_content::de::{
+    FieldsByName, attempt, end_fields, field_or, named_field, skip_fields, tag_field,
+};
+use serde_content::{Deserializer, Result as Answer, Value};
+use std::alloc::Global;
+use std::test::Fail;
+
+/// `{ "b": 2u8, "a": 1u8, "kind": "k" }`, to be taken by name.
+fn three_fields(alloc: Global) -> Answer<FieldsByName<'static, 'static>> {
+    let pairs = vec![in alloc;
+        (Value::from("b"), Value::from(2u8)),
+        (Value::from("a"), Value::from(1u8)),
+        (Value::from("kind"), Value::from("k")),
+    ]?;
+    Ok(
+        Deserializer::new(Value::Map(pairs))
+            .deserialize_map(alloc)?
+            .by_name(),
+    )
+}
+
+/// The text of a refusal, or none where there is none.
+fn text_of(alloc: Global, answer: Answer<()>) -> Answer<String> {
+    match answer {
+        Ok(()) => Ok(String::new(alloc)),
+        Err(error) => Ok(format!(in alloc; "{error}")?),
+    }
+}
+
+#[test]
+fn fields_are_taken_in_any_order(rt: HostRuntime) -> Result<(), Fail> {
+    let alloc = rt.alloc();
+    let mut fields = three_fields(alloc)?;
+    let a: u8 = named_field(alloc, &mut fields, "a")?;
+    let c: u8 = field_or(alloc, &mut fields, "c", 7)?;
+    let kind = tag_field(alloc, &mut fields, "kind")?;
+    assert!(rt; a == 1);
+    assert!(rt; c == 7);
+    assert!(rt; kind.as_str() == "k");
+    assert!(rt; fields.take_named("a").is_none());
+    let rest = fields.rest(alloc)?;
+    let refused: Option<bool> = attempt(alloc, &rest)?;
+    assert!(rt; refused.is_none());
+    let pairs = vec![in alloc; (Value::from("b"), Value::from(2u8))]?;
+    assert!(rt; rest == Deserializer::new(Value::Map(pairs)));
+    skip_fields(alloc, three_fields(alloc)?, &["c"])?;
+    Ok(())
+}
+
+#[test]
+fn what_is_left_is_refused(rt: HostRuntime) -> Result<(), Fail> {
+    let alloc = rt.alloc();
+    let left = end_fields(alloc, three_fields(alloc)?, &["a", "b"]);
+    assert!(rt; text_of(alloc, left)?.as_str() == "duplicate field `b`");
+    let left = end_fields(alloc, three_fields(alloc)?, &[]);
+    assert!(rt; text_of(alloc, left)?.as_str() == "unknown field `b`, there are no fields");
+    let left = end_fields(alloc, three_fields(alloc)?, &["x"]);
+    assert!(rt; text_of(alloc, left)?.as_str() == "unknown field `b`, expected `x`");
+    let left = end_fields(alloc, three_fields(alloc)?, &["x", "y"]);
+    assert!(rt; text_of(alloc, left)?.as_str() == "unknown field `b`, expected `x` or `y`");
+    let left = end_fields(alloc, three_fields(alloc)?, &["x", "y", "z"]);
+    let wanted = "unknown field `b`, expected one of `x`, `y`, `z`";
+    assert!(rt; text_of(alloc, left)?.as_str() == wanted);
+    let left = skip_fields(alloc, three_fields(alloc)?, &["a"]);
+    assert!(rt; text_of(alloc, left)?.as_str() == "duplicate field `a`");
+    Ok(())
+}
