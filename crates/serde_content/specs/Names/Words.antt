@@ -17,7 +17,7 @@ pub use Rattle.content_build.specs.Answers.{IsAnswer, IsRefusal, IsAnswerWithin,
 pub use Rattle.content_build.specs.declared.calls_error.CallsError.{CallsError}
 pub use Rattle.content_build.specs.Builder.{seen_of, HasTaken, AnswersNext, AnswersEnd}
 pub use Rattle.content_build.specs.declared.builder.Builder.{Builder}
-pub use Rattle.content_tree.specs.Errors.Kind.{IsOutOfMemory}
+pub use Rattle.content_tree.specs.Errors.Kind.{IsOutOfMemory, IsCustomOrMemory}
 pub use Rattle.content_tree.specs.Errors.Cause.{Cause}
 pub use Rattle.content_tree.specs.Values.Value.{trees_view, pairs_view, fields_view}
 pub use Rattle.content_ser.specs.Scripts.Script.{Script, calls_of, stop_of}
@@ -30,7 +30,10 @@ pub use Rattle.content_tree.specs.Values.Value.{tree_data_of}
 pub use Rattle.content_tree.specs.Values.Text.{Text, text_of, bytes_of, owned_text, static_name}
 pub use Rattle.content_tree.specs.Values.Cases.{borrowed_text}
 pub use Rattle.content_tree.specs.Values.Lookups.{lookup, lookup_text, or_else}
-pub use Rattle.content_tree.specs.Orders.Trees.{same_tree}
+pub use Rattle.content_tree.specs.Values.Lookups.{boolean_in, number_in, value_in, character_in}
+pub use Rattle.content_tree.specs.Values.Lookups.{text_in, bytes_in, items_in, pairs_in}
+pub use Rattle.content_tree.specs.Values.Lookups.{last_value, last_field, field_in, is_text}
+pub use Rattle.content_tree.specs.Orders.Trees.{same_tree, tree_cmp}
 pub use Rattle.content_ser.specs.Scripts.Script.{and_then}
 pub use Rattle.content_ser.specs.Sending.Loose.{loose}
 pub use Rattle.content_ser.specs.Sending.TreeScript.{script_of, loose_script}
