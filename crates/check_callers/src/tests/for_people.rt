@@ -19,11 +19,7 @@ impl Serialize for ForPeople {
     ghost lawful = { λ x readable. leaf_lawful refl };
 
     #[tactic(auto, using(serde_content::proofs::Telling::told_flag))]
-    fn serialize<S: Sink>(
-        &self,
-        _alloc: Global,
-        serializer: &mut S,
-    ) -> Answer<()> {
+    fn serialize<S: Sink>(&self, _alloc: Global, serializer: &mut S) -> Answer<()> {
         let readable = serializer.is_human_readable();
         serializer.serialize_bool(readable)
     }
