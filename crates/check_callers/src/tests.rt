@@ -1,6 +1,7 @@
 //! What needs a type, a serialiser or a session of its own, with expected values written by hand.
 //! All else is rows, which `check_rows` runs.
 
+mod cbor;
 mod derived;
 mod fields_by_name;
 mod for_people;

@@ -17,6 +17,3 @@ pub use decode_error::{DecodeError, Fault};
 pub use decoding::decode;
 pub use encoding::{encode, encode_array, to_bytes};
 pub use round::round_trip;
-
-#[cfg(test)]
-mod tests;

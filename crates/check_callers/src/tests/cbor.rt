@@ -1,8 +1,8 @@
 //! Values beside the bytes that RFC 8949 gives for them in its appendix A, and those of structs,
 //! variants and options, worked by hand.
 
-use crate::{decode, encode, encode_array, round_trip, to_bytes};
-use content_tree::{CowBytes, CowStr, Data, Enum, Number, Result as Answer, Struct, Value};
+use content_cbor::{decode, encode, encode_array, round_trip, to_bytes};
+use serde_content::{CowBytes, CowStr, Data, Enum, Number, Result as Answer, Struct, Value};
 use std::alloc::Global;
 use std::fmt::Write;
 use std::test::Fail;
