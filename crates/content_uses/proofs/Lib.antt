@@ -1,3 +1,6 @@
+mod Changes
+mod EitherWay
+mod InTurn
 mod MergingLaws
 mod Placing
 mod Putting

@@ -9,11 +9,11 @@ use Rattle.content_uses.specs.Merged.{put, merged}
 use Rattle.content_uses.specs.MergingLaws.{put_over, found_after, NoMapWins, OverNoMapWins, KeysFind}
 
 -- the last value behind a key, or none
-abbrev at : Tree → Pairs → Option Tree
+abbrev pub at : Tree → Pairs → Option Tree
 at k ps = last_value (λ j. same_tree j k) ps
 
 -- one more pair before the others
-abbrev then_at : (q i t : Tree) → Option Tree → Option Tree
+abbrev pub then_at : (q i t : Tree) → Option Tree → Option Tree
 then_at q i t o = or_else o (if same_tree i q then Some t else None)
 
 -- equal keys are equal to the same keys
@@ -21,7 +21,7 @@ alike : (i j q : Tree) → same_tree j q ≡ true → same_tree i j ≡ same_tre
 alike i j q e = tree_equiv.symm i j ∙ tree_equiv.congr j q i e ∙ tree_equiv.symm q i
 
 -- equal keys find the same
-at_alike : (j q : Tree) (ps : Pairs) → same_tree j q ≡ true → at j ps ≡ at q ps
+pub at_alike : (j q : Tree) (ps : Pairs) → same_tree j q ≡ true → at j ps ≡ at q ps
 at_alike j q no_pairs e = refl
 at_alike j q (pair_then i t ps) e =
     ap (λ o. then_at j i t o) (at_alike j q ps e) ∙ ap (λ b. or_else (at q ps) (if b then Some t else None)) (alike i j q e)

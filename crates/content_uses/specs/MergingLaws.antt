@@ -1,9 +1,11 @@
 -- What holds of every merge.
-use Rattle.std.specs.Prelude.{◌≡◌, Option, Some, None, if◌then◌else◌}
+use Rattle.std.specs.Prelude.{◌≡◌, false, List, [], ◌∷◌, Option, Some, None, if◌then◌else◌}
+use Rattle.std.specs.Prelude.{IfSome, IsSome, IsSomeAnd, ⊤}
+use Rattle.std.specs.Option.{option_and_then}
 use Rattle.content_tree.specs.Orders.Trees.{same_tree}
-use Rattle.content_tree.specs.Values.Lookups.{pairs_in, lookup}
+use Rattle.content_tree.specs.Values.Lookups.{last_value, pairs_in, lookup}
 use Rattle.content_tree.specs.Values.Tree.{Tree, unit, absent, map, Pairs, no_pairs, pair_then}
-use Rattle.content_uses.specs.Merged.{merged}
+use Rattle.content_uses.specs.Merged.{has_key, merged}
 
 -- an empty map changes no map
 abbrev pub EmptyChangesNothing : Type 0
@@ -40,3 +42,45 @@ one_pair k t = map (pair_then k t no_pairs)
 abbrev pub OrderMatters : Type 0
 OrderMatters = merged (merged (one_pair unit unit) unit) (one_pair absent unit)
     ≡ merged (one_pair unit unit) (merged unit (one_pair absent unit)) → ⊥
+
+-- what stands behind a path of keys, from map to map
+abbrev pub behind : (path : List Tree) → Tree → Option Tree
+behind [] t = Some t
+behind (k ∷ path) t =
+    option_and_then (behind path) (option_and_then (last_value (λ j. same_tree j k)) (pairs_in t))
+
+-- a map
+abbrev pub IsMap : Tree → Type 0
+IsMap t = IsSome (pairs_in t)
+
+-- where the outer two have a map behind one path, the middle one has a map there, or nothing
+abbrev pub MapsBetween : (over middle base : Tree) → Type 0
+MapsBetween over middle base = (path : List Tree) → IsSomeAnd (behind path over) IsMap
+    → IsSomeAnd (behind path base) IsMap → IfSome (behind path middle) IsMap
+
+abbrev mutual
+  -- in a map, and in each map behind its keys, no key stands twice
+  pub KeysOnce : Tree → Type 0
+  KeysOnce (map ps) = PairsOnce ps
+  KeysOnce t = ⊤
+
+  -- no two pairs have one key, and no key stands twice in their values
+  pub PairsOnce : Pairs → Type 0
+  PairsOnce no_pairs = ⊤
+  PairsOnce (pair_then k t ps) = (has_key k ps ≡ false) × KeysOnce t × PairsOnce ps
+
+-- with maps between maps, and each key once, it doesn't matter which two are merged first
+abbrev pub EitherWay : Type 0
+EitherWay = (over middle base : Tree) → KeysOnce over → KeysOnce middle
+    → MapsBetween over middle base
+    → merged (merged over middle) base ≡ merged over (merged middle base)
+
+-- where a key stands twice in what is put over, it matters even with maps between maps
+abbrev pub TwiceMatters : Type 0
+TwiceMatters =
+    let empty : Tree = map no_pairs in
+    let over : Tree = map (pair_then unit unit (pair_then unit empty no_pairs)) in
+    let middle : Tree = one_pair unit empty in
+    let base : Tree = one_pair unit (one_pair unit unit) in
+    MapsBetween over middle base
+    × (merged (merged over middle) base ≡ merged over (merged middle base) → ⊥)

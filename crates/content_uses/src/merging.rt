@@ -6,7 +6,7 @@ ghost use Rattle.content_tree.specs.Values.Lookups.{pairs_in};
 ghost use Rattle.content_tree.specs.Values.Value.{tree_of, pairs_view};
 ghost use Rattle.content_uses.specs.Merged.{merged, merged_pairs};
 ghost use Rattle.content_uses.specs.MergingLaws.{EmptyChangesNothing, NoMapWins, OverNoMapWins};
-ghost use Rattle.content_uses.specs.MergingLaws.{KeysFind, OrderMatters};
+ghost use Rattle.content_uses.specs.MergingLaws.{EitherWay, KeysFind, OrderMatters, TwiceMatters};
 ghost use Rattle.content_uses.specs.Places.{places as places_of, value_at, with_value};
 
 use serde_content::{NamedValue, Result};
@@ -138,13 +138,18 @@ fn set_value<'a, 'n>(
 }
 
 /// The laws of merging: an empty map changes nothing; what is no map wins whole, and so does what
-/// is put over no map; each key finds what its values, put over one another, come to. Where
-/// something that is no map stands between two maps it matters which two are merged first, so
-/// merging isn't associative.
+/// is put over no map; each key finds what its values, put over one another, come to.
+///
+/// Of three values it doesn't matter which two are merged first, under two premises: no key stands
+/// twice in the two that are put over, and where both outer ones have a map behind a path of keys,
+/// the middle one has a map there or nothing. Otherwise it may matter, as two examples show: one
+/// has something that is no map between two maps, the other a key that stands twice.
 pub fn merging_laws()
     ensures empty { EmptyChangesNothing }
     ensures whole { NoMapWins }
     ensures over_none { OverNoMapWins }
     ensures found { KeysFind }
+    ensures either_way { EitherWay }
     ensures order { OrderMatters }
+    ensures twice { TwiceMatters }
 {}

@@ -1,4 +1,5 @@
 use Rattle.std.proofs.Common.{refl}
+use Rattle.content_uses.proofs.EitherWay.{either_way, twice_matters}
 use Rattle.content_uses.proofs.MergingLaws.{keys_find, no_map_wins, over_no_map_wins}
 use Rattle.content_uses.proofs.merging.merging_laws.Goals as goal
 
@@ -8,5 +9,7 @@ returns c = record {
   whole = no_map_wins;
   over_none = over_no_map_wins;
   found = keys_find;
+  either_way = either_way;
   order = λ e. absurd (cc e);
+  twice = twice_matters;
 }
