@@ -41,11 +41,17 @@ try_edit() {
     apply "$top/checks/edits/$name.edit" "$room/crates/$crate" || return 1
     (cd "$room/crates/$crate" && rt check --jobs 1 > "$room/log" 2>&1)
     while read -r function; do
-        if grep -qE "^fn $function: proved" "$room/log"; then
-            echo "$name: proved, and must be refused: $function"; missing=1
-        elif ! grep -qE "^fn $function: " "$room/log"; then
-            echo "$name: the check says nothing of $function"; missing=1
-        fi
+        said=$(grep "^fn $function: " "$room/log")
+        case $said in
+            "") echo "$name: the check says nothing of $function" ;;
+            *": proved"*) echo "$name: proved, and must be refused: $function" ;;
+            # what calls a function that is refused is not proved either, nor is the rest of its cycle of calls
+            *", which is not proved" | *", which are not proved") echo "$name: not refused for itself: $function" ;;
+            *"/+"*) grep -q "\`${function##*::}-" "$room/log" && continue
+                echo "$name: not refused for itself: $function" ;;
+            *) continue ;;
+        esac
+        missing=1
     done < <(sed -n 's/^- `\(.*\)`$/\1/p' "$list")
     [ $missing = 0 ] && echo "$name: each is refused"
     return $missing
