@@ -13,7 +13,7 @@ const READ_SIZE: usize = 4096;
 /// Why there is no input.
 #[derive(Clone, Copy, Debug, PartialEq, Eq)]
 pub enum NoInput {
-    /// The source answered a fault.
+    /// The reader answered a fault.
     ReadFailed,
     /// An allocation failed.
     OutOfMemory,
@@ -35,9 +35,9 @@ impl From<AllocError> for NoInput {
     }
 }
 
-/// All that is left of the source, in one vector.
+/// All that is left of the reader, in one vector.
 ///
-/// Each read that is neither the end nor a fault adds at least one byte to the vector, so a source
+/// Each read that is neither the end nor a fault adds at least one byte to the vector, so a reader
 /// that never ends brings it to `OutOfMemory`.
 pub fn gather<R: Input>(alloc: Global, reader: &mut R) -> Result<Vec<u8>, NoInput>
     ensures all { IfOk result (λ input. Consumes (R.left reader.old) (R.left reader.new)

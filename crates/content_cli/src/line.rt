@@ -113,11 +113,11 @@ fn first_foreign(text: &[u8]) -> Option<usize>
 /// where the line has a byte that no line may hold. One walk looks for both.
 pub fn split_line(text: &[u8]) -> Option<(&[u8], Option<&[u8]>)>
     ensures bad { result ≡ None → first_bad text.now ≡ Some 0 }
-    ensures printable { IfSome result (λ cut. list_all is_printable cut.0.now ≡ true) }
-    ensures lines { IfSome result (λ cut. MatchOption cut.1 (lines_of text.now ≡ cut.0.now ∷ [])
-        (λ rest. lines_of text.now ≡ cut.0.now ∷ lines_of rest.now)) }
-    ensures bytes { IfSome result (λ cut. MatchOption cut.1 (length text.now ≡ length cut.0.now)
-        (λ rest. length text.now ≡ length cut.0.now + (1 + length rest.now))) }
+    ensures printable { IfSome result (λ both. list_all is_printable both.0.now ≡ true) }
+    ensures lines { IfSome result (λ both. MatchOption both.1 (lines_of text.now ≡ both.0.now ∷ [])
+        (λ rest. lines_of text.now ≡ both.0.now ∷ lines_of rest.now)) }
+    ensures bytes { IfSome result (λ both. MatchOption both.1 (length text.now ≡ length both.0.now)
+        (λ rest. length text.now ≡ length both.0.now + (1 + length rest.now))) }
 {
     match first_foreign(text) {
         None => Some((text, None)),

@@ -18,7 +18,7 @@ fn is_numeral(digits: &[u8]) -> bool
     are_digits(digits) && !digits.is_empty() && (digits[0] != b'0' || digits.len() == 1)
 }
 
-/// Whether it is a `-` and a plain number other than `0`.
+/// Whether it is a `-` and a numeral other than `0`.
 fn is_negative_numeral(text: &[u8]) -> bool
     ensures { result ≡ is_negative text.now }
 {

@@ -1,4 +1,4 @@
-//! A reader or a writer of the standard library, as a source or a sink.
+//! A reader or a writer of the standard library, as a port.
 
 ghost use Rattle.std.specs.Prelude.{◌≡◌, false};
 ghost use Rattle.content_cli.specs.Port.{inner_of, is_failed};

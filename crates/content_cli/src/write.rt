@@ -5,7 +5,7 @@ ghost use Rattle.std.specs.Io.KnownBytes.{Appends};
 
 use crate::ports::{Fault, Output};
 
-/// Writes all the bytes, by as many writes as the sink needs.
+/// Writes all the bytes, by as many writes as the writer needs.
 pub fn write_out<W: Output>(writer: &mut W, bytes: &[u8]) -> Result<(), Fault>
     ensures all { OnOk result (Appends (W.written writer.old) (W.written writer.new) bytes.now) }
     ensures kept { OnOk result (W.has_failed writer.new ≡ W.has_failed writer.old) }
