@@ -30,3 +30,13 @@ pub enum Setting {
     /// What it is called.
     Name(String),
 }
+
+/// Steps, told by how many they are: two are read as a pair, since that is tried first.
+#[derive(Serialize, Deserialize)]
+#[serde(untagged)]
+pub enum Steps {
+    /// The first and the second.
+    Pair(u8, u8),
+    /// Any others.
+    List(Vec<u8>),
+}

@@ -8,8 +8,8 @@ ghost use Rattle.content_tree.specs.Errors.Cause.{custom};
 ghost use Rattle.content_ser.specs.Scripts.Sends.{Sends};
 ghost use Rattle.content_ser.specs.Scripts.Standard.{tuple_script, element_first};
 ghost use Rattle.content_ser.specs.Scripts.Own.{field_first, end_script};
-ghost use Rattle.content_ser.specs.Laws.StandardScripts.{leaf_lawful, option_lawful, tuple_lawful};
-ghost use Rattle.content_ser.specs.Laws.StandardScripts.{element_fits, end_fits};
+ghost use Rattle.content_ser.specs.Laws.StandardScripts.{leaf_lawful, option_lawful, seq_lawful};
+ghost use Rattle.content_ser.specs.Laws.StandardScripts.{tuple_lawful, element_fits, end_fits};
 ghost use Rattle.content_ser.specs.Laws.OwnScripts.{field_fits, struct_end_fits, struct_lawful};
 ghost use Rattle.content_de.specs.Sources.Origin.{tree_under};
 ghost use Rattle.content_de.specs.Outcomes.{refusal_of, taken, IsTaken};
@@ -45,6 +45,7 @@ ghost use Rattle.std.specs.declared.string.String.{String};
 ghost use Rattle.content_tree.specs.Values.Ranges as kind;
 ghost use Rattle.check_derive.specs.declared.choices.Command.TheVariants as command;
 ghost use Rattle.check_derive.specs.declared.choices.Setting.TheVariants as setting;
+ghost use Rattle.check_derive.specs.declared.choices.Steps.TheVariants as steps;
 
 use serde_content::de::{
     Deserialize, FieldsByName, attempt, read_two, skip_fields, tag_field, unknown_variant,
@@ -544,4 +545,76 @@ impl<'de> RoundTrip<'de> for Setting {
             }
       ];
     } };
+}
+
+/// Steps, told by how many they are: two are read as a pair, since that is tried first.
+#[derive(Drop)]
+pub enum Steps {
+    /// The first and the second.
+    Pair(u8, u8),
+    /// Any others.
+    List(Vec<u8>),
+}
+
+impl Serialize for Steps {
+    ghost script = { elim [
+      | steps.Pair x1 x2 ↦ tuple_script 2
+          (element_first (⟦<u8 as Serialize>⟧.script x1)
+          (element_first (⟦<u8 as Serialize>⟧.script x2)
+          end_script))
+      | steps.List x1 ↦ ⟦<Vec<u8> as Serialize>⟧.script x1
+    ] };
+
+    ghost lawful = { elim [
+      | steps.Pair x1 x2 ↦ λ readable. tuple_lawful
+          (element_fits (leaf_lawful refl)
+          (element_fits (leaf_lawful refl)
+          end_fits))
+      | steps.List x1 ↦ λ readable. seq_lawful (λ x h. leaf_lawful refl) x1.items readable
+    ] };
+
+    fn serialize<S: Serializer>(&self, alloc: Global, serializer: &mut S) -> Result<()> {
+        match self {
+            Steps::Pair(x1, x2) => {
+                send_two(
+                    alloc,
+                    serializer,
+                    Call::Tuple(2),
+                    Call::Element,
+                    x1,
+                    Call::Element,
+                    x2,
+                )
+            }
+            Steps::List(x1) => x1.serialize(alloc, serializer),
+        }
+    }
+}
+
+impl<'de> Deserialize<'de> for Steps {
+    ghost refusal = { λ s.
+        (or_next (⟦<(u8, u8) as Deserialize<'de>>⟧.refusal s)
+        (or_next (⟦<Vec<u8> as Deserialize<'de>>⟧.refusal s)
+        (Some (custom (codes "data did not match any variant of untagged enum Steps"))))) };
+
+    ghost gives = { λ s. elim [
+      | steps.Pair x1 x2 ↦ IsTakenAs (⟦<(u8, u8) as Deserialize<'de>>⟧.refusal s)
+          (⟦<(u8, u8) as Deserialize<'de>>⟧.gives s) (x1, x2)
+      | steps.List x1 ↦ IsSome (⟦<(u8, u8) as Deserialize<'de>>⟧.refusal s) ×
+          IsTakenAs (⟦<Vec<u8> as Deserialize<'de>>⟧.refusal s)
+          (⟦<Vec<u8> as Deserialize<'de>>⟧.gives s) x1
+    ] };
+
+    fn deserialize<'n: 'de>(alloc: Global, from: Deserializer<'de, 'n>) -> Result<Steps> {
+        if let Some((x1, x2)) = attempt::<(u8, u8)>(alloc, &from)? {
+            return Ok(Steps::Pair(x1, x2));
+        }
+        if let Some(x1) = attempt::<Vec<u8>>(alloc, &from)? {
+            return Ok(Steps::List(x1));
+        }
+        Err(Error::custom(
+            alloc,
+            "data did not match any variant of untagged enum Steps",
+        ))
+    }
 }
