@@ -3,9 +3,9 @@
 ghost use Rattle.std.specs.Prelude.{◌≡◌, ◌++◌, ℕ, List, [], Some, None, ⊤, codes};
 ghost use Rattle.std.specs.Prelude.{string_bytes, true, false};
 ghost use Rattle.std.specs.Fmt.{signed_decimal};
-ghost use Rattle.content_tree.specs.Errors.Kind.{kind_of};
+ghost use Rattle.content_tree.specs.Errors.Kind.{kind_of, IsCustomOrMemory};
 ghost use Rattle.content_tree.specs.Printed.Images.{quoted};
-ghost use Rattle.content_tree.specs.declared.error.ErrorKind.TheVariants.{Failed, Misplaced};
+ghost use Rattle.content_tree.specs.declared.error.ErrorKind.TheVariants.{Failed};
 ghost use Rattle.content_tree.specs.declared.number.Number.TheVariants.{I32};
 ghost use Rattle.content_ser.specs.Calls.Event as event;
 ghost use Rattle.content_ser.specs.Serializers.Step.{after_failure, out_of_place, no_memory};
@@ -20,6 +20,7 @@ use std::fmt::Write;
 pub struct Lisp {
     text: String,
     failed: bool,
+    alloc: Global,
 }
 
 impl Lisp {
@@ -30,6 +31,7 @@ impl Lisp {
         Lisp {
             text: String::new(alloc),
             failed: false,
+            alloc,
         }
     }
 
@@ -59,7 +61,8 @@ impl Serializer for Lisp {
 
     ghost refuses = { elim [
       | after_failure ↦ λ old e new. (kind_of e ≡ Failed) × (new ≡ old)
-      | out_of_place ↦ λ old e new. (kind_of e ≡ Misplaced) × (new ≡ old)
+      | out_of_place ↦ λ old e new.
+          IsCustomOrMemory (codes "no form in Lisp") (kind_of e) × (new ≡ old)
       | no_memory ↦ λ old e new. ⊤
     ] };
 
@@ -79,7 +82,7 @@ impl Serializer for Lisp {
             Call::End => write!(text, ")"),
             _ => {
                 self.failed = true;
-                return Err(Error::from(ErrorKind::Misplaced));
+                return Err(Error::custom(self.alloc, "no form in Lisp"));
             }
         };
 

@@ -4,7 +4,7 @@ use crate::lisp::Lisp;
 use crate::point::Point;
 use crate::shape::Shape;
 use serde_content::ser::{Serialize, Serializer as _};
-use serde_content::{Deserializer, Serializer, round_trip};
+use serde_content::{Deserializer, Error, Serializer, round_trip};
 use std::test::Fail;
 
 #[test]
@@ -33,7 +33,8 @@ fn a_point_is_written(rt: HostRuntime) -> Result<(), Fail> {
     let mut lisp = Lisp::new(alloc);
     Point { x: 1, y: -2 }.serialize(alloc, &mut lisp)?;
     assert!(rt; lisp.as_str() == "(Point :x 1 :y -2)");
-    assert!(rt; Shape::Dot.serialize(alloc, &mut lisp).is_err());
+    let refused = Shape::Dot.serialize(alloc, &mut lisp);
+    assert!(rt; refused == Err(Error::custom(alloc, "no form in Lisp")));
     assert!(rt; lisp.is_failed());
     Ok(())
 }
