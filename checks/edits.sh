@@ -46,7 +46,7 @@ try_edit() {
             "") echo "$name: the check says nothing of $function" ;;
             *": proved"*) echo "$name: proved, and must be refused: $function" ;;
             # what calls a function that is refused is not proved either, nor is the rest of its cycle of calls
-            *", which is not proved" | *", which are not proved") echo "$name: not refused for itself: $function" ;;
+            *": no proof: it calls "* | *": no proof: in "*) echo "$name: not refused for itself: $function" ;;
             *"/+"*) grep -q "\`${function##*::}-" "$room/log" && continue
                 echo "$name: not refused for itself: $function" ;;
             *) continue ;;
