@@ -9,6 +9,11 @@ pub fn text(alloc: Global) -> Made<CowStr<'static>> {
     Ok(CowStr::Owned(String::from_str(alloc, "ab")?))
 }
 
+/// The same as a value.
+pub fn owned_text(alloc: Global) -> Made<Value<'static>> {
+    Ok(Value::String(text(alloc)?))
+}
+
 /// Bytes that are owned.
 pub fn bytes(alloc: Global) -> Made<CowBytes<'static>> {
     Ok(CowBytes::Owned(vec![in alloc; 1u8, 2]?))

@@ -1,6 +1,6 @@
 //! Requests for what fits them, and what they hand out.
 
-use crate::nodes::{bytes, enumeration, fields, items, map, one, places, structure, text};
+use crate::nodes::{bytes, enumeration, fields, items, map, one, owned_text, places, structure};
 use crate::tally::{Made, Tally};
 use crate::values::ascend;
 use serde_content::de::{IntoDeserializer, Map, Seq};
@@ -17,6 +17,7 @@ pub fn run(tally: &mut Tally, alloc: Global) -> Made<()> {
     numbers(tally, alloc);
     texts(tally, alloc)?;
     octets(tally, alloc)?;
+    typed(tally, alloc)?;
     structs(tally, alloc)?;
     sequences(tally, alloc)?;
     maps(tally, alloc)
@@ -56,37 +57,41 @@ fn numbers(tally: &mut Tally, alloc: Global) {
     tally.succeeds("deserialize_newtype_struct of no struct", newtype);
 }
 
-/// Reads a text that is owned.
-fn owned_text(alloc: Global) -> Made<Reader> {
-    Ok(reads(Value::String(text(alloc)?)))
-}
-
 fn texts(tally: &mut Tally, alloc: Global) -> Made<()> {
-    let reader = owned_text(alloc)?;
+    let reader = reads(owned_text(alloc)?);
     tally.succeeds("deserialize_str", reader.deserialize_str(alloc));
-    let reader = owned_text(alloc)?;
+    let reader = reads(owned_text(alloc)?);
     tally.succeeds("deserialize_string", reader.deserialize_string(alloc));
-    let name = owned_text(alloc)?.deserialize_identifier(alloc);
+    let name = reads(owned_text(alloc)?).deserialize_identifier(alloc);
     tally.succeeds("deserialize_identifier", name);
-    let text: Result<CowStr<'static>> = owned_text(alloc)?.deserialize(alloc);
-    tally.succeeds("CowStr::deserialize", text);
     Ok(())
 }
 
-/// Reads bytes that are owned.
-fn owned_bytes(alloc: Global) -> Made<Reader> {
-    Ok(reads(Value::Bytes(bytes(alloc)?)))
+fn octets(tally: &mut Tally, alloc: Global) -> Made<()> {
+    let reader = reads(Value::Bytes(bytes(alloc)?));
+    tally.succeeds("deserialize_bytes", reader.deserialize_bytes(alloc));
+    let reader = reads(Value::Bytes(bytes(alloc)?));
+    tally.succeeds("deserialize_byte_buf", reader.deserialize_byte_buf(alloc));
+    let reader = reads(owned_text(alloc)?);
+    tally.succeeds("a visited text", ValueVisitor.read(alloc, reader));
+    let reader = reads(Value::Bytes(bytes(alloc)?));
+    tally.succeeds("visited bytes", ValueVisitor.read(alloc, reader));
+    Ok(())
 }
 
-fn octets(tally: &mut Tally, alloc: Global) -> Made<()> {
-    let reader = owned_bytes(alloc)?;
-    tally.succeeds("deserialize_bytes", reader.deserialize_bytes(alloc));
-    let bytes = owned_bytes(alloc)?.deserialize_byte_buf(alloc);
-    tally.succeeds("deserialize_byte_buf", bytes);
-    let reader = owned_text(alloc)?;
-    tally.succeeds("a visited text", ValueVisitor.read(alloc, reader));
-    let reader = owned_bytes(alloc)?;
-    tally.succeeds("visited bytes", ValueVisitor.read(alloc, reader));
+fn typed(tally: &mut Tally, alloc: Global) -> Made<()> {
+    let flag: Result<bool> = reads(true).deserialize(alloc);
+    tally.succeeds("bool::deserialize", flag);
+    let text: Result<CowStr<'static>> = reads(owned_text(alloc)?).deserialize(alloc);
+    tally.succeeds("CowStr::deserialize", text);
+    let text: Result<String> = reads(owned_text(alloc)?).deserialize(alloc);
+    tally.succeeds("String::deserialize", text);
+    let held = Value::Option(Some(Box::new(alloc, owned_text(alloc)?)?));
+    let option: Result<Option<String>> = reads(held).deserialize(alloc);
+    tally.succeeds("Option::deserialize", option);
+    let items = Value::Tuple(vec![in alloc; true.into(), owned_text(alloc)?]?);
+    let tuple: Result<(bool, String)> = reads(items).deserialize(alloc);
+    tally.succeeds("the read of a tuple", tuple);
     Ok(())
 }
 

@@ -1,6 +1,6 @@
 //! Values, texts, images and errors.
 
-use crate::nodes::{bytes, holder, one, text, variant};
+use crate::nodes::{bytes, holder, one, owned_text, text, variant};
 use crate::tally::{Made, Tally};
 use serde_content::{
     CowBytes, CowStr, Data, Error, ErrorKind, Expected, Found, FoundData, Number, Unexpected, Value,
@@ -12,9 +12,7 @@ use std::cmp::Ordering;
 pub fn run(tally: &mut Tally, alloc: Global) -> Made<()> {
     errors(tally, alloc);
     copies(tally, alloc);
-    copies_of_values(tally, alloc);
     copies_of_errors(tally, alloc);
-    owned(tally, alloc);
     comparisons(tally);
     moves(tally, alloc)
 }
@@ -43,9 +41,6 @@ fn copies(tally: &mut Tally, alloc: Global) {
     let bytes: CowBytes<'static> = CowBytes::Borrowed(&[1, 2]);
     tally.succeeds("CowStr::try_clone", text.try_clone(alloc));
     tally.succeeds("CowBytes::try_clone", bytes.try_clone(alloc));
-}
-
-fn copies_of_values(tally: &mut Tally, alloc: Global) {
     tally.succeeds("Value::try_clone", Value::from("ab").try_clone(alloc));
     tally.succeeds("Struct::try_clone", holder(one()).try_clone(alloc));
     tally.succeeds("Enum::try_clone", variant(one()).try_clone(alloc));
@@ -61,21 +56,18 @@ fn copies_of_errors(tally: &mut Tally, alloc: Global) {
     tally.succeeds("Error::try_clone", error().try_clone(alloc));
 }
 
-fn owned(tally: &mut Tally, alloc: Global) {
-    tally.succeeds("Struct::into_owned", holder(one()).into_owned(alloc));
-    tally.succeeds("Enum::into_owned", variant(one()).into_owned(alloc));
-    tally.succeeds("Data::into_owned", one().into_owned(alloc));
-}
-
 fn moves(tally: &mut Tally, alloc: Global) -> Made<()> {
     let (text, bytes) = (text(alloc)?, bytes(alloc)?);
     tally.promised("CowStr::as_str", text.as_str() == "ab");
     tally.promised("CowBytes::as_bytes", bytes.as_bytes().len() == 2);
     tally.succeeds("CowStr::into_owned", text.into_owned(alloc));
     tally.succeeds("CowBytes::into_owned", bytes.into_owned(alloc));
-    let value = Value::from(String::from_str(alloc, "ab")?);
+    tally.succeeds("Struct::into_owned", holder(one()).into_owned(alloc));
+    tally.succeeds("Enum::into_owned", variant(one()).into_owned(alloc));
+    tally.succeeds("Data::into_owned", one().into_owned(alloc));
+    let value = owned_text(alloc)?;
     tally.succeeds("Value::into_owned", value.into_owned(alloc));
-    let value = Value::from(String::from_str(alloc, "ab")?);
+    let value = owned_text(alloc)?;
     tally.succeeds("Value::into_found", value.into_found(alloc));
     Ok(())
 }
