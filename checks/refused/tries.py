@@ -12,13 +12,14 @@ from typing import NamedTuple
 
 top, room, folder = sys.argv[1:]
 here = f"{top}/checks/refused"
-PROGRAMS = ("content_cli", "check_memory", "check_rows")
+PROGRAMS = ("content_cli", "check_memory", "check_rows", "cbor_cli")
 # the operations that read: of their rows, the request or the type is of the sort too
 READS = (b"access", b"ask", b"enum", b"into", b"order", b"read", b"round_trip")
 AGREES = (b"1 rows agree, 0 differ\n", 0)
 OUT_OF_MEMORY = (b"out of memory\n", 3)
 READ_FAILED = {"content_cli": (b"read failed\n", 4)}
-ROWS_FAILED = (b"a read or a write failed\n", 4)
+# what the other programs answer to a read that failed
+PORT_FAILED = (b"a read or a write failed\n", 4)
 # of how many items an input is on which the bytes asked for are held against a bound
 COUNTS = (1, 30, 1000)
 reports = itertools.count()
@@ -114,7 +115,7 @@ def tried(case):
         # with no memory at all there is no answer
         tries.append(({"REFUSE_ALLOCATIONS": at}, [wanted, OUT_OF_MEMORY][at == 1 :]))
     for at in range(1, ample.reads + 1):
-        tries.append(({"FAIL_READ": at}, [READ_FAILED.get(program, ROWS_FAILED)]))
+        tries.append(({"FAIL_READ": at}, [READ_FAILED.get(program, PORT_FAILED)]))
     for refused, answers in tries:
         how = " ".join(f"{name}={at}" for name, at in refused.items())
         wrong += faults(how, run(program, text, **refused), *answers)
@@ -147,9 +148,17 @@ def some_rows():
         yield from (rows[len(rows) * place // count] for place in range(count))
 
 
+def short_lines():
+    """The short lines of the program that prints what CBOR codes, each with its answer."""
+    stored = [contents(f"{top}/crates/cbor_cli/{name}") for name in ("stdin", "stdout")]
+    for line, answer in zip(*(text.splitlines() for text in stored)):
+        if len(line) < 60:
+            yield line, answer
+
+
 def cases():
     """Each program with each small input: that of the rows has one row a run, some of each sort
-    and two that differ."""
+    and two that differ; that of CBOR one line."""
     # an input, `-> STATUS ANSWER`, and an empty line where another input follows; behind `-|` the
     # input has no newline at its end
     lines = re.split(rb"(?m)^-([>|]) (\d) (.*\n)\n?", contents(f"{here}/lines"))
@@ -165,6 +174,8 @@ def cases():
     yield Case("check_rows", b"copy\tNone\t()\n", differs)
     differs = b"line 1: plain: got ok None, wanted ok ()\n0 rows agree, 1 differ\n", 1
     yield Case("check_rows", b"plain\tNone\tok ()\n", differs)
+    for line, answer in short_lines():
+        yield Case("cbor_cli", line + b"\n", (answer + b"\n", 0))
 
 
 def table(name):
