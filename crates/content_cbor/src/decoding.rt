@@ -1,4 +1,7 @@
 //! Bytes as values.
+//!
+//! A level of a deep value passes two functions that aren't inlined, one for an item and one for
+//! what holds several, so that it takes little stack.
 
 ghost use Rattle.std.specs.Prelude.{◌≡◌, length, map, IfOk, IfErr};
 ghost use Rattle.content_tree.specs.Values.Tree.{Tree};
@@ -158,7 +161,7 @@ fn read_item<'de>(
 
 /// The items of an array, whose head stands at `from`.
 #[cycle(decode)]
-#[inline(never)]
+#[inline(always)]
 #[tactic(auto, unfolding(crate::specs::Inner::Reading::parts_at))]
 fn read_items<'de>(
     alloc: Global,
@@ -184,7 +187,7 @@ fn read_items<'de>(
 
 /// The pairs of a map, whose head stands at `from`.
 #[cycle(decode)]
-#[inline(never)]
+#[inline(always)]
 #[tactic(auto, unfolding(crate::specs::Inner::Reading::parts_at))]
 fn read_pairs<'de>(
     alloc: Global,
@@ -210,6 +213,7 @@ fn read_pairs<'de>(
 
 /// So many items.
 #[cycle(decode)]
+#[inline(never)]
 fn read_each_item<'de>(
     alloc: Global,
     limit: usize,
@@ -231,6 +235,7 @@ fn read_each_item<'de>(
 
 /// Items up to a break.
 #[cycle(decode)]
+#[inline(never)]
 fn read_items_until_break<'de>(
     alloc: Global,
     limit: usize,
@@ -255,6 +260,7 @@ fn read_items_until_break<'de>(
 
 /// A key and a value.
 #[cycle(decode)]
+#[inline(always)]
 #[tactic(auto, unfolding(crate::specs::Inner::Reading::pair_at))]
 fn read_pair<'de>(
     alloc: Global,
@@ -270,6 +276,7 @@ fn read_pair<'de>(
 
 /// So many pairs.
 #[cycle(decode)]
+#[inline(never)]
 fn read_each_pair<'de>(
     alloc: Global,
     limit: usize,
@@ -291,6 +298,7 @@ fn read_each_pair<'de>(
 
 /// Pairs up to a break.
 #[cycle(decode)]
+#[inline(never)]
 fn read_pairs_until_break<'de>(
     alloc: Global,
     limit: usize,
