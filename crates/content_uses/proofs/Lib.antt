@@ -4,3 +4,4 @@ mod InTurn
 mod MergingLaws
 mod Placing
 mod Putting
+mod Loaded

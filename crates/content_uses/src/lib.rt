@@ -1,7 +1,9 @@
-//! What such a container is for, each use a module on the facade alone.
+//! What such a container is for, each use a module over the facade.
 #![tactic(auto)]
 
+mod load_error;
 pub mod merging;
+pub mod saving;
 pub mod store;
 #[cfg(test)]
 mod tests;

@@ -1,14 +1,20 @@
 //! Records of any type, kept as values, with typed views.
 
 ghost use Rattle.std.specs.Prelude.{◌≡◌, ◌≤◌, [], true, false, Some, None, length, slice_get};
-ghost use Rattle.std.specs.Prelude.{IfOk, IfErr};
+ghost use Rattle.std.specs.Prelude.{IfOk, IfErr, List, option_map};
+ghost use Rattle.content_tree.specs.Values.Lookups.{items_in};
+ghost use Rattle.content_tree.specs.Values.Value.{trees_view};
 ghost use Rattle.serde_content.specs.Names.Words.{Tree, IsOutOfMemory, SpellsWhole, calls_of};
 ghost use Rattle.serde_content.specs.Names.Words.{stop_of, tree_of, Reads, no_flags, tree_under};
+ghost use Rattle.serde_content.specs.RoundTrip.{flags};
 
+pub use crate::load_error::LoadError;
+use content_cbor::{decode, encode_array};
 use serde_content::de::Deserialize;
 use serde_content::ser::Serialize;
 use serde_content::{Deserializer, Error, NamedValue, Result, RoundTrip, from_value, to_value};
 use std::alloc::Global;
+use std::result::Result as StdResult;
 
 /// Records, numbered from 0 in the order in which they were put.
 ///
@@ -18,6 +24,15 @@ use std::alloc::Global;
 /// let point: Point = store.get(alloc, number)?;
 /// assert!(rt; point == Point { x: 1, y: 2 });
 /// ```
+///
+/// They are saved as CBOR, which doesn't keep the kinds of numbers:
+/// [`view_coerced`](Store::view_coerced) reads what was loaded.
+///
+/// ```rust
+/// let bytes = store.save(alloc)?;
+/// let loaded = Store::load(alloc, &bytes, 64)?;
+/// let point: Point = loaded.view_coerced(alloc, number)?;
+/// ```
 #[derive(Drop)]
 pub struct Store<'v, 'n> {
     records: Vec<NamedValue<'v, 'n>>,
@@ -25,6 +40,9 @@ pub struct Store<'v, 'n> {
 
 impl<'v, 'n: 'v> Store<'v, 'n> {
     ghost use Rattle.content_uses.specs.Records.{records_of, IsPut, IsUnknown};
+    ghost use Rattle.content_uses.specs.Saved.{array_of};
+    ghost use Rattle.content_cbor.specs.Form.{CodesForm};
+    ghost use Rattle.content_cbor.specs.Item.{item};
 
     /// No records. It takes no memory.
     pub fn new(alloc: Global) -> Store<'v, 'n>
@@ -76,6 +94,22 @@ impl<'v, 'n: 'v> Store<'v, 'n> {
         Deserializer::new(copy).deserialize(alloc)
     }
 
+    /// The same, where a number of another kind is taken too if it lies in the range of the kind:
+    /// so records are read that were loaded.
+    ///
+    /// # Errors
+    ///
+    /// Those of [`view`](Store::view).
+    pub fn view_coerced<T: Deserialize<'v>>(&self, alloc: Global, number: usize) -> Result<T>
+        ensures value { (t : Tree) → slice_get (records_of self.now) number ≡ Some t
+            → Reads (T.refusal (tree_under (flags false true) t))
+            (T.gives (tree_under (flags false true) t)) result }
+        ensures unknown { slice_get (records_of self.now) number ≡ None → IsUnknown result }
+    {
+        let copy = self.copy(alloc, number)?;
+        Deserializer::new(copy).coerce_numbers().deserialize(alloc)
+    }
+
     /// The record of this number, which was put as this type: an equal one.
     ///
     /// # Errors
@@ -98,6 +132,22 @@ impl<'v, 'n: 'v> Store<'v, 'n> {
         from_value(alloc, copy, false)
     }
 
+    /// The records as one array of CBOR, in order. It takes memory for the bytes alone.
+    ///
+    /// # Errors
+    ///
+    /// Out of memory.
+    pub fn save(&self, alloc: Global) -> Result<Vec<u8>>
+        ensures value { IfOk result (λ bytes. bytes.items
+            ≡ item (array_of (records_of self.now))) }
+        // so they are loaded as what CBOR keeps of them
+        ensures form { IfOk result (λ bytes. CodesForm (array_of (records_of self.now))
+            bytes.items) }
+        ensures memory { IfErr result (λ e. IsOutOfMemory e) }
+    {
+        encode_array(alloc, &self.records)
+    }
+
     /// A copy of the value of this number.
     fn copy(&self, alloc: Global, number: usize) -> Result<NamedValue<'v, 'n>>
         ensures value { (t : Tree) → slice_get (records_of self.now) number ≡ Some t
@@ -110,6 +160,52 @@ impl<'v, 'n: 'v> Store<'v, 'n> {
             Some(record) => record.try_clone(alloc),
             None => Err(Error::custom(alloc, "no such record")),
         }
+    }
+}
+
+impl<'v> Store<'v, 'static> {
+    ghost use Rattle.content_cbor.specs.Codes.{Codes};
+    ghost use Rattle.content_cbor.specs.Form.{CodesForm, depth, form};
+    ghost use Rattle.content_uses.specs.Records.{records_of};
+    ghost use Rattle.content_uses.specs.Saved.{array_of, forms, IsLoadedAs, StopsLoading};
+
+    /// The records that one array of CBOR codes, in order, as [`decode`] reads each.
+    ///
+    /// `depth_limit` bounds how deep items stand in one another, and so the stack that is taken;
+    /// the array's own depth is 1. Texts and bytes of a known length are borrowed from the bytes.
+    ///
+    /// # Errors
+    ///
+    /// Where the bytes can't be decoded, with the place; where they code no array; out of memory.
+    pub fn load(
+        alloc: Global,
+        bytes: &'v [u8],
+        depth_limit: usize,
+    ) -> StdResult<Store<'v, 'static>, LoadError>
+        ensures value { IfOk result (λ store. Codes depth_limit (array_of (records_of store))
+            bytes.now) }
+        ensures only { (ts : List Tree) → Codes depth_limit (array_of ts) bytes.now
+            → IsLoadedAs ts result }
+        // where a store of these records saved the bytes: what CBOR keeps of each
+        ensures saved { (ts : List Tree) → depth (form (array_of ts)) ≤ depth_limit
+            → CodesForm (array_of ts) bytes.now → IsLoadedAs (forms ts) result }
+        ensures refused { IfErr result (λ e. StopsLoading depth_limit bytes.now e) }
+    {
+        let value = decode(alloc, bytes, depth_limit)?;
+        match into_items(value) {
+            Some(records) => Ok(Store { records }),
+            None => Err(LoadError::NotArray),
+        }
+    }
+}
+
+/// The items of a sequence, moved out of it.
+fn into_items<'v, 'n>(value: NamedValue<'v, 'n>) -> Option<Vec<NamedValue<'v, 'n>>>
+    ensures { option_map (λ items. trees_view items.items) result ≡ items_in (tree_of value.entry) }
+{
+    match value {
+        NamedValue::Seq(items) => Some(items),
+        _ => None,
     }
 }
 

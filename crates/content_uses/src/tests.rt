@@ -1,6 +1,7 @@
 //! The uses, run.
 
 use crate::merging::merge;
+use crate::saving::save_twice;
 use crate::store::{Store, put_and_get};
 use serde_content::samples::Point;
 use serde_content::{Result as Answer, Value, value};
@@ -32,6 +33,45 @@ fn records_are_kept(rt: HostRuntime) -> Result<(), Fail> {
     assert!(rt; store.len() == 3);
     let none: Answer<bool> = store.view(alloc, 3);
     assert!(rt; none.is_err());
+    Ok(())
+}
+
+#[test]
+fn records_are_saved(rt: HostRuntime) -> Result<(), Fail> {
+    let alloc = rt.alloc();
+    let mut store = Store::new(alloc);
+    let number = store.put(alloc, &Point { x: 1, y: 2 })?;
+    store.put(alloc, &Some(7u8))?;
+
+    // One array of CBOR, and the records from it.
+    let bytes = store.save(alloc)?;
+    let wanted = [0x82, 0xa2, 0x61, b'x', 0x01, 0x61, b'y', 0x02, 0x07];
+    assert!(rt; bytes.as_slice() == wanted.as_slice());
+    let loaded = Store::load(alloc, &bytes, 64)?;
+    let point: Point = loaded.view_coerced(alloc, number)?;
+    assert!(rt; point == Point { x: 1, y: 2 });
+
+    let (first, second) = save_twice(alloc, &store, 64)?;
+    assert!(rt; first.as_slice() == second.as_slice());
+
+    // What is no array, and what can't be decoded.
+    let cases = [
+        ([0x07, 0xf6], "refused at byte 1: bytes behind the item"),
+        ([0x61, b'a'], "no array of records"),
+        (
+            [0x82, 0x07],
+            "refused at byte 2: the bytes end inside an item",
+        ),
+    ];
+    for (bytes, wanted) in &cases {
+        match Store::load(alloc, bytes, 64) {
+            Ok(_) => assert!(rt; false),
+            Err(error) => {
+                let text = format!(in alloc; "{error}")?;
+                assert!(rt; text.as_str() == *wanted);
+            }
+        }
+    }
     Ok(())
 }
 

@@ -1,0 +1,41 @@
+-- Records as CBOR.
+use Rattle.std.specs.Prelude.{◌≡◌, ℕ, List, None, Result, Ok, Err, map}
+use Rattle.content_tree.specs.Values.Lookups.{items_in}
+use Rattle.content_tree.specs.Values.Tree.{Tree, seq}
+use Rattle.content_tree.specs.Values.Value.{trees_of}
+use Rattle.content_cbor.specs.Codes.{Codes}
+use Rattle.content_cbor.specs.Decoded.{StopsAt}
+use Rattle.content_cbor.specs.Form.{form}
+use Rattle.content_cbor.specs.Inner.Reading.{whole_at}
+use Rattle.content_cbor.specs.Item.{item}
+use Rattle.content_cbor.specs.declared.decode_error.DecodeError.TheVariants as decoding
+use Rattle.content_uses.specs.Records.{records_of}
+use Rattle.content_uses.specs.declared.load_error.LoadError.{LoadError}
+use Rattle.content_uses.specs.declared.load_error.LoadError.TheVariants as load
+use Rattle.content_uses.specs.declared.store.Store.{Store}
+
+-- records as one array
+abbrev pub array_of : List Tree → Tree
+array_of ts = seq (trees_of ts)
+
+-- what CBOR keeps of each record
+abbrev pub forms : List Tree → List Tree
+forms ts = map form ts
+
+-- memory ran out
+abbrev pub IsNoMemory : LoadError → Type 0
+IsNoMemory e = e ≡ load.Decode decoding.OutOfMemory
+
+-- these records, or out of memory
+abbrev pub IsLoadedAs : List Tree → Result Store LoadError → Type 0
+IsLoadedAs ts (Ok store) = records_of store ≡ ts
+IsLoadedAs ts (Err e) = IsNoMemory e
+
+-- the fault with which decoding within a limit ends, or what the bytes code is no sequence
+abbrev pub StopsLoading : ℕ → List ℕ → LoadError → Type 0
+StopsLoading limit bs (load.Decode e) = StopsAt bs e (whole_at limit bs)
+StopsLoading limit bs load.NotArray = (t : Tree) × Codes limit t bs × (items_in t ≡ None)
+
+-- what CBOR keeps of records is the same bytes again
+abbrev pub SavedAgain : Type 0
+SavedAgain = (ts : List Tree) → item (array_of (forms ts)) ≡ item (array_of ts)
