@@ -11,3 +11,4 @@ mod own_structs;
 mod own_types;
 mod readme;
 mod round_trips;
+mod uses;

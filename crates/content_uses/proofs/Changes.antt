@@ -1,10 +1,9 @@
 -- What a change behind a key leaves as it was, and changes one after another.
 use Rattle.std.proofs.Common.{◌≡◌, Bool, true, false, Option, Some, None, is_some}
 use Rattle.std.proofs.Common.{refl, ap, sym, ◌∙◌}
-use Rattle.content_tree.specs.Laws.RankedTree.{tree_equiv}
-use Rattle.content_tree.specs.Orders.Trees.{same_tree}
-use Rattle.content_tree.specs.Values.Lookups.{or_else}
-use Rattle.content_tree.specs.Values.Tree.{Tree, Pairs, no_pairs, pair_then}
+use Rattle.serde_content.proofs.Names.{tree_equiv}
+use Rattle.serde_content.specs.Names.Words.{same_tree, or_else, Tree}
+use Rattle.serde_content.specs.Names.Tree.{Pairs, no_pairs, pair_then}
 use Rattle.content_uses.specs.Merged.{has_key, put, merged, merged_pairs}
 use Rattle.content_uses.proofs.MergingLaws.{at, then_at, at_alike}
 

@@ -3,11 +3,10 @@
 use Rattle.std.proofs.Common.{◌≡◌, Bool, true, false, List, [], ◌∷◌, Option, Some, None, is_some}
 use Rattle.std.proofs.Common.{option_map, refl, ap, sym, subst, ◌∙◌}
 use Rattle.std.specs.Prelude.{IfSome, IsSome, ⊤}
-use Rattle.content_tree.specs.Laws.RankedTree.{tree_equiv}
-use Rattle.content_tree.specs.Orders.Trees.{same_tree}
-use Rattle.content_tree.specs.Values.Lookups.{pairs_in}
-use Rattle.content_tree.specs.Values.Tree as tree
-use Rattle.content_tree.specs.Values.Tree.{Tree, Pairs, no_pairs, pair_then}
+use Rattle.serde_content.proofs.Names.{tree_equiv}
+use Rattle.serde_content.specs.Names.Words.{same_tree, pairs_in, Tree}
+use Rattle.serde_content.specs.Names.Tree as tree
+use Rattle.serde_content.specs.Names.Tree.{Pairs, no_pairs, pair_then}
 use Rattle.content_uses.specs.Merged.{has_key, put, merged}
 use Rattle.content_uses.specs.MergingLaws.{behind, IsMap, MapsBetween, KeysOnce, PairsOnce}
 use Rattle.content_uses.specs.MergingLaws.{one_pair, EitherWay, TwiceMatters}

@@ -3,10 +3,9 @@
 use Rattle.std.proofs.Common.{◌≡◌, Bool, true, false, Option, Some, None, option_map}
 use Rattle.std.proofs.Common.{refl, ap, sym, ◌∙◌, if◌then◌else◌}
 use Rattle.std.specs.Prelude.{IfSome, IsSomeAnd, ⊤}
-use Rattle.content_tree.specs.Orders.Trees.{same_tree}
-use Rattle.content_tree.specs.Values.Lookups.{pairs_in}
-use Rattle.content_tree.specs.Values.Tree as tree
-use Rattle.content_tree.specs.Values.Tree.{Tree, Pairs, no_pairs, pair_then}
+use Rattle.serde_content.specs.Names.Words.{same_tree, pairs_in, Tree}
+use Rattle.serde_content.specs.Names.Tree as tree
+use Rattle.serde_content.specs.Names.Tree.{Pairs, no_pairs, pair_then}
 use Rattle.content_uses.specs.Merged.{is_last, put, merged, merged_pairs}
 use Rattle.content_uses.proofs.Changes.{put_there, put_twice, put_agree, merged_swap}
 use Rattle.content_uses.proofs.MergingLaws.{over_no_map_wins, at, at_alike}

@@ -1,10 +1,9 @@
 -- The laws of merging.
 use Rattle.std.proofs.Common.{◌≡◌, Bool, true, false, Option, Some, None, refl, ap, sym, ◌∙◌, if◌then◌else◌}
-use Rattle.content_tree.specs.Laws.RankedTree.{tree_equiv}
-use Rattle.content_tree.specs.Orders.Trees.{same_tree}
-use Rattle.content_tree.specs.Values.Lookups.{last_value, or_else, pairs_in}
-use Rattle.content_tree.specs.Values.Tree as tree
-use Rattle.content_tree.specs.Values.Tree.{Tree, Pairs, no_pairs, pair_then}
+use Rattle.serde_content.proofs.Names.{tree_equiv}
+use Rattle.serde_content.specs.Names.Words.{same_tree, last_value, or_else, pairs_in, Tree}
+use Rattle.serde_content.specs.Names.Tree as tree
+use Rattle.serde_content.specs.Names.Tree.{Pairs, no_pairs, pair_then}
 use Rattle.content_uses.specs.Merged.{put, merged}
 use Rattle.content_uses.specs.MergingLaws.{put_over, found_after, NoMapWins, OverNoMapWins, KeysFind}
 

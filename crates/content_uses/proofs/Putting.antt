@@ -2,11 +2,9 @@
 use Rattle.std.proofs.Common.{◌≡◌, ℕ, ◌+◌, zero, suc, Bool, true, false, List, [], ◌∷◌, ◌++◌, length, take, Option, Some, None, option_map}
 use Rattle.std.proofs.Common.{refl, ap, map, sym, ◌∙◌, ◌<◌, ◌≤◌, cond, arith, get_or, set, if◌then◌else◌}
 use Rattle.std.proofs.lemmas.List.{take_more, length-take-le}
-use Rattle.content_tree.specs.Orders.Trees.{same_tree}
-use Rattle.content_tree.specs.Values.Lookups.{last_value, or_else}
-use Rattle.content_tree.specs.Values.Tree.{Tree, Pairs, no_pairs, pair_then}
-use Rattle.content_tree.specs.Values.Value.{tree_of, pairs_view}
-use Rattle.content_tree.specs.declared.value.NamedValue.{NamedValue}
+use Rattle.serde_content.specs.Names.Words.{same_tree, last_value, or_else, Tree, tree_of}
+use Rattle.serde_content.specs.Names.Words.{pairs_view, NamedValue}
+use Rattle.serde_content.specs.Names.Tree.{Pairs, no_pairs, pair_then}
 use Rattle.content_uses.specs.Merged.{has_key, is_last, put, merged, merged_pairs}
 use Rattle.content_uses.specs.Places.{place, places, value_at, with_value}
 

@@ -1,9 +1,8 @@
 -- A tree put over another: maps key by key, deeply; anything else is the tree that is put over.
 use Rattle.std.specs.Prelude.{Bool, not, ◌&&◌, Some, None, if◌then◌else◌}
 use Rattle.std.specs.Option.{is_some}
-use Rattle.content_tree.specs.Orders.Trees.{same_tree}
-use Rattle.content_tree.specs.Values.Lookups.{last_value, pairs_in}
-use Rattle.content_tree.specs.Values.Tree.{Tree, map, Pairs, no_pairs, pair_then}
+use Rattle.serde_content.specs.Names.Words.{same_tree, last_value, pairs_in, Tree}
+use Rattle.serde_content.specs.Names.Tree.{map, Pairs, no_pairs, pair_then}
 
 -- some pair has this key
 abbrev pub has_key : Tree → Pairs → Bool

@@ -2,9 +2,8 @@
 use Rattle.std.specs.Prelude.{◌≡◌, false, List, [], ◌∷◌, Option, Some, None, if◌then◌else◌}
 use Rattle.std.specs.Prelude.{IfSome, IsSome, IsSomeAnd, ⊤}
 use Rattle.std.specs.Option.{option_and_then}
-use Rattle.content_tree.specs.Orders.Trees.{same_tree}
-use Rattle.content_tree.specs.Values.Lookups.{last_value, pairs_in, lookup}
-use Rattle.content_tree.specs.Values.Tree.{Tree, unit, absent, map, Pairs, no_pairs, pair_then}
+use Rattle.serde_content.specs.Names.Words.{same_tree, last_value, pairs_in, lookup, Tree}
+use Rattle.serde_content.specs.Names.Tree.{unit, absent, map, Pairs, no_pairs, pair_then}
 use Rattle.content_uses.specs.Merged.{has_key, merged}
 
 -- an empty map changes no map

@@ -1,6 +1,7 @@
 -- Where each pair that is put over a map goes.
 use Rattle.std.specs.Prelude.{ℕ, zero, suc, List, [], ◌∷◌, Option, Some, None, if◌then◌else◌}
-use Rattle.content_tree.specs.Values.Tree.{Tree, Pairs, no_pairs, pair_then}
+use Rattle.serde_content.specs.Names.Words.{Tree}
+use Rattle.serde_content.specs.Names.Tree.{Pairs, no_pairs, pair_then}
 use Rattle.content_uses.specs.Merged.{is_last, put, merged}
 
 -- where the last pair of this key stands, or after all of them

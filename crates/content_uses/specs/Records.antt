@@ -1,6 +1,6 @@
 -- A store of records: the tree of each, in the order in which they were put.
 use Rattle.std.specs.Prelude.{◌≡◌, ℕ, List, [], ◌∷◌, ◌++◌, None, Result, IsErrAnd, codes, length, map}
-use Rattle.content_tree.specs.Errors.Kind.{IsCustomOrMemory}
+use Rattle.serde_content.specs.Names.Words.{IsCustomOrMemory}
 use Rattle.serde_content.specs.Names.Words.{Tree, tree_of, Script, calls_of, stop_of, SpellsWhole}
 use Rattle.serde_content.specs.Names.Words.{Error, kind_of}
 use Rattle.content_uses.specs.declared.store.Store.{Store}

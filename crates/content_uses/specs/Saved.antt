@@ -1,8 +1,8 @@
 -- Records as CBOR.
 use Rattle.std.specs.Prelude.{◌≡◌, ℕ, List, None, Result, Ok, Err, map}
-use Rattle.content_tree.specs.Values.Lookups.{items_in}
-use Rattle.content_tree.specs.Values.Tree.{Tree, seq}
-use Rattle.content_tree.specs.Values.Value.{trees_of}
+use Rattle.serde_content.specs.Names.Words.{items_in, Tree}
+use Rattle.serde_content.specs.Names.Tree.{seq}
+use Rattle.serde_content.specs.Names.Words.{trees_of}
 use Rattle.content_cbor.specs.Codes.{Codes}
 use Rattle.content_cbor.specs.Decoded.{StopsAt}
 use Rattle.content_cbor.specs.Form.{form}

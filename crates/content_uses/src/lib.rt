@@ -5,5 +5,3 @@ mod load_error;
 pub mod merging;
 pub mod saving;
 pub mod store;
-#[cfg(test)]
-mod tests;

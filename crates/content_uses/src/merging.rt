@@ -1,9 +1,7 @@
 //! Configurations, one put over another.
 
 ghost use Rattle.std.specs.Prelude.{◌≡◌, ◌<◌, Some, None, IfOk, IfErr, IsOk, length};
-ghost use Rattle.content_tree.specs.Errors.Kind.{IsOutOfMemory};
-ghost use Rattle.content_tree.specs.Values.Lookups.{pairs_in};
-ghost use Rattle.content_tree.specs.Values.Value.{tree_of, pairs_view};
+ghost use Rattle.serde_content.specs.Names.Words.{IsOutOfMemory, pairs_in, tree_of, pairs_view};
 ghost use Rattle.content_uses.specs.Merged.{merged, merged_pairs};
 ghost use Rattle.content_uses.specs.MergingLaws.{EmptyChangesNothing, NoMapWins, OverNoMapWins};
 ghost use Rattle.content_uses.specs.MergingLaws.{EitherWay, KeysFind, OrderMatters, TwiceMatters};

@@ -2,8 +2,7 @@
 
 ghost use Rattle.std.specs.Prelude.{◌≡◌, ◌≤◌, [], true, false, Some, None, length, slice_get};
 ghost use Rattle.std.specs.Prelude.{IfOk, IfErr, List, option_map};
-ghost use Rattle.content_tree.specs.Values.Lookups.{items_in};
-ghost use Rattle.content_tree.specs.Values.Value.{trees_view};
+ghost use Rattle.serde_content.specs.Names.Words.{items_in, trees_view};
 ghost use Rattle.serde_content.specs.Names.Words.{Tree, IsOutOfMemory, SpellsWhole, calls_of};
 ghost use Rattle.serde_content.specs.Names.Words.{stop_of, tree_of, Reads, no_flags, tree_under};
 ghost use Rattle.serde_content.specs.RoundTrip.{flags};

@@ -1,7 +1,6 @@
 use Rattle.std.proofs.Common.{ℕ, arith}
 use Rattle.std.specs.Iterator.Adapters.{zip_second}
-use Rattle.content_tree.specs.Values.Value.{tree_of, pairs_view}
-use Rattle.content_tree.specs.declared.value.NamedValue.{NamedValue}
+use Rattle.serde_content.specs.Names.Words.{tree_of, pairs_view, NamedValue}
 use Rattle.content_uses.proofs.Putting.{changed, added, put_step, yielded_more}
 use Rattle.content_uses.proofs.merging.+merge.Goals as goal
 

@@ -1,6 +1,6 @@
 use Rattle.std.proofs.Common.{◌≡◌, ◌++◌, map}
 use Rattle.std.specs.Iterator.Adapters.{zip_first, zip_second}
-use Rattle.content_tree.specs.Values.Value.{pairs_view}
+use Rattle.serde_content.specs.Names.Words.{pairs_view}
 use Rattle.content_uses.specs.Merged.{merged_pairs}
 use Rattle.content_uses.specs.Places.{places}
 use Rattle.content_uses.proofs.merging.+merge.Given as goal

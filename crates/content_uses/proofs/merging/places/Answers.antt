@@ -2,10 +2,8 @@ use Rattle.std.proofs.Common.{◌≡◌, ◌+◌, Some, None, take, ap, sym, ◌
 use Rattle.std.proofs.lemmas.List.{take_all}
 use denote.Bor.{Bor}
 use Rattle.std.specs.BTreeMap as btree
-use Rattle.content_tree.specs.declared.value.NamedValue.{NamedValue}
-use Rattle.content_tree.specs.Orders.Trees.{tree_cmp}
-use Rattle.content_tree.specs.Values.Tree.{Tree, Pairs}
-use Rattle.content_tree.specs.Values.Value.{tree_of, pairs_view}
+use Rattle.serde_content.specs.Names.Words.{NamedValue, tree_cmp, Tree, tree_of, pairs_view}
+use Rattle.serde_content.specs.Names.Tree.{Pairs}
 use Rattle.content_uses.specs.Merged.{put, merged, merged_pairs}
 use Rattle.content_uses.specs.Places.{place}
 use Rattle.content_uses.proofs.Putting.{known, count_view, base_index, step_of, places_step, is_known, place_new}

@@ -1,9 +1,7 @@
 use Rattle.std.proofs.Common.{◌≡◌, ◌+◌, ◌≤◌, length, take}
 use denote.Bor.{Bor}
 use Rattle.std.specs.BTreeMap as btree
-use Rattle.content_tree.specs.Orders.Trees.{tree_cmp}
-use Rattle.content_tree.specs.Values.Value.{tree_of, pairs_view}
-use Rattle.content_tree.specs.declared.value.NamedValue.{NamedValue}
+use Rattle.serde_content.specs.Names.Words.{tree_cmp, tree_of, pairs_view, NamedValue}
 use Rattle.content_uses.specs.Merged.{merged_pairs}
 use Rattle.content_uses.specs.Places.{places}
 use Rattle.content_uses.proofs.Putting.{known, count}

@@ -1,5 +1,5 @@
 use Rattle.std.proofs.Common.{Some, ap, ◌∙◌}
-use Rattle.content_tree.specs.Values.Value.{tree_of, pairs_view}
+use Rattle.serde_content.specs.Names.Words.{tree_of, pairs_view}
 use Rattle.content_uses.specs.Places.{with_value}
 use Rattle.content_uses.proofs.Putting.{set_view, value_view}
 use Rattle.content_uses.proofs.merging.replace_value.Goals as goal

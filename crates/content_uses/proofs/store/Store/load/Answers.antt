@@ -1,5 +1,5 @@
 use Rattle.std.proofs.Common.{map, sym, subst, ◌∙◌}
-use Rattle.content_tree.specs.Values.Value.{tree_of, trees_view}
+use Rattle.serde_content.specs.Names.Words.{tree_of, trees_view}
 use Rattle.content_cbor.specs.Codes.{Codes}
 use Rattle.content_cbor.specs.Form.{form}
 use Rattle.content_uses.specs.Saved.{array_of, forms}

@@ -1,8 +1,8 @@
 //! The uses, run.
 
-use crate::merging::merge;
-use crate::saving::save_twice;
-use crate::store::{Store, put_and_get};
+use content_uses::merging::merge;
+use content_uses::saving::save_twice;
+use content_uses::store::{Store, put_and_get};
 use serde_content::samples::Point;
 use serde_content::{Result as Answer, Value, value};
 use std::test::Fail;
