@@ -5,3 +5,5 @@ mod load_error;
 pub mod merging;
 pub mod saving;
 pub mod store;
+
+pub use load_error::LoadError;
