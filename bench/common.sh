@@ -37,3 +37,21 @@ directory = "$registry"
 offline = true
 CONFIG
 }
+
+# build_port: the static library content_port, with a mark between phases.
+build_port() {
+    (cd "$room/ours/crates/content_port" && RT_ALLOW_C=content_port rt lib) \
+        > "$room/ours.log" 2>&1 || { tail -n 5 "$room/ours.log"; exit 1; }
+}
+
+# build_driver: the driver, with that library in it. Rattle's code is for x86-64-v2.
+build_driver() {
+    local kit
+    kit=$(dirname "$(rt doc)")
+    touch "$room/driver/build.rs"
+    (
+        cd "$room/driver" || exit
+        PORT_LIB_DIR=$room/ours/crates/content_port/out RATTLE_KIT_C=$kit/c \
+            RUSTFLAGS='-C target-cpu=x86-64-v2' cargo build --offline --release
+    ) 2> "$room/driver.log" || { tail -n 8 "$room/driver.log"; exit 1; }
+}

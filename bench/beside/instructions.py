@@ -1,6 +1,6 @@
 #!/usr/bin/env python3
-"""instructions.py BENCH FOLDER SHAPE,..: the instructions a node of each phase, counted by callgrind:
-of the Rust crate, of ours, and the ratio."""
+"""instructions.py WHAT BENCH FOLDER SHAPE,..: the instructions a node of each phase of WHAT (beside
+or cbor), counted by callgrind: of the Rust crate, of ours, and the ratio."""
 
 import glob
 import os
@@ -8,15 +8,17 @@ import re
 import subprocess
 import sys
 
-PHASES = ["serialize", "copy", "==", "cmp", "into_owned", "drop", "unexpected", "print",
-          "drop the error", "serialize again", "read"]
+# None: between two marks, but not printed.
+PHASES = {
+    "beside": ["serialize", "copy", "==", "cmp", "into_owned", "drop", "unexpected", "print",
+               "drop the error", None, "read"],
+    "cbor": ["data to bytes", "bytes to value", "value to bytes", None, "bytes to data"],
+}
 # How much data of each shape, and how many nodes its tree has.
 SHAPES = {"points": (1000, 3001), "nest": (1000, 1111), "map": (1000, 2001), "tree": (10000, 10000)}
-# Phases that are printed: the second serialising only makes what is read.
-SHOWN = [*range(9), 10]
 
 
-def count(bench, folder, who, shape):
+def count(phases, bench, folder, who, shape):
     """The instructions a node of each phase."""
     path = f"{folder}/{who}.{shape}"
     for old in glob.glob(f"{path}*"):
@@ -27,21 +29,24 @@ def count(bench, folder, who, shape):
          f"--callgrind-out-file={path}", bench, who, shape, str(size)],
         check=True, stdout=subprocess.DEVNULL, stderr=subprocess.DEVNULL)
     counts = {}
-    for phase in SHOWN:
+    for phase, name in enumerate(phases):
+        if name is None:
+            continue
         with open(f"{path}.{phase + 2}", encoding="utf-8") as dump:
             total = re.search(r"^(?:totals|summary): (\d+)", dump.read(), re.M)
-        counts[phase] = int(total.group(1)) / nodes
+        counts[name] = int(total.group(1)) / nodes
     return counts
 
 
 def main():
-    bench, folder, shapes = sys.argv[1:4]
+    what, bench, folder, shapes = sys.argv[1:5]
+    phases = PHASES[what]
     os.makedirs(folder, exist_ok=True)
     for shape in shapes.split(","):
-        rust, ours = (count(bench, folder, who, shape) for who in ("rust", "ours"))
-        for phase in SHOWN:
-            ratio = ours[phase] / rust[phase]
-            print(f"{shape:8}{PHASES[phase]:16}{rust[phase]:10.1f}{ours[phase]:10.1f}{ratio:8.2f}")
+        rust, ours = (count(phases, bench, folder, who, shape) for who in ("rust", "ours"))
+        for name in rust:
+            ratio = ours[name] / rust[name]
+            print(f"{shape:8}{name:16}{rust[name]:10.1f}{ours[name]:10.1f}{ratio:8.2f}")
 
 
 main()
