@@ -9,5 +9,4 @@ pub mod PlainLaws
 pub mod Coercion
 pub mod Named
 pub mod KeyTrees
-pub mod LeftOver
 pub mod Ascending
