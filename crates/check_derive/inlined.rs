@@ -27,8 +27,6 @@ pub struct Line {
 #[derive(PartialEq, Eq, Serialize, Deserialize)]
 #[serde(tag = "op", rename_all = "lowercase")]
 pub enum Change {
-    /// Nothing is left.
-    Clear,
     /// So much more.
     Add(Amount),
 }

@@ -183,6 +183,8 @@ class Holder:
             if not self.of_variant:
                 return lines + [f"{self.reader}(alloc, fields)"]
             return lines + [f"let {together(places)} = {self.reader}(alloc, fields)?;", f"Ok({make(places)})"]
+        if self.many and self.count == 2:
+            return [f"let parts = {start};", f"let {together(places)} = two_parts(alloc, parts)?;", f"Ok({make(places)})"]
         if self.many:
             return [f"let mut parts = {start};"] + [
                 f"let {p} = next_part(alloc, &mut parts, {self.count}, {i})?;"

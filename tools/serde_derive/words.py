@@ -78,7 +78,7 @@ SENDERS, READERS = [f"send_{count}" for count in COUNTS], [f"read_{count}" for c
 USES = {
     "serde_content": "CowStr Deserializer Error Result RoundTrip",
     "serde_content::de": "Deserialize FieldsByName attempt end_fields field_or named_field next_part"
-                         f" {' '.join(sorted(READERS))} skip_fields tag_field unknown_variant",
+                         f" {' '.join(sorted(READERS))} skip_fields tag_field two_parts unknown_variant",
     "serde_content::ser": f"Call Parts Serialize Serializer {' '.join(sorted(SENDERS))}",
     "std::alloc": "Global",
     "std::collections": "BTreeMap",

@@ -2,7 +2,7 @@
 //!
 //! Written by `tools/derive` from `inlined.rs`: change that file, and write this one anew.
 
-ghost use Rattle.std.specs.Prelude.{◌≡◌, ◌∷◌, [], ℤ, Option, None, codes, string_bytes, refl, ⊤};
+ghost use Rattle.std.specs.Prelude.{◌≡◌, ◌∷◌, [], ℤ, Option, None, codes, string_bytes, refl};
 ghost use Rattle.content_ser.specs.Scripts.Sends.{Sends};
 ghost use Rattle.content_ser.specs.Scripts.Own.{field_first, end_script, struct_script};
 ghost use Rattle.content_ser.specs.Laws.StandardScripts.{leaf_lawful, option_lawful};
@@ -34,16 +34,15 @@ ghost use Rattle.serde_content.specs.Laws.Flattened.{FlattenedGives, flattened_e
 ghost use Rattle.serde_content.specs.Laws.Flattened.{flattened_named_back, flattened_named_or_back};
 ghost use Rattle.serde_content.specs.Laws.Flattened.{flattened_back, flattened_keeps};
 ghost use Rattle.serde_content.specs.Laws.Tagged.{tagged_script, tagged_back, tag_keeps};
-ghost use Rattle.serde_content.specs.Laws.Variants.{other_variant};
 ghost use Rattle.std.specs.declared.alloc.Global.{Global};
 ghost use Rattle.std.specs.declared.string.String.{String};
 ghost use Rattle.content_tree.specs.Values.Ranges as kind;
 ghost use Rattle.check_derive.specs.declared.inlined.Change.TheVariants as change;
 
 use serde_content::de::{
-    Deserialize, FieldsByName, read_four, read_two, skip_fields, tag_field, unknown_variant,
+    Deserialize, FieldsByName, read_four, read_two, tag_field, unknown_variant,
 };
-use serde_content::ser::{Call, Serialize, Serializer, send_eight, send_one, send_three, send_two};
+use serde_content::ser::{Call, Serialize, Serializer, send_eight, send_three, send_two};
 use serde_content::{Deserializer, Result, RoundTrip};
 use std::alloc::Global;
 
@@ -349,8 +348,6 @@ impl<'de> RoundTrip<'de> for Line {
 /// What becomes of a bill, told by the field `op`.
 #[derive(Drop, PartialEq, Eq)]
 pub enum Change {
-    /// Nothing is left.
-    Clear,
     /// So much more.
     Add(Amount),
 }
@@ -412,17 +409,13 @@ fn read_change_add<'de, 'n: 'de>(alloc: Global, fields: FieldsByName<'de, 'n>) -
 /// The variant that its tag names.
 fn read_change<'de, 'n: 'de>(alloc: Global, mut fields: FieldsByName<'de, 'n>) -> Result<Change>
     ensures { Reads (tag_then (codes "op")
-        (variant_or (codes "clear")
-        (others_skipped (codes "op" ∷ []))
         (variant_or (codes "add")
         (named_then (codes "count") (⟦<i32 as Deserialize<'de>>⟧.refusal)
         (named_or_then (codes "unit") (⟦<Option<String> as Deserialize<'de>>⟧.refusal)
         (others_skipped (codes "op" ∷ codes "count" ∷ codes "unit" ∷ []))))
-        (no_variant_of (codes "clear" ∷ codes "add" ∷ []))))
+        (no_variant_of (codes "add" ∷ [])))
         (fields_left fields.entry))
         (elim [
-          | change.Clear ↦ TagThen (codes "op") (codes "clear")
-              NoOthers (fields_left fields.entry)
           | change.Add x1 ↦ TagThen (codes "op") (codes "add")
               (NamedThen (codes "count") (⟦<i32 as Deserialize<'de>>⟧.gives) x1.count
               (NamedOrThen (codes "unit") (λ (x : (Option (String Global))). x ≡ None)
@@ -432,22 +425,16 @@ fn read_change<'de, 'n: 'de>(alloc: Global, mut fields: FieldsByName<'de, 'n>) -
 {
     let tag = tag_field(alloc, &mut fields, "op")?;
     match tag.as_str() {
-        "clear" => {
-            skip_fields(alloc, fields, &["op"])?;
-            Ok(Change::Clear)
-        }
         "add" => {
             let x1 = read_change_add(alloc, fields)?;
             Ok(Change::Add(x1))
         }
-        tag => Err(unknown_variant(alloc, tag, &["clear", "add"])),
+        tag => Err(unknown_variant(alloc, tag, &["add"])),
     }
 }
 
 impl Serialize for Change {
     ghost script = { elim [
-      | change.Clear ↦ tagged_script (codes "Change") 1 (codes "op") (codes "clear")
-          end_script
       | change.Add x1 ↦ tagged_script (codes "Amount") 3 (codes "op") (codes "add")
           (field_first (codes "count") (⟦<i32 as Serialize>⟧.script x1.count)
           (field_first (codes "unit") (⟦<Option<String> as Serialize>⟧.script x1.unit)
@@ -455,9 +442,6 @@ impl Serialize for Change {
     ] };
 
     ghost lawful = { elim [
-      | change.Clear ↦ λ readable. struct_lawful
-          (field_fits (leaf_lawful refl)
-          struct_end_fits)
       | change.Add x1 ↦ λ readable. struct_lawful
           (field_fits (leaf_lawful refl)
           (field_fits (leaf_lawful refl)
@@ -467,15 +451,6 @@ impl Serialize for Change {
 
     fn serialize<S: Serializer>(&self, alloc: Global, serializer: &mut S) -> Result<()> {
         match self {
-            Change::Clear => {
-                send_one(
-                    alloc,
-                    serializer,
-                    Call::Struct("Change", 1),
-                    Call::Field("op"),
-                    &"clear",
-                )
-            }
             Change::Add(x1) => send_change_add(alloc, serializer, &x1.count, &x1.unit),
         }
     }
@@ -484,18 +459,13 @@ impl Serialize for Change {
 impl<'de> Deserialize<'de> for Change {
     ghost refusal = { struct_refusal (codes "Change")
         (read_by_name (tag_then (codes "op")
-        (variant_or (codes "clear")
-        (others_skipped (codes "op" ∷ []))
         (variant_or (codes "add")
         (named_then (codes "count") (⟦<i32 as Deserialize<'de>>⟧.refusal)
         (named_or_then (codes "unit") (⟦<Option<String> as Deserialize<'de>>⟧.refusal)
         (others_skipped (codes "op" ∷ codes "count" ∷ codes "unit" ∷ []))))
-        (no_variant_of (codes "clear" ∷ codes "add" ∷ [])))))) };
+        (no_variant_of (codes "add" ∷ []))))) };
 
     ghost gives = { λ s. elim [
-      | change.Clear ↦ StructGives (codes "Change") (ReadByName
-          (TagThen (codes "op") (codes "clear")
-          NoOthers)) s
       | change.Add x1 ↦ StructGives (codes "Change") (ReadByName
           (TagThen (codes "op") (codes "add")
           (NamedThen (codes "count") (⟦<i32 as Deserialize<'de>>⟧.gives) x1.count
@@ -512,13 +482,11 @@ impl<'de> Deserialize<'de> for Change {
 
 impl<'de> RoundTrip<'de> for Change {
     ghost exists = { elim [
-      | change.Clear ↦ ⊤
       | change.Add x1 ↦ ⟦<Option<String> as RoundTrip<'de>>⟧.exists x1.unit
     ] };
 
     fn known(&self) {
         match self {
-            Change::Clear => {}
             Change::Add(x1) => {
                 x1.unit.known();
             }
@@ -527,13 +495,6 @@ impl<'de> RoundTrip<'de> for Change {
 
     ghost comes_back = { record {
       of_value = elim [
-        | change.Clear ↦ λ real f. tagged_back Self.refusal Self.gives
-            (skipped_back {Y = Unit {0}} (codes "op" ∷ []))
-            f (λ fs. refl)
-            (λ fs only. elim [
-              | change.Clear ↦ λ it. refl
-              | change.Add y1 ↦ λ it. other_variant it.0 refl
-            ])
         | change.Add x1 ↦ λ real f. tagged_back Self.refusal Self.gives
             (named_back (codes "count") i32_back x1.count tt
             (λ (z : ℤ × (Option (String Global))). z.0)
@@ -547,7 +508,6 @@ impl<'de> RoundTrip<'de> for Change {
             (skipped_back (codes "op" ∷ codes "count" ∷ codes "unit" ∷ []))))
             f (λ fs. refl)
             (λ fs only. elim [
-              | change.Clear ↦ λ it. other_variant it.0 refl
               | change.Add y1 ↦ λ it. let same = only (y1.count, y1.unit) it.1 in both_hold same.0
                   same.1.0
             ])
@@ -556,29 +516,14 @@ impl<'de> RoundTrip<'de> for Change {
 
     ghost keeps = { record {
       of_origin = λ o people. elim [
-        | change.Clear ↦ λ p.
-            let q = (struct_keeps (codes "Change") (by_name_keeps
-            (tag_keeps (codes "op") (codes "clear")
-            (variant_or (codes "clear")
-            (others_skipped (codes "op" ∷ []))
-            (variant_or (codes "add")
-            (named_then (codes "count") (⟦<i32 as Deserialize<'de>>⟧.refusal)
-            (named_or_then (codes "unit") (⟦<Option<String> as Deserialize<'de>>⟧.refusal)
-            (others_skipped (codes "op" ∷ codes "count" ∷ codes "unit" ∷ []))))
-            (no_variant_of (codes "clear" ∷ codes "add" ∷ [])))) (λ f. refl)
-            (skipped_keeps {Y = Unit {0}} (codes "op" ∷ []))))).of_origin o people tt
-            (record { free = p.free; given = p.given }) in
-            record { free = q.free; given = q.given }
         | change.Add x1 ↦ λ p.
             let q = (struct_keeps (codes "Change") (by_name_keeps
             (tag_keeps (codes "op") (codes "add")
-            (variant_or (codes "clear")
-            (others_skipped (codes "op" ∷ []))
             (variant_or (codes "add")
             (named_then (codes "count") (⟦<i32 as Deserialize<'de>>⟧.refusal)
             (named_or_then (codes "unit") (⟦<Option<String> as Deserialize<'de>>⟧.refusal)
             (others_skipped (codes "op" ∷ codes "count" ∷ codes "unit" ∷ []))))
-            (no_variant_of (codes "clear" ∷ codes "add" ∷ [])))) (λ f. refl)
+            (no_variant_of (codes "add" ∷ []))) (λ f. refl)
             (named_keeps (codes "count") (λ (z : ℤ × (Option (String Global))). z.0)
             (integer_keeps kind.i32)
             (named_or_keeps (codes "unit") (λ (x : (Option (String Global))). x ≡ None)

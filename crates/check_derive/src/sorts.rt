@@ -49,7 +49,7 @@ ghost use Rattle.check_derive.specs.declared.sorts.Message.TheVariants as messag
 
 use crate::types::Place;
 use serde_content::de::{
-    Deserialize, FieldsByName, next_part, read_one, skip_fields, tag_field, unknown_variant,
+    Deserialize, FieldsByName, read_one, skip_fields, tag_field, two_parts, unknown_variant,
 };
 use serde_content::ser::{Call, Parts, Serialize, Serializer, send_one, send_two};
 use serde_content::{Deserializer, Result, RoundTrip};
@@ -175,9 +175,8 @@ impl<'de> Deserialize<'de> for Stop {
         NoPart)) s };
 
     fn deserialize<'n: 'de>(alloc: Global, from: Deserializer<'de, 'n>) -> Result<Stop> {
-        let mut parts = from.deserialize_tuple_struct(alloc, "Stop", 2)?;
-        let x1 = next_part(alloc, &mut parts, 2, 0)?;
-        let x2 = next_part(alloc, &mut parts, 2, 1)?;
+        let parts = from.deserialize_tuple_struct(alloc, "Stop", 2)?;
+        let (x1, x2) = two_parts(alloc, parts)?;
         Ok(Stop(x1, x2))
     }
 }

@@ -62,7 +62,7 @@ ghost use Rattle.check_derive.specs.declared.types.Step.{Step};
 ghost use Rattle.check_derive.specs.declared.types.Step.TheVariants as step;
 
 use serde_content::de::{
-    Deserialize, FieldsByName, next_part, read_six, read_two, unknown_variant,
+    Deserialize, FieldsByName, read_six, read_two, two_parts, unknown_variant,
 };
 use serde_content::ser::{Call, Parts, Serialize, Serializer, send_six, send_two};
 use serde_content::{CowStr, Deserializer, Result, RoundTrip};
@@ -339,9 +339,8 @@ impl<'de> Deserialize<'de> for Step {
             }
             "weighed" => Ok(Step::Weighed(variant.newtype_variant(alloc)?)),
             "moved-by" => {
-                let mut parts = variant.tuple_variant(alloc, 2)?;
-                let x1 = next_part(alloc, &mut parts, 2, 0)?;
-                let x2 = next_part(alloc, &mut parts, 2, 1)?;
+                let parts = variant.tuple_variant(alloc, 2)?;
+                let (x1, x2) = two_parts(alloc, parts)?;
                 Ok(make_step_moved(x1, x2))
             }
             "left" => {

@@ -9,4 +9,5 @@ pub mod PlainLaws
 pub mod Coercion
 pub mod Named
 pub mod KeyTrees
+pub mod LeftOver
 pub mod Ascending

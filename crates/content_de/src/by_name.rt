@@ -1,6 +1,6 @@
 //! Entries taken by name, wherever they stand.
 
-ghost use Rattle.std.specs.Prelude.{◌≡◌, ◌<◌, ◌++◌, ⊤, ℕ, Bool, List, Some, None, IsTrue};
+ghost use Rattle.std.specs.Prelude.{◌≡◌, ◌<◌, ◌++◌, ⊤, ℕ, Bool, List, [], Some, None, IsTrue};
 ghost use Rattle.std.specs.Prelude.{IfOk, IfErr, IfSome, IfNone, is_some, option_map};
 ghost use Rattle.std.specs.Prelude.{length, map, slice_index_or};
 ghost use Rattle.std.specs.List.{remove};
@@ -76,6 +76,17 @@ impl<'de, 'n> Left<'de, 'n> {
         }
     }
 
+    /// Whether no entry is left.
+    #[inline(always)]
+    fn is_empty(&self) -> bool
+        ensures { IsTrue result → entries_of self.now ≡ [] }
+    {
+        match self {
+            Left::Pairs(pairs) => pairs.is_empty(),
+            Left::Fields(fields) => fields.is_empty(),
+        }
+    }
+
     /// All as pairs, behind the value whose key was handed out, where there is one.
     fn into_pairs(
         self,
@@ -115,6 +126,7 @@ impl<'de, 'n> Left<'de, 'n> {
 impl<'de, 'n> Map<'de, 'n> {
     /// The entries that are left, to be taken by name: a pair whose key is a text has that name. It
     /// takes no memory.
+    #[inline(always)]
     pub fn by_name(self) -> FieldsByName<'de, 'n>
         ensures { fields_left result ≡ by_name (map_view self.entry) }
     {
@@ -136,6 +148,7 @@ impl<'de, 'n> Map<'de, 'n> {
 
 impl<'de, 'n> FieldsByName<'de, 'n> {
     /// Fields, of which the first key may have been handed out.
+    #[inline(always)]
     fn of_fields(fields: Fields<'de, 'n>, key_taken: bool, flags: Flags) -> FieldsByName<'de, 'n>
         ensures { fields_left result ≡ by_name (entries_under (flags_of flags)
             (entries_view (entries.Fields fields.entry) key_taken)) }
@@ -167,6 +180,14 @@ impl<'de, 'n> FieldsByName<'de, 'n> {
         ensures { result ≡ is_some (field_named name.now (fields_left self.now)) }
     {
         self.left.has(name)
+    }
+
+    /// Whether no entry is left.
+    #[inline(always)]
+    pub(crate) fn is_empty(&self) -> bool
+        ensures { IsTrue result → (fields_left self.now).entries ≡ [] }
+    {
+        self.keyless.is_none() && self.left.is_empty()
     }
 
     /// The value of the first entry of this name, which is taken away, or none; the others stay in

@@ -91,7 +91,20 @@ pub fn tag_field<'de, 'n: 'de>(
 ///
 /// The first of these names that an entry has: ``duplicate field `NAME` ``; out of memory in its
 /// place.
+#[inline(always)]
 pub fn skip_fields(alloc: Global, from: FieldsByName<'_, '_>, known: &[&str]) -> Result<()>
+    ensures { Reads (others_skipped (map (λ name. name.now) known.now) (fields_left from.entry))
+        (λ u. ⊤) result }
+{
+    if from.is_empty() {
+        return Ok(());
+    }
+    skip_left(alloc, from, known)
+}
+
+/// The same where some are left.
+#[inline(never)]
+fn skip_left(alloc: Global, from: FieldsByName<'_, '_>, known: &[&str]) -> Result<()>
     ensures { Reads (others_skipped (map (λ name. name.now) known.now) (fields_left from.entry))
         (λ u. ⊤) result }
 {

@@ -1,13 +1,12 @@
 -- Records that are saved and loaded.
-use Rattle.std.proofs.Common.{◌≡◌, ℕ, List, [], ◌∷◌, map, Some, None, Result, Ok, Err, IfErr, IsErrAnd, refl, ap, sym, subst, ◌∙◌}
+use Rattle.std.proofs.Common.{◌≡◌, ℕ, List, [], ◌∷◌, Some, None, Result, Ok, Err, IfErr, IsErrAnd, refl, ap, sym, subst, ◌∙◌}
 use Rattle.serde_content.specs.Names.Words.{items_in, Tree}
 use Rattle.serde_content.specs.Names.Tree as tree
 use Rattle.serde_content.specs.Names.Tree.{Trees, seq, tree_then, unit, boolean, number}
 use Rattle.serde_content.specs.Names.Tree.{character, text, octets, absent, present, structure}
 use Rattle.serde_content.specs.Names.Tree.{enumeration, tuple}
 use Rattle.serde_content.specs.Names.Words.{trees_of}
-use Rattle.content_cbor.specs.Codes.{Codes}
-use Rattle.content_cbor.specs.Decoded.{IsReadAs, StopsAt}
+use Rattle.content_cbor.specs.Decoded.{StopsAt}
 use Rattle.content_cbor.specs.Form.{form, each_form}
 use Rattle.content_cbor.specs.Inner.Reading.{whole_at}
 use Rattle.content_cbor.specs.declared.decode_error.DecodeError.{DecodeError}

@@ -1,4 +1,4 @@
-use Rattle.std.proofs.Common.{◌≡◌, ap, sym, subst, ◌∙◌}
+use Rattle.std.proofs.Common.{ap, sym, subst, ◌∙◌}
 use Rattle.content_cbor.specs.Form.{CodesForm}
 use Rattle.content_cbor.specs.Item.{item}
 use Rattle.content_uses.specs.Records.{records_of}

@@ -1,7 +1,7 @@
 use Rattle.std.proofs.Common.{◌≡◌, map, drop}
 use Rattle.content_de.specs.Accesses.ByName.{fields_left}
 use Rattle.content_de.specs.Reads.ByName.{others_skipped}
-use Rattle.content_de.proofs.named_fields.skip_fields.Given as goal
+use Rattle.content_de.proofs.named_fields.skip_left.Given as goal
 
 -- no entry has a name before
 abbrev pub invariant-loop-name : goal.invariant-loop-name
