@@ -15,35 +15,35 @@ use Rattle.content_ser.specs.Grammar.Token.{Wrap, wrapped, Series, series_tree, 
 use Rattle.content_build.specs.Partial as partial
 use Rattle.content_build.specs.Partial.{Partial, Slot, Compound, fill, push_tree, push_pair}
 use Rattle.content_build.specs.Partial.{push_field, set_last, closed}
-use Rattle.content_build.specs.Inner.Cells.{Node, leaf, unit, map, key, Cell, cell, cell_size}
+use Rattle.content_build.specs.Inner.Cells.{Label, leaf, unit, map, key, Cell, cell, cell_size}
 use Rattle.content_build.specs.Inner.Cells.{enclose}
 use Rattle.content_build.specs.Inner.Cells.{flat, flat_trees, flat_pairs, flat_fields, Wait, child}
 use Rattle.content_build.specs.Inner.Cells.{item, a_key, a_value, entry_key, entry_value, field}
-use Rattle.content_build.specs.Inner.Cells.{in_series, in_map, in_record, Open, opened, wrap_node}
-use Rattle.content_build.specs.Inner.Cells.{series_node, record_node, compound_node, compound_cells}
-use Rattle.content_build.specs.Inner.Cells.{slot_node, slot_cells, slot_wait}
+use Rattle.content_build.specs.Inner.Cells.{in_series, in_map, in_record, Open, opened, wrap_label}
+use Rattle.content_build.specs.Inner.Cells.{series_label, record_label, compound_label, compound_cells}
+use Rattle.content_build.specs.Inner.Cells.{slot_label, slot_cells, slot_wait}
 use Rattle.content_build.specs.Inner.Cells.{last_value, slots_cells}
 use Rattle.content_build.specs.Inner.Cells.{with_size, Waiting, Stood}
 use Rattle.content_build.specs.Inner.Steps.{IsIdle}
 use Rattle.content_build.proofs.Forward.{set_last-push}
 
 -- the tree of a wrap, of a series and of a record begins with its node
-pub flat-wrapped : (w : Wrap) (t : Tree) → flat (wrapped w t) ≡ enclose (wrap_node w) (flat t)
+pub flat-wrapped : (w : Wrap) (t : Tree) → flat (wrapped w t) ≡ enclose (wrap_label w) (flat t)
 flat-wrapped token.in_some t = refl
 flat-wrapped (token.in_head (calls.of_struct n)) t = refl
 flat-wrapped (token.in_head (calls.of_variant n i v)) t = refl
 
-pub flat-series_tree : (r : Series) (ts : Trees) → flat (series_tree r ts) ≡ enclose (series_node r) (flat_trees ts)
+pub flat-series_tree : (r : Series) (ts : Trees) → flat (series_tree r ts) ≡ enclose (series_label r) (flat_trees ts)
 flat-series_tree token.series_seq ts = refl
 flat-series_tree token.series_tuple ts = refl
 flat-series_tree (token.series_head (calls.of_struct n)) ts = refl
 flat-series_tree (token.series_head (calls.of_variant n i v)) ts = refl
 
-pub flat-record_tree : (h : Head) (fs : Fields) → flat (record_tree h fs) ≡ enclose (record_node h) (flat_fields fs)
+pub flat-record_tree : (h : Head) (fs : Fields) → flat (record_tree h fs) ≡ enclose (record_label h) (flat_fields fs)
 flat-record_tree (calls.of_struct n) fs = refl
 flat-record_tree (calls.of_variant n i v) fs = refl
 
-pub flat-closed : (c : Compound) → flat (closed c) ≡ enclose (compound_node c) (compound_cells c)
+pub flat-closed : (c : Compound) → flat (closed c) ≡ enclose (compound_label c) (compound_cells c)
 flat-closed (partial.in_series r ts) = flat-series_tree r ts
 flat-closed (partial.in_map prs) = refl
 flat-closed (partial.in_record h fs) = flat-record_tree h fs
@@ -82,7 +82,7 @@ ends k v no_pairs = (no_pairs, k, v, refl)
 ends k v (pair_then c d ps) = let e = ends c d ps in (pair_then k v e.0, e.1, e.2, ap (pair_then k v) e.3)
 
 -- a tree's first cell has the number of its cells
-pub flat-size : (t : Tree) → (n : Node) × (rest : List Cell) × (flat t ≡ cell n (length (flat t)) ∷ rest)
+pub flat-size : (t : Tree) → (n : Label) × (rest : List Cell) × (flat t ≡ cell n (length (flat t)) ∷ rest)
 flat-size tree.unit = (_, _, refl)
 flat-size (tree.boolean b) = (_, _, refl)
 flat-size (tree.number n) = (_, _, refl)
@@ -97,18 +97,18 @@ flat-size (tree.structure n d) = (_, _, refl)
 flat-size (tree.enumeration n i v d) = (_, _, refl)
 flat-size (tree.tuple ts) = (_, _, refl)
 
-pub with_size-seam : (xs : List Cell) (node : Node) (m n : ℕ) (ys : List Cell) → with_size (xs ++ cell node m ∷ ys) (length xs) n ≡ xs ++ cell node n ∷ ys
-with_size-seam [] node m n ys = refl
-with_size-seam (cell a c ∷ xs) node m n ys = ap (λ l. cell a c ∷ l) (with_size-seam xs node m n ys)
+pub with_size-seam : (xs : List Cell) (label : Label) (m n : ℕ) (ys : List Cell) → with_size (xs ++ cell label m ∷ ys) (length xs) n ≡ xs ++ cell label n ∷ ys
+with_size-seam [] label m n ys = refl
+with_size-seam (cell a c ∷ xs) label m n ys = ap (λ l. cell a c ∷ l) (with_size-seam xs label m n ys)
 
 pub arm-item : (ps : List Slot) (t : Tree) (cs : List Cell) (at last : ℕ) (m : ItemCall) (os : List Open) → Waiting cs (opened at last (item m) ∷ os) ps t → Stood cs (opened at last (in_series m) ∷ os) (fill ps t)
 arm-item (partial.element r ts ∷ ps) t cs at last m os (c, o) =
-    (c ∙ (append_assoc (slots_cells ps) _ (flat t) ∙ ap (λ l. slots_cells ps ++ (cell (series_node r) 0 ∷ l)) (sym (flat_trees-push ts t))), cc)
+    (c ∙ (append_assoc (slots_cells ps) _ (flat t) ∙ ap (λ l. slots_cells ps ++ (cell (series_label r) 0 ∷ l)) (sym (flat_trees-push ts t))), cc)
 arm-item _ t cs at last m os (c, o) = absurd (cc)
 
 pub arm-field : (ps : List Slot) (t : Tree) (cs : List Cell) (at last : ℕ) (os : List Open) → Waiting cs (opened at last field ∷ os) ps t → Stood cs (opened at last in_record ∷ os) (fill ps t)
 arm-field (partial.field_value h fs k ∷ ps) t cs at last os (c, o) =
-    (c ∙ (append_assoc (slots_cells ps) _ (flat t) ∙ ap (λ x. slots_cells ps ++ (cell (record_node h) 0 ∷ x)) (append_assoc (flat_fields fs) _ (flat t) ∙ sym (flat_fields-push fs (static_name k) t))), cc)
+    (c ∙ (append_assoc (slots_cells ps) _ (flat t) ∙ ap (λ x. slots_cells ps ++ (cell (record_label h) 0 ∷ x)) (append_assoc (flat_fields fs) _ (flat t) ∙ sym (flat_fields-push fs (static_name k) t))), cc)
 arm-field _ t cs at last os (c, o) = absurd (cc)
 
 pub arm-child : (ps : List Slot) (t : Tree) (cs : List Cell) (at last : ℕ) (os : List Open) → Waiting cs (opened at last child ∷ os) ps t
@@ -116,7 +116,7 @@ pub arm-child : (ps : List Slot) (t : Tree) (cs : List Cell) (at last : ℕ) (os
 arm-child (partial.child w ∷ ps) t cs at last os (c, o) =
     let front = slots_cells ps in
     let here : at ≡ length front = cc in
-    let whole : cs ≡ front ++ (cell (wrap_node w) 0 ∷ flat t) = c ∙ append_assoc front _ (flat t) in
+    let whole : cs ≡ front ++ (cell (wrap_label w) 0 ∷ flat t) = c ∙ append_assoc front _ (flat t) in
     let size : length cs ≡ length front + suc (length (flat t)) = ap length whole ∙ length-append front _ in
     let gone : length cs - at ≡ suc (length (flat t)) = omega (arith, size, here) in (
       ps,
@@ -125,9 +125,9 @@ arm-child (partial.child w ∷ ps) t cs at last os (c, o) =
       omega (arith, size, here),
       (
         ap (λ l. with_size l at (length cs - at)) whole
-            ∙ (ap (λ a. with_size (front ++ (cell (wrap_node w) 0 ∷ flat t)) a (length cs - at)) here
-            ∙ (with_size-seam front (wrap_node w) 0 (length cs - at) (flat t)
-            ∙ (ap (λ n. front ++ (cell (wrap_node w) n ∷ flat t)) gone ∙ ap (λ l. front ++ l) (sym (flat-wrapped w t))))),
+            ∙ (ap (λ a. with_size (front ++ (cell (wrap_label w) 0 ∷ flat t)) a (length cs - at)) here
+            ∙ (with_size-seam front (wrap_label w) 0 (length cs - at) (flat t)
+            ∙ (ap (λ n. front ++ (cell (wrap_label w) n ∷ flat t)) gone ∙ ap (λ l. front ++ l) (sym (flat-wrapped w t))))),
         cc,
       ),
     )
@@ -144,9 +144,9 @@ arm-close c ps cs at last w os (e, o) =
       omega (arith, size, here),
       (
         ap (λ l. with_size l at (length cs - at)) e
-            ∙ (ap (λ a. with_size (front ++ (cell (compound_node c) 0 ∷ compound_cells c)) a (length cs - at)) here
-            ∙ (with_size-seam front (compound_node c) 0 (length cs - at) (compound_cells c)
-            ∙ (ap (λ n. front ++ (cell (compound_node c) n ∷ compound_cells c)) gone ∙ ap (λ l. front ++ l) (sym (flat-closed c))))),
+            ∙ (ap (λ a. with_size (front ++ (cell (compound_label c) 0 ∷ compound_cells c)) a (length cs - at)) here
+            ∙ (with_size-seam front (compound_label c) 0 (length cs - at) (compound_cells c)
+            ∙ (ap (λ n. front ++ (cell (compound_label c) n ∷ compound_cells c)) gone ∙ ap (λ l. front ++ l) (sym (flat-closed c))))),
         cc,
       ),
     )
@@ -256,4 +256,4 @@ at-below [] t cs at last w os (c, o) = absurd (cc)
 at-below (p ∷ ps) t cs at last w os (c, o) =
     let here : at ≡ length (slots_cells ps) = cc in
     let n = ap length c in
-    omega (arith, here, n, length-append (slots_cells ps ++ (cell (slot_node p) 0 ∷ slot_cells p)) (flat t), length-append (slots_cells ps) (cell (slot_node p) 0 ∷ slot_cells p))
+    omega (arith, here, n, length-append (slots_cells ps ++ (cell (slot_label p) 0 ∷ slot_cells p)) (flat t), length-append (slots_cells ps) (cell (slot_label p) 0 ∷ slot_cells p))

@@ -15,16 +15,16 @@ use Rattle.content_build.specs.Partial as partial
 use Rattle.content_build.specs.Partial.{Partial, Slot, Compound, due, between, done, fill, begin}
 use Rattle.content_build.specs.Partial.{step_token, closed, next_item, open_count}
 use Rattle.content_build.specs.Inner.Cells as cells
-use Rattle.content_build.specs.Inner.Cells.{Node, Cell, cell, Wait, Open, opened, flat}
+use Rattle.content_build.specs.Inner.Cells.{Label, Cell, cell, Wait, Open, opened, flat}
 use Rattle.content_build.specs.Inner.Cells.{flat_fields, slots_cells, slots_opens}
-use Rattle.content_build.specs.Inner.Cells.{slot_wait, wrap_node, series_node, record_node, Stood}
-use Rattle.content_build.specs.Inner.Frames.{frame_view, node_view, wait_view, cells_of}
+use Rattle.content_build.specs.Inner.Cells.{slot_wait, wrap_label, series_label, record_label, Stood}
+use Rattle.content_build.specs.Inner.Frames.{frame_view, label_view, wait_view, cells_of}
 use Rattle.content_build.specs.Inner.Frames.{opens_view}
 use Rattle.content_build.specs.Inner.Sound.{meaning, IsSound, Stands, IsWaiting, IsKept, viewed}
 use Rattle.content_build.specs.Inner.Taken.{TakenTo, TakesStep, TakesToken}
 use Rattle.content_build.specs.Inner.Steps.{IsDue, IsIdle, Opens}
-use Rattle.content_build.specs.declared.node.Frame.{Frame}
-use Rattle.content_build.specs.declared.node.Opening.{Opening}
+use Rattle.content_build.specs.declared.frame.Frame.{Frame}
+use Rattle.content_build.specs.declared.frame.Opening.{Opening}
 use Rattle.content_build.proofs.Algebra.{slot_waits}
 use Rattle.content_build.proofs.Decoded.{decoded-from}
 use Rattle.content_build.proofs.Memory.{cells-push, opens-push, opens-set, opens-last, length-cells}
@@ -40,10 +40,10 @@ the_slots (between c ps) d = absurd d
 the_slots (done t) d = absurd d
 
 -- a whole tree more at the end
-pub waiting_whole : (ps : List Slot) (es new : List Frame) (hs : List Opening) (e : Frame) (t : Tree) → Stands es hs (due ps) → cell (node_view e.node) 1 ∷ [] ≡ flat t → e.size ≡ 1 → new ≡ es ++ e ∷ []
+pub waiting_whole : (ps : List Slot) (es new : List Frame) (hs : List Opening) (e : Frame) (t : Tree) → Stands es hs (due ps) → cell (label_view e.label) 1 ∷ [] ≡ flat t → e.size ≡ 1 → new ≡ es ++ e ∷ []
     → IsWaiting new hs ps t
 waiting_whole ps es new hs e t w l one n =
-    (ap cells_of n ∙ (cells-push es e ∙ (ap (λ x. x ++ frame_view e ∷ []) w.0 ∙ ap (λ x. slots_cells ps ++ x) (ap (λ x. cell (node_view e.node) x ∷ []) one ∙ l))), w.1)
+    (ap cells_of n ∙ (cells-push es e ∙ (ap (λ x. x ++ frame_view e ∷ []) w.0 ∙ ap (λ x. slots_cells ps ++ x) (ap (λ x. cell (label_view e.label) x ∷ []) one ∙ l))), w.1)
 
 -- a tree where none is due
 pub late_leaf : (s : Partial) (t : Tree) → (IsDue s → ⊥) → step_token s (token.leaf t) ≡ None
@@ -89,24 +89,24 @@ late_head (between c ps) token.value next b n = absurd (cc)
 late_head (between c ps) token.entry next b n = absurd (cc)
 late_head (between c ps) token.finish next b n = absurd (cc)
 
-pub opens_wrap : (w : Wrap) → Opens (token.wrap w) (wrap_node w) cells.child
+pub opens_wrap : (w : Wrap) → Opens (token.wrap w) (wrap_label w) cells.child
 opens_wrap w ps = (due (partial.child w ∷ ps), refl, (refl, refl))
 
-pub opens_series : (r : Series) → Opens (token.open_series r) (series_node r) (cells.in_series (item_call r))
+pub opens_series : (r : Series) → Opens (token.open_series r) (series_label r) (cells.in_series (item_call r))
 opens_series r ps = (between (partial.in_series r no_trees) ps, refl, (refl, refl))
 
 pub opens_map : Opens token.open_map cells.map cells.in_map
 opens_map ps = (between (partial.in_map no_pairs) ps, refl, (refl, refl))
 
-pub opens_record : (h : Head) → Opens (token.open_record h) (record_node h) cells.in_record
+pub opens_record : (h : Head) → Opens (token.open_record h) (record_label h) cells.in_record
 opens_record h ps = (between (partial.in_record h no_fields) ps, refl, (refl, refl))
 
 -- a head more at the end
 pub stands_open : (ps : List Slot) (es new : List Frame) (hs after : List Opening) (e : Frame) (h : Opening) (next : Partial) → Stands es hs (due ps)
-    → Stood (slots_cells ps ++ cell (node_view e.node) 0 ∷ []) (opened (length (slots_cells ps)) 0 (wait_view h.waits) ∷ slots_opens ps) next
+    → Stood (slots_cells ps ++ cell (label_view e.label) 0 ∷ []) (opened (length (slots_cells ps)) 0 (wait_view h.waits) ∷ slots_opens ps) next
     → e.size ≡ 0 → new ≡ es ++ e ∷ [] → h.at ≡ length es → h.last ≡ 0 → after ≡ hs ++ h ∷ [] → Stands new after next
 stands_open ps es new hs after e h next w o none n at last a = (
-  ap cells_of n ∙ (cells-push es e ∙ (ap (λ x. x ++ frame_view e ∷ []) w.0 ∙ (ap (λ x. slots_cells ps ++ cell (node_view e.node) x ∷ []) none ∙ o.0))),
+  ap cells_of n ∙ (cells-push es e ∙ (ap (λ x. x ++ frame_view e ∷ []) w.0 ∙ (ap (λ x. slots_cells ps ++ cell (label_view e.label) x ∷ []) none ∙ o.0))),
   ap opens_view a ∙ (opens-push hs h ∙ (ap (λ x. opened x h.last (wait_view h.waits) ∷ opens_view hs) (at ∙ (sym (length-cells es) ∙ ap length w.0))
       ∙ (ap (λ x. opened (length (slots_cells ps)) x (wait_view h.waits) ∷ opens_view hs) last ∙ (ap (λ x. opened (length (slots_cells ps)) 0 (wait_view h.waits) ∷ x) w.1 ∙ o.1)))),
 )
@@ -219,13 +219,13 @@ module _ (es : List Frame) (hs : List Opening) (n : ℕ) (h new : Opening) (l : 
         due (partial.field_value r fs k ∷ ps),
         ap (λ x. step_token x (token.field k)) q,
         (
-          ap cells_of more ∙ (cells-push es e ∙ (ap (λ x. x ++ frame_view e ∷ []) st.0 ∙ (ap (λ x. (slots_cells ps ++ (cell (record_node r) 0 ∷ flat_fields fs)) ++ x ∷ []) key_is ∙ append_more (slots_cells ps) (flat_fields fs) (record_node r)))),
+          ap cells_of more ∙ (cells-push es e ∙ (ap (λ x. x ++ frame_view e ∷ []) st.0 ∙ (ap (λ x. (slots_cells ps ++ (cell (record_label r) 0 ∷ flat_fields fs)) ++ x ∷ []) key_is ∙ append_more (slots_cells ps) (flat_fields fs) (record_label r)))),
           after cells.field is ∙ turned r fs ps st.1,
         ),
       )
     where
-      append_more : (front inside : List Cell) (node : Node) → (front ++ (cell node 0 ∷ inside)) ++ cell (cells.key (static_name k)) 1 ∷ [] ≡ front ++ (cell node 0 ∷ (inside ++ cell (cells.key (static_name k)) 1 ∷ []))
-      append_more front inside node = append_assoc front (cell node 0 ∷ inside) (cell (cells.key (static_name k)) 1 ∷ [])
+      append_more : (front inside : List Cell) (label : Label) → (front ++ (cell label 0 ∷ inside)) ++ cell (cells.key (static_name k)) 1 ∷ [] ≡ front ++ (cell label 0 ∷ (inside ++ cell (cells.key (static_name k)) 1 ∷ []))
+      append_more front inside label = append_assoc front (cell label 0 ∷ inside) (cell (cells.key (static_name k)) 1 ∷ [])
 
       turned : (r : Head) (fs : Fields) (ps : List Slot) → opened h.at h.last cells.in_record ∷ opens_view (take n hs) ≡ cells.opens (between (partial.in_record r fs) ps)
           → opened h.at h.last cells.field ∷ opens_view (take n hs) ≡ cells.opens (due (partial.field_value r fs k ∷ ps))

@@ -12,9 +12,9 @@ use Rattle.content_ser.specs.Grammar.Token.{Wrap, Series}
 use Rattle.content_build.specs.Partial as partial
 use Rattle.content_build.specs.Partial.{Partial, Slot, Compound}
 use Rattle.content_build.specs.Inner.Cells.{key, Cell, cell, Wait, Open, opened, flat, flat_trees}
-use Rattle.content_build.specs.Inner.Cells.{flat_pairs, flat_fields, names_of, wrap_node, series_node}
-use Rattle.content_build.specs.Inner.Cells.{slot_node, slot_cells, slot_wait, slot_last}
-use Rattle.content_build.specs.Inner.Cells.{compound_node, compound_cells, compound_wait}
+use Rattle.content_build.specs.Inner.Cells.{flat_pairs, flat_fields, names_of, wrap_label, series_label}
+use Rattle.content_build.specs.Inner.Cells.{slot_label, slot_cells, slot_wait, slot_last}
+use Rattle.content_build.specs.Inner.Cells.{compound_label, compound_cells, compound_wait}
 use Rattle.content_build.specs.Inner.Cells.{compound_last}
 use Rattle.content_build.specs.Inner.Cells.{slots_cells, slots_opens, cells, opens, Stood}
 use Rattle.content_build.specs.Inner.Forest.{Grown, grown, no_key, read}
@@ -69,16 +69,16 @@ head-back : (h : Head) → head_from (names_of h) ≡ h
 head-back (calls.of_struct n) = refl
 head-back (calls.of_variant n i v) = refl
 
-wrap-back : (w : Wrap) → wrap_at (cell (wrap_node w) 0) ≡ w
+wrap-back : (w : Wrap) → wrap_at (cell (wrap_label w) 0) ≡ w
 wrap-back token.in_some = refl
 wrap-back (token.in_head h) = ap token.in_head (head-back h)
 
-series-back : (r : Series) → series_at (cell (series_node r) 0) ≡ r
+series-back : (r : Series) → series_at (cell (series_label r) 0) ≡ r
 series-back token.series_seq = refl
 series-back token.series_tuple = refl
 series-back (token.series_head h) = ap token.series_head (head-back h)
 
-one_slot : (p : Slot) → slot_of (slot_wait p) (cell (slot_node p) 0) (slot_cells p) ≡ p
+one_slot : (p : Slot) → slot_of (slot_wait p) (cell (slot_label p) 0) (slot_cells p) ≡ p
 one_slot (partial.child w) = ap partial.child (wrap-back w)
 one_slot (partial.element r ts) = ap (λ x. partial.element x (all_trees (read (flat_trees ts) []))) (series-back r) ∙ ap (partial.element r) (only_trees ts)
 one_slot (partial.key ps) = ap Slot.key (only_pairs ps)
@@ -106,7 +106,7 @@ slots-decoded : (ps : List Slot) → slots_of (slots_cells ps) (slots_opens ps) 
 slots-decoded [] = refl
 slots-decoded (p ∷ ps) =
     let front = slots_cells ps in
-    let c = cell (slot_node p) 0 in
+    let c = cell (slot_label p) 0 in
     let whole = front ++ (c ∷ slot_cells p) in
     ap (λ x. slot_of (slot_wait p) x (drop (length front + 1) whole) ∷ slots_of (take (length front) whole) (slots_opens ps)) (front-get front c (slot_cells p))
     ∙ (ap (λ x. slot_of (slot_wait p) c x ∷ slots_of (take (length front) whole) (slots_opens ps)) (front-drop front c (slot_cells p))
@@ -130,7 +130,7 @@ waits_on (partial.entry_key prs) c inside ps = refl
 waits_on (partial.entry_value prs k) c inside ps = refl
 waits_on (partial.field_value h fs k) c inside ps = refl
 
-one_compound : (c : Compound) (ps : List Slot) → standing (compound_wait c) (cell (compound_node c) 0) (compound_cells c) ps ≡ partial.between c ps
+one_compound : (c : Compound) (ps : List Slot) → standing (compound_wait c) (cell (compound_label c) 0) (compound_cells c) ps ≡ partial.between c ps
 one_compound (partial.in_series r ts) ps = ap (λ x. partial.between (partial.in_series x (all_trees (read (flat_trees ts) []))) ps) (series-back r) ∙ ap (λ x. partial.between (partial.in_series r x) ps) (only_trees ts)
 one_compound (partial.in_map prs) ps = ap (λ x. partial.between (partial.in_map x) ps) (only_pairs prs)
 one_compound (partial.in_record h fs) ps = ap (λ x. partial.between (partial.in_record x (all_fields (read (flat_fields fs) []))) ps) (head-back h) ∙ ap (λ x. partial.between (partial.in_record h x) ps) (only_fields fs)
@@ -138,11 +138,11 @@ one_compound (partial.in_record h fs) ps = ap (λ x. partial.between (partial.in
 pub decoded : (s : Partial) → decode (cells s) (opens s) ≡ s
 decoded (partial.due []) = refl
 decoded (partial.due (p ∷ ps)) =
-    let c = cell (slot_node p) 0 in
+    let c = cell (slot_label p) 0 in
     opened-decoded (slots_cells ps) (slot_cells p) c (slot_last (length (slots_cells ps) + 1) p) (slot_wait p) (slots_opens ps)
     ∙ (waits_on p c (slot_cells p) _ ∙ (ap (λ x. partial.due (x ∷ slots_of (slots_cells ps) (slots_opens ps))) (one_slot p) ∙ ap (λ x. partial.due (p ∷ x)) (slots-decoded ps)))
 decoded (partial.between c ps) =
-    opened-decoded (slots_cells ps) (compound_cells c) (cell (compound_node c) 0) (compound_last (length (slots_cells ps) + 1) c) (compound_wait c) (slots_opens ps)
+    opened-decoded (slots_cells ps) (compound_cells c) (cell (compound_label c) 0) (compound_last (length (slots_cells ps) + 1) c) (compound_wait c) (slots_opens ps)
     ∙ (one_compound c _ ∙ ap (partial.between c) (slots-decoded ps))
 decoded (partial.done t) = ap outermost (read-whole t)
 

@@ -8,10 +8,10 @@ use Rattle.content_build.specs.Partial.{Partial, Slot, fill}
 use Rattle.content_build.specs.Inner.Cells.{cell, Wait, Open, opened, with_size, Waiting, Stood}
 use Rattle.content_build.specs.Inner.Cells.{cell_size, a_value, in_map}
 use Rattle.content_build.specs.Inner.Frames.{frame_view, wait_view, open_view, cells_of, opens_view}
-use Rattle.content_build.specs.Inner.Frames.{node_view}
+use Rattle.content_build.specs.Inner.Frames.{label_view}
 use Rattle.content_build.specs.Inner.Sound.{Stands, IsWaiting}
-use Rattle.content_build.specs.declared.node.Frame.{Frame}
-use Rattle.content_build.specs.declared.node.Opening.{Opening}
+use Rattle.content_build.specs.declared.frame.Frame.{Frame}
+use Rattle.content_build.specs.declared.frame.Opening.{Opening}
 use Rattle.content_build.proofs.Algebra.{arm-value_some, arm-value_none, arm-done, Replaced}
 
 pub length-cells : (es : List Frame) → length (cells_of es) ≡ length es
@@ -20,7 +20,7 @@ length-cells (e ∷ es) = ap suc (length-cells es)
 
 pub cells-set : (es : List Frame) (i : ℕ) (n : ℕ) (x : Frame) → i < length es → x ≡ get_or es i x → cells_of (set es i (record x { size = n })) ≡ with_size (cells_of es) i n
 cells-set [] i n x h e = absurd (omega arith)
-cells-set (e ∷ es) zero n x h g = ap (λ (y : Frame). cell (node_view y.node) n ∷ cells_of es) g
+cells-set (e ∷ es) zero n x h g = ap (λ (y : Frame). cell (label_view y.label) n ∷ cells_of es) g
 cells-set (e ∷ es) (suc i) n x h g = ap (λ l. frame_view e ∷ l) (cells-set es i n x (omega arith) g)
 
 pub cells-push : (es : List Frame) (e : Frame) → cells_of (es ++ e ∷ []) ≡ cells_of es ++ frame_view e ∷ []

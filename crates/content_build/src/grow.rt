@@ -18,7 +18,7 @@ ghost use Rattle.content_build.specs.Inner.Forest.{past_data, past_fields, plant
 ghost use Rattle.content_build.specs.Inner.Forest.{trees_near};
 ghost use Rattle.content_build.specs.Inner.Values.{grown_trees};
 
-use crate::node::{Frame, Node, Sort, leaf_value};
+use crate::frame::{Frame, Label, Sort, leaf_value};
 use crate::parts::with_head;
 use content_ser::Head;
 use content_tree::{CowStr, NamedData, NamedValue};
@@ -281,15 +281,15 @@ fn grow_one<'v, 'n>(
     ensures { IfOk result (λ _. grown_trees grown.new.items
         ≡ plant (frame_view next) (grown_trees grown.old.items)) }
 {
-    let Frame { node, size } = next;
-    match node {
-        Node::Leaf(leaf) => add(grown, leaf_value(leaf), size),
-        Node::Present => grow_present(alloc, grown, size),
-        Node::Seq => grow_seq(alloc, grown, size),
-        Node::Tuple => grow_tuple(alloc, grown, size),
-        Node::Map => grow_map(alloc, grown, size),
-        Node::Struct(sort, name) => { grow_headed(alloc, grown, sort, Head::Struct(name), size) }
-        Node::Variant(sort, index, name, variant) => {
+    let Frame { label, size } = next;
+    match label {
+        Label::Leaf(leaf) => add(grown, leaf_value(leaf), size),
+        Label::Present => grow_present(alloc, grown, size),
+        Label::Seq => grow_seq(alloc, grown, size),
+        Label::Tuple => grow_tuple(alloc, grown, size),
+        Label::Map => grow_map(alloc, grown, size),
+        Label::Struct(sort, name) => { grow_headed(alloc, grown, sort, Head::Struct(name), size) }
+        Label::Variant(sort, index, name, variant) => {
             grow_headed(
                 alloc,
                 grown,
@@ -298,7 +298,7 @@ fn grow_one<'v, 'n>(
                 size,
             )
         }
-        Node::Key(key) => {
+        Label::Key(key) => {
             give_key(grown, key);
             Ok(())
         }

@@ -10,7 +10,7 @@ ghost use Rattle.content_build.specs.Inner.Frames.{cells_of};
 ghost use Rattle.content_build.specs.Inner.Sound.{IsWaiting};
 ghost use Rattle.content_build.specs.Inner.Taken.{TakenTo};
 
-use crate::node::{Frame, Leaf, Node, Opening, Waits};
+use crate::frame::{Frame, Label, Leaf, Opening, Waits};
 use crate::refusal::Taken;
 use crate::room::push_one;
 
@@ -83,7 +83,7 @@ pub(crate) fn settle(frames: &mut Vec<Frame>, openings: &mut Vec<Opening>) -> Ta
                 opening.last = frames.len();
                 opening.waits = Waits::InMap;
                 let placeholder = Frame {
-                    node: Node::Leaf(Leaf::Unit),
+                    label: Label::Leaf(Leaf::Unit),
                     size: 1,
                 };
                 push_one(frames, placeholder)?;

@@ -5,13 +5,13 @@ ghost use Rattle.content_ser.specs.Calls.Head.{head_of};
 ghost use Rattle.content_ser.specs.Grammar.Token as token;
 ghost use Rattle.content_build.specs.Partial.{step_token};
 ghost use Rattle.content_build.specs.Inner.Cells.{cell, flat};
-ghost use Rattle.content_build.specs.Inner.Frames.{node_view, wait_view};
+ghost use Rattle.content_build.specs.Inner.Frames.{label_view, wait_view};
 ghost use Rattle.content_build.specs.Inner.Sound.{meaning, IsSound};
 ghost use Rattle.content_build.specs.Inner.Steps.{IsDue, IsIdle, Opens};
 ghost use Rattle.content_build.specs.Inner.Taken.{TakenTo};
 ghost use Rattle.content_build.specs.Inner.Tokens.{item_call_view, leaf_tree, token_view};
 
-use crate::node::{Frame, Leaf, Node, Opening, Sort, Waits, headed, number_leaf};
+use crate::frame::{Frame, Label, Leaf, Opening, Sort, Waits, headed, number_leaf};
 use crate::parts::{Series, Wrap};
 use crate::refusal::{Refusal, Taken};
 use crate::room::push_one;
@@ -45,19 +45,19 @@ fn is_due(frames: &Vec<Frame>, openings: &Vec<Opening>) -> bool
     }
 }
 
-/// The node of a call whose tree is whole: its text and bytes are copied, its names are not.
+/// The label of a call whose tree is whole: its text and bytes are copied, its names are not.
 #[inline(always)]
-fn whole_node(alloc: Global, leaf: LeafCall<'_>) -> Result<Node, AllocError>
-    ensures { IfOk result (λ node. cell (node_view node) 1 ∷ [] ≡ flat (leaf_tree leaf.entry)) }
+fn whole_label(alloc: Global, leaf: LeafCall<'_>) -> Result<Label, AllocError>
+    ensures { IfOk result (λ label. cell (label_view label) 1 ∷ [] ≡ flat (leaf_tree leaf.entry)) }
 {
     match leaf {
-        LeafCall::Unit => Ok(Node::Leaf(Leaf::Unit)),
-        LeafCall::Bool(v) => Ok(Node::Leaf(Leaf::Bool(v))),
-        LeafCall::Number(v) => Ok(Node::Leaf(number_leaf(alloc, v)?)),
-        LeafCall::Char(v) => Ok(Node::Leaf(Leaf::Char(v))),
-        LeafCall::Text(text) => Ok(Node::Leaf(Leaf::Text(String::from_str(alloc, text)?))),
-        LeafCall::Bytes(bytes) => Ok(Node::Leaf(Leaf::Bytes(bytes.to_vec(alloc)?))),
-        LeafCall::Absent => Ok(Node::Leaf(Leaf::Absent)),
+        LeafCall::Unit => Ok(Label::Leaf(Leaf::Unit)),
+        LeafCall::Bool(v) => Ok(Label::Leaf(Leaf::Bool(v))),
+        LeafCall::Number(v) => Ok(Label::Leaf(number_leaf(alloc, v)?)),
+        LeafCall::Char(v) => Ok(Label::Leaf(Leaf::Char(v))),
+        LeafCall::Text(text) => Ok(Label::Leaf(Leaf::Text(String::from_str(alloc, text)?))),
+        LeafCall::Bytes(bytes) => Ok(Label::Leaf(Leaf::Bytes(bytes.to_vec(alloc)?))),
+        LeafCall::Absent => Ok(Label::Leaf(Leaf::Absent)),
         LeafCall::Head(head) => Ok(headed(Sort::Nothing, head)),
     }
 }
@@ -79,16 +79,16 @@ fn put(
     if !is_due(frames, openings) {
         return Err(Refusal::Misplaced);
     }
-    let node = whole_node(alloc, leaf)?;
-    push_one(frames, Frame { node, size: 1 })?;
+    let label = whole_label(alloc, leaf)?;
+    push_one(frames, Frame { label, size: 1 })?;
     settle(frames, openings)
 }
 
 /// A call that opens a node.
 #[inline(always)]
-fn open(frames: &mut Vec<Frame>, openings: &mut Vec<Opening>, node: Node, waits: Waits) -> Taken
+fn open(frames: &mut Vec<Frame>, openings: &mut Vec<Opening>, label: Label, waits: Waits) -> Taken
     requires { IsSound frames.old.items openings.old.items }
-    ensures { (call : token.Token) → Opens call (node_view node) (wait_view waits)
+    ensures { (call : token.Token) → Opens call (label_view label) (wait_view waits)
         → TakenTo (step_token (meaning frames.old.items openings.old.items) call)
         result frames.new.items openings.new.items }
 {
@@ -96,7 +96,7 @@ fn open(frames: &mut Vec<Frame>, openings: &mut Vec<Opening>, node: Node, waits:
         return Err(Refusal::Misplaced);
     }
     let at = frames.len();
-    push_one(frames, Frame { node, size: 0 })?;
+    push_one(frames, Frame { label, size: 0 })?;
     push_one(openings, Opening { at, last: 0, waits })?;
     Ok(())
 }
@@ -132,8 +132,8 @@ fn announce(frames: &mut Vec<Frame>, openings: &mut Vec<Opening>, item: ItemCall
         ItemCall::Field(key) => match opening.waits {
             Waits::InRecord => {
                 opening.waits = Waits::Field;
-                let node = Node::Key(key);
-                push_one(frames, Frame { node, size: 1 })?;
+                let label = Label::Key(key);
+                push_one(frames, Frame { label, size: 1 })?;
                 Ok(())
             }
             _ => Err(Refusal::Misplaced),
@@ -217,21 +217,21 @@ pub(crate) fn step(
         (step_token (meaning frames.old.items openings.old.items) (token_view call.entry))
         result frames.new.items openings.new.items }
 {
-    let (node, waits) = match call {
+    let (label, waits) = match call {
         Token::Leaf(leaf) => return put(alloc, frames, openings, leaf),
         Token::Item(item) => return announce(frames, openings, item),
         Token::End => return end(frames, openings),
         Token::Wrap(wrap) => match wrap {
-            Wrap::Present => (Node::Present, Waits::Child),
+            Wrap::Present => (Label::Present, Waits::Child),
             Wrap::Head(head) => (headed(Sort::One, head), Waits::Child),
         },
         Token::Series(series) => match series {
-            Series::Seq => (Node::Seq, Waits::InElements),
-            Series::Tuple => (Node::Tuple, Waits::InElements),
+            Series::Seq => (Label::Seq, Waits::InElements),
+            Series::Tuple => (Label::Tuple, Waits::InElements),
             Series::Head(head) => (headed(Sort::Many, head), Waits::InTupleFields),
         },
-        Token::Map => (Node::Map, Waits::InMap),
+        Token::Map => (Label::Map, Waits::InMap),
         Token::Record(head) => (headed(Sort::Fields, head), Waits::InRecord),
     };
-    open(frames, openings, node, waits)
+    open(frames, openings, label, waits)
 }

@@ -2,9 +2,9 @@
 
 ghost use Rattle.content_build.specs.Inner.Sound.{IsKept, IsKept-prop};
 
+use crate::frame::{Frame, Opening};
 use crate::grow::grow;
 use crate::limit::fits;
-use crate::node::{Frame, Opening};
 use crate::refusal::{Refusal, Taken};
 use crate::steps::step;
 use crate::token::Token;

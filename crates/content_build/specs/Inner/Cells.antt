@@ -37,29 +37,29 @@ pub data Leaf : Type 0 where
   octets : Text → Leaf
   deriving IsSet as Leaf-set
 
--- a node without its children, or the key of the field whose node comes next
-pub data Node : Type 0 where
-  leaf : Leaf → Node
-  present : Node
-  seq : Node
-  tuple : Node
-  map : Node
-  headed : Sort → Names → Node
-  key : Text → Node
-  deriving IsSet as Node-set
+-- the label of a node, which is the node without its children, or the key of the field whose node comes next
+pub data Label : Type 0 where
+  leaf : Leaf → Label
+  present : Label
+  seq : Label
+  tuple : Label
+  map : Label
+  headed : Sort → Names → Label
+  key : Text → Label
+  deriving IsSet as Label-set
 
--- a node, and the number of cells of its whole tree, or 0 while it is open
+-- the label of a node, and the number of cells of its whole tree, or 0 while it is open
 pub data Cell : Type 0 where
-  cell : Node → ℕ → Cell
+  cell : Label → ℕ → Cell
   deriving IsSet as Cell-set
 
 -- the number of cells of its whole tree
 abbrev pub cell_size : Cell → ℕ
-cell_size (cell node n) = n
+cell_size (cell label n) = n
 
 -- a finished node with what is inside it
-abbrev pub enclose : Node → List Cell → List Cell
-enclose node inside = cell node (suc (length inside)) ∷ inside
+abbrev pub enclose : Label → List Cell → List Cell
+enclose label inside = cell label (suc (length inside)) ∷ inside
 
 -- what a struct or a variant holds
 abbrev pub sort_of : TreeData → Sort
@@ -131,26 +131,26 @@ abbrev pub names_of : Head → Names
 names_of (calls.of_struct n) = of_struct (static_name n)
 names_of (calls.of_variant n i v) = of_variant (static_name n) i (static_name v)
 
--- the node around one child
-abbrev pub wrap_node : Wrap → Node
-wrap_node token.in_some = present
-wrap_node (token.in_head h) = headed one (names_of h)
+-- the label of the node around one child
+abbrev pub wrap_label : Wrap → Label
+wrap_label token.in_some = present
+wrap_label (token.in_head h) = headed one (names_of h)
 
--- the node of items by place
-abbrev pub series_node : Series → Node
-series_node token.series_seq = seq
-series_node token.series_tuple = tuple
-series_node (token.series_head h) = headed many (names_of h)
+-- the label of the node of items by place
+abbrev pub series_label : Series → Label
+series_label token.series_seq = seq
+series_label token.series_tuple = tuple
+series_label (token.series_head h) = headed many (names_of h)
 
--- the node of fields
-abbrev pub record_node : Head → Node
-record_node h = headed fields (names_of h)
+-- the label of the node of fields
+abbrev pub record_label : Head → Label
+record_label h = headed fields (names_of h)
 
--- the node of an opened compound
-abbrev pub compound_node : Compound → Node
-compound_node (partial.in_series r ts) = series_node r
-compound_node (partial.in_map prs) = map
-compound_node (partial.in_record h fs) = record_node h
+-- the label of an opened compound
+abbrev pub compound_label : Compound → Label
+compound_label (partial.in_series r ts) = series_label r
+compound_label (partial.in_map prs) = map
+compound_label (partial.in_record h fs) = record_label h
 
 -- what is finished in it
 abbrev pub compound_cells : Compound → List Cell
@@ -164,15 +164,15 @@ compound_wait (partial.in_series r ts) = in_series (item_call r)
 compound_wait (partial.in_map prs) = in_map
 compound_wait (partial.in_record h fs) = in_record
 
--- the node of a slot's head
-abbrev pub slot_node : Slot → Node
-slot_node (partial.child w) = wrap_node w
-slot_node (partial.element r ts) = series_node r
-slot_node (partial.key prs) = map
-slot_node (partial.value prs) = map
-slot_node (partial.entry_key prs) = map
-slot_node (partial.entry_value prs k) = map
-slot_node (partial.field_value h fs k) = record_node h
+-- the label of a slot's head
+abbrev pub slot_label : Slot → Label
+slot_label (partial.child w) = wrap_label w
+slot_label (partial.element r ts) = series_label r
+slot_label (partial.key prs) = map
+slot_label (partial.value prs) = map
+slot_label (partial.entry_key prs) = map
+slot_label (partial.entry_value prs k) = map
+slot_label (partial.field_value h fs k) = record_label h
 
 -- what is finished in it, and the key of the field that is due
 abbrev pub slot_cells : Slot → List Cell
@@ -219,7 +219,7 @@ slot_last before (partial.field_value h fs k) = 0
 -- the tape of slots that wait, from the innermost to the outermost
 abbrev pub slots_cells : List Slot → List Cell
 slots_cells [] = []
-slots_cells (p ∷ ps) = slots_cells ps ++ (cell (slot_node p) 0 ∷ slot_cells p)
+slots_cells (p ∷ ps) = slots_cells ps ++ (cell (slot_label p) 0 ∷ slot_cells p)
 
 -- their openings, from the innermost to the outermost
 abbrev pub slots_opens : List Slot → List Open
@@ -229,7 +229,7 @@ slots_opens (p ∷ ps) = opened (length (slots_cells ps)) (slot_last (length (sl
 -- the tape of a partial tree
 abbrev pub cells : Partial → List Cell
 cells (partial.due ps) = slots_cells ps
-cells (partial.between c ps) = slots_cells ps ++ (cell (compound_node c) 0 ∷ compound_cells c)
+cells (partial.between c ps) = slots_cells ps ++ (cell (compound_label c) 0 ∷ compound_cells c)
 cells (partial.done t) = flat t
 
 -- its openings, from the innermost to the outermost
@@ -241,7 +241,7 @@ opens (partial.done t) = []
 -- the cells, with this size at an index
 abbrev pub with_size : List Cell → ℕ → ℕ → List Cell
 with_size [] i n = []
-with_size (cell node m ∷ cs) zero n = cell node n ∷ cs
+with_size (cell label m ∷ cs) zero n = cell label n ∷ cs
 with_size (c ∷ cs) (suc i) n = c ∷ with_size cs i n
 
 -- the tape and its openings stand for slots that wait, with a finished tree behind them

@@ -5,16 +5,16 @@ use Rattle.content_tree.specs.declared.number.Number.TheVariants as num
 use Rattle.content_ser.specs.Grammar.Token.{element, tuple_field}
 use Rattle.content_build.specs.Inner.Cells as cells
 use Rattle.content_build.specs.Inner.Cells.{Cell, cell, Open, opened, Wait}
-use Rattle.content_build.specs.declared.node.Leaf.{Leaf}
-use Rattle.content_build.specs.declared.node.Leaf.TheVariants as leaf
-use Rattle.content_build.specs.declared.node.Sort.{Sort}
-use Rattle.content_build.specs.declared.node.Sort.TheVariants as sort
-use Rattle.content_build.specs.declared.node.Node.{Node}
-use Rattle.content_build.specs.declared.node.Node.TheVariants as node
-use Rattle.content_build.specs.declared.node.Frame.{Frame}
-use Rattle.content_build.specs.declared.node.Waits.{Waits}
-use Rattle.content_build.specs.declared.node.Waits.TheVariants as waits
-use Rattle.content_build.specs.declared.node.Opening.{Opening}
+use Rattle.content_build.specs.declared.frame.Leaf.{Leaf}
+use Rattle.content_build.specs.declared.frame.Leaf.TheVariants as leaf
+use Rattle.content_build.specs.declared.frame.Sort.{Sort}
+use Rattle.content_build.specs.declared.frame.Sort.TheVariants as sort
+use Rattle.content_build.specs.declared.frame.Label.{Label}
+use Rattle.content_build.specs.declared.frame.Label.TheVariants as label
+use Rattle.content_build.specs.declared.frame.Frame.{Frame}
+use Rattle.content_build.specs.declared.frame.Waits.{Waits}
+use Rattle.content_build.specs.declared.frame.Waits.TheVariants as waits
+use Rattle.content_build.specs.declared.frame.Opening.{Opening}
 
 -- a leaf
 abbrev pub leaf_view : Leaf → cells.Leaf
@@ -41,20 +41,20 @@ sort_view sort.One = cells.one
 sort_view sort.Many = cells.many
 sort_view sort.Fields = cells.fields
 
--- a node, or a key
-abbrev pub node_view : Node → cells.Node
-node_view (node.Leaf l) = cells.leaf (leaf_view l)
-node_view node.Present = cells.present
-node_view node.Seq = cells.seq
-node_view node.Tuple = cells.tuple
-node_view node.Map = cells.map
-node_view (node.Struct s n) = cells.headed (sort_view s) (cells.of_struct (static_name n.now))
-node_view (node.Variant s i n v) = cells.headed (sort_view s) (cells.of_variant (static_name n.now) i (static_name v.now))
-node_view (node.Key k) = cells.key (static_name k.now)
+-- a label
+abbrev pub label_view : Label → cells.Label
+label_view (label.Leaf l) = cells.leaf (leaf_view l)
+label_view label.Present = cells.present
+label_view label.Seq = cells.seq
+label_view label.Tuple = cells.tuple
+label_view label.Map = cells.map
+label_view (label.Struct s n) = cells.headed (sort_view s) (cells.of_struct (static_name n.now))
+label_view (label.Variant s i n v) = cells.headed (sort_view s) (cells.of_variant (static_name n.now) i (static_name v.now))
+label_view (label.Key k) = cells.key (static_name k.now)
 
 -- a frame
 abbrev pub frame_view : Frame → Cell
-frame_view e = cell (node_view e.node) e.size
+frame_view e = cell (label_view e.label) e.size
 
 -- what an opening waits for
 abbrev pub wait_view : Waits → Wait

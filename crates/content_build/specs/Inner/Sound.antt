@@ -14,8 +14,8 @@ use Rattle.content_build.specs.Inner.Cells as cells
 use Rattle.content_build.specs.Inner.Cells.{Cell, Open, Stood, Waiting}
 use Rattle.content_build.specs.Inner.Decoding.{decode}
 use Rattle.content_build.specs.Inner.Frames.{cells_of, opens_view}
-use Rattle.content_build.specs.declared.node.Frame.{Frame}
-use Rattle.content_build.specs.declared.node.Opening.{Opening}
+use Rattle.content_build.specs.declared.frame.Frame.{Frame}
+use Rattle.content_build.specs.declared.frame.Opening.{Opening}
 
 -- the partial tree as which they are read
 abbrev pub meaning : List Frame → List Opening → Partial
@@ -50,7 +50,7 @@ Text-set a b p q = λ i j. record {
 }
 
 pub cells_set : IsSet (List Cell)
-cells_set = is_set (cells.Cell-set (cells.Node-set (cells.Leaf-set Bool-set (Coded-set number_row.the_row.coded) ℕ_set Text-set) cells.Sort-set (cells.Names-set Text-set ℕ_set) Text-set) ℕ_set)
+cells_set = is_set (cells.Cell-set (cells.Label-set (cells.Leaf-set Bool-set (Coded-set number_row.the_row.coded) ℕ_set Text-set) cells.Sort-set (cells.Names-set Text-set ℕ_set) Text-set) ℕ_set)
 
 -- whether it is the call of elements
 abbrev is_element : ItemCall → Bool

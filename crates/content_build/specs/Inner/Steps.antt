@@ -2,7 +2,7 @@
 use Rattle.std.specs.Prelude.{◌≡◌, ◌++◌, ◌∷◌, [], List, length, Option}
 use Rattle.content_ser.specs.Grammar.Token.{Token}
 use Rattle.content_build.specs.Partial.{Partial, Slot, due, between, done, begin}
-use Rattle.content_build.specs.Inner.Cells.{Node, cell, Wait, opened, Stood, slots_cells}
+use Rattle.content_build.specs.Inner.Cells.{Label, cell, Wait, opened, Stood, slots_cells}
 use Rattle.content_build.specs.Inner.Cells.{slots_opens, in_series, in_map, in_record}
 
 -- a tree is due
@@ -11,10 +11,10 @@ IsDue (due ps) = Unit {0}
 IsDue (between c ps) = ⊥
 IsDue (done t) = ⊥
 
--- where a tree is due this call opens this node, which waits for this
-abbrev pub Opens : Token → Node → Wait → Type 0
-Opens call node w = (ps : List Slot) → (next : Partial) × (begin ps call ≡ Option.Some next)
-    × Stood (slots_cells ps ++ cell node 0 ∷ []) (opened (length (slots_cells ps)) 0 w ∷ slots_opens ps) next
+-- where a tree is due this call opens a node of this label, which waits for this
+abbrev pub Opens : Token → Label → Wait → Type 0
+Opens call label w = (ps : List Slot) → (next : Partial) × (begin ps call ≡ Option.Some next)
+    × Stood (slots_cells ps ++ cell label 0 ∷ []) (opened (length (slots_cells ps)) 0 w ∷ slots_opens ps) next
 
 -- no slot of the opening waits
 abbrev pub IsIdle : Wait → Type 0

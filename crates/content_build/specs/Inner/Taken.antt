@@ -8,8 +8,8 @@ use Rattle.content_ser.specs.Serializers.Step.{Answer}
 use Rattle.content_build.specs.Limit.{step_within}
 use Rattle.content_build.specs.Partial.{Partial}
 use Rattle.content_build.specs.Inner.Sound.{Stands}
-use Rattle.content_build.specs.declared.node.Frame.{Frame}
-use Rattle.content_build.specs.declared.node.Opening.{Opening}
+use Rattle.content_build.specs.declared.frame.Frame.{Frame}
+use Rattle.content_build.specs.declared.frame.Opening.{Opening}
 use Rattle.content_build.specs.declared.refusal.Refusal.{Refusal}
 use Rattle.content_build.specs.declared.refusal.Refusal.TheVariants as refusal
 

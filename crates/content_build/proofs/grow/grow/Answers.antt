@@ -5,7 +5,7 @@ use Rattle.content_build.specs.Inner.Frames.{cells_of, frame_view}
 use Rattle.content_build.specs.Inner.Forest as forest
 use Rattle.content_build.specs.Inner.Forest.{read, no_key}
 use Rattle.content_build.specs.Inner.Values.{grown_trees}
-use Rattle.content_build.specs.declared.node.Frame.{Frame}
+use Rattle.content_build.specs.declared.frame.Frame.{Frame}
 use Rattle.content_build.specs.declared.grow.Grown.{Grown}
 use Rattle.content_build.proofs.Memory.{nothing, cells-push}
 use Rattle.content_build.proofs.Reading.{read-whole}

@@ -13,7 +13,7 @@ settle-requires c =
     let hs = c.args.openings.now.items in
     let t = leaf_tree c.args.leaf in
     let (ps, e) = the_slots (meaning es hs) (c.if-not-is_due.ensures.0 refl) in
-    (ps, t, waiting_whole ps es c.push_one.new.items.items hs _ t (subst (Stands es hs) e c.requires) c.in_ok-node.ensures refl c.in_ok-push_one.ensures)
+    (ps, t, waiting_whole ps es c.push_one.new.items.items hs _ t (subst (Stands es hs) e c.requires) c.in_ok-label.ensures refl c.in_ok-push_one.ensures)
 
 pub returns : goal.returns
 returns c =
@@ -22,4 +22,4 @@ returns c =
     let t = leaf_tree c.args.leaf in
     let (ps, e) = the_slots (meaning es hs) (c.if-not-is_due.ensures.0 refl) in
     subst (λ s. TakenTo (step_token s (token.leaf t)) c.settle.result c.settle.new.frames.items c.settle.new.openings.items) (sym e)
-    (c.settle.ensures ps t (waiting_whole ps es c.push_one.new.items.items hs _ t (subst (Stands es hs) e c.requires) c.in_ok-node.ensures refl c.in_ok-push_one.ensures))
+    (c.settle.ensures ps t (waiting_whole ps es c.push_one.new.items.items hs _ t (subst (Stands es hs) e c.requires) c.in_ok-label.ensures refl c.in_ok-push_one.ensures))

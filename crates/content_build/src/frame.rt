@@ -1,11 +1,11 @@
-//! Frames of the tape: nodes without their children.
+//! Frames of the tape.
 
 ghost use Rattle.std.specs.Prelude.{◌≡◌, IfOk};
 ghost use Rattle.content_tree.specs.Values.Value.{tree_of};
 ghost use Rattle.content_ser.specs.Calls.Head.{head_of};
 ghost use Rattle.content_build.specs.Inner.Cells as cells;
 ghost use Rattle.content_build.specs.Inner.Cells.{names_of};
-ghost use Rattle.content_build.specs.Inner.Frames.{leaf_view, node_view, sort_view};
+ghost use Rattle.content_build.specs.Inner.Frames.{leaf_view, label_view, sort_view};
 ghost use Rattle.content_build.specs.Inner.Forest.{leaf_tree};
 
 use content_ser::Head;
@@ -42,9 +42,10 @@ pub(crate) enum Sort {
     Fields,
 }
 
-/// A node without its children, or the key of the field whose node comes next.
+/// The label of a node, which is the node without its children, or the key of the field whose node
+/// comes next.
 #[derive(Drop)]
-pub(crate) enum Node {
+pub(crate) enum Label {
     Leaf(Leaf),
     Present,
     Seq,
@@ -55,10 +56,10 @@ pub(crate) enum Node {
     Key(&'static str),
 }
 
-/// A node, with the number of frames of its whole tree, or 0 while it is open.
+/// The label of a node, with the number of frames of the node's whole tree, or 0 while it is open.
 #[derive(Drop)]
 pub(crate) struct Frame {
-    pub(crate) node: Node,
+    pub(crate) label: Label,
     pub(crate) size: usize,
 }
 
@@ -88,14 +89,14 @@ pub(crate) struct Opening {
     pub(crate) waits: Waits,
 }
 
-/// The node of a head that holds this.
+/// The label of a head that holds this.
 #[inline(always)]
-pub(crate) fn headed(sort: Sort, head: Head) -> Node
-    ensures { node_view result ≡ cells.headed (sort_view sort) (names_of (head_of head)) }
+pub(crate) fn headed(sort: Sort, head: Head) -> Label
+    ensures { label_view result ≡ cells.headed (sort_view sort) (names_of (head_of head)) }
 {
     match head {
-        Head::Struct(name) => Node::Struct(sort, name),
-        Head::Variant(name, index, variant) => Node::Variant(sort, index, name, variant),
+        Head::Struct(name) => Label::Struct(sort, name),
+        Head::Variant(name, index, variant) => Label::Variant(sort, index, name, variant),
     }
 }
 
