@@ -5,3 +5,5 @@ pub mod Read
 pub mod Coded
 pub mod Forms
 pub mod Kept
+pub mod Streamed
+pub mod Texts

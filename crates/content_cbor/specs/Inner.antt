@@ -1,2 +1,3 @@
 -- Words of what is private.
 pub mod Reading
+pub mod Output

@@ -1,7 +1,11 @@
 -- What holds of all items.
-use Rattle.std.specs.Prelude.{◌≡◌, ◌≤◌, ℕ, List}
+use Rattle.std.specs.Prelude.{◌≡◌, ◌≤◌, ℕ, List, [], Some}
 use Rattle.content_tree.specs.Values.Tree.{Tree}
+use Rattle.content_ser.specs.Calls.Event.{Event}
+use Rattle.content_ser.specs.Grammar.Spells.{SpellsWhole}
+use Rattle.content_ser.specs.Serializers.Step.{run}
 use Rattle.content_cbor.specs.Codes.{Codes}
+use Rattle.content_cbor.specs.Encoder.{Written, nothing, step}
 use Rattle.content_cbor.specs.Form.{form, depth, CodesForm, Fits}
 use Rattle.content_cbor.specs.Item.{item}
 
@@ -29,3 +33,9 @@ FormsStay = (t : Tree) → form (form t) ≡ form t
 -- a form has the item of its tree
 abbrev pub FormsHaveItems : Type 0
 FormsHaveItems = (t : Tree) → item (form t) ≡ item t
+
+-- the calls of a whole tree, all taken by an encoder, leave the tree's item, which codes the tree's form
+abbrev pub WholeTreesAreEncoded : Type 0
+WholeTreesAreEncoded = (calls : List Event) (t : Tree) (w : Written) → SpellsWhole calls t
+    → run step nothing calls ≡ Some w
+    → (w ≡ record { bytes = item t; due = [] }) × CodesForm t w.bytes

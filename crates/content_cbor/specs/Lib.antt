@@ -2,6 +2,7 @@
 pub mod Heads
 pub mod Item
 pub mod Encoded
+pub mod Encoder
 pub mod Codes
 pub mod Form
 pub mod Laws

@@ -16,11 +16,12 @@ ghost use Rattle.content_cbor.specs.Item.{item, text_item, data_item, each_item,
 ghost use Rattle.content_cbor.specs.Item.{field_items};
 ghost use Rattle.content_ser.specs.Sending.TreeScript.{count, count_pairs, count_fields};
 
+use crate::encoder::Encoder;
 use crate::heads::{Major, write_head};
 use crate::leaves::{write_bool, write_bytes, write_char, write_null, write_number, write_text};
 use content_build::Serializer;
 use content_ser::Serialize;
-use content_tree::{CowStr, NamedData, NamedEnum, NamedValue, Result};
+use content_tree::{CowStr, ErrorKind, NamedData, NamedEnum, NamedValue, Result};
 use std::alloc::{AllocError, Global};
 use std::result::Result as StdResult;
 
@@ -74,6 +75,9 @@ pub fn encode_array<'a, 'n>(alloc: Global, items: &[NamedValue<'a, 'n>]) -> Resu
 
 /// Anything that can be serialised, as one data item: that of the tree which its calls spell.
 ///
+/// Its calls are written as they come, by an [`Encoder`]; where one can't be, they are made again,
+/// into a tree.
+///
 /// # Errors
 ///
 /// The error with which its calls stop; `OutOfMemory`.
@@ -82,6 +86,23 @@ pub fn encode_array<'a, 'n>(alloc: Global, items: &[NamedValue<'a, 'n>]) -> Resu
 /// assert!(rt; to_bytes(alloc, &Some(7u8))?.as_slice() == [0x07].as_slice());
 /// ```
 pub fn to_bytes<T: Serialize>(alloc: Global, value: &T) -> Result<Vec<u8>>
+    ensures { Encoded (T.script value.now false) result }
+{
+    let mut encoder = Encoder::new(alloc);
+    match value.serialize(alloc, &mut encoder) {
+        Ok(()) => Ok(encoder.into_bytes()),
+        Err(error) => {
+            if matches!(error.kind(), ErrorKind::Misplaced) {
+                through_a_tree(alloc, value)
+            } else {
+                Err(error)
+            }
+        }
+    }
+}
+
+/// The same by way of the tree.
+fn through_a_tree<T: Serialize>(alloc: Global, value: &T) -> Result<Vec<u8>>
     ensures { Encoded (T.script value.now false) result }
 {
     let tree = Serializer::new().serialize(alloc, value)?;
@@ -167,7 +188,7 @@ fn write_variant<'a, 'n>(node: &NamedEnum<'a, 'n>, out: &mut Vec<u8>) -> StdResu
 }
 
 /// Appends the head of a map of one pair, and its key.
-fn write_entry_of(name: &str, out: &mut Vec<u8>) -> StdResult<(), AllocError>
+pub(crate) fn write_entry_of(name: &str, out: &mut Vec<u8>) -> StdResult<(), AllocError>
     ensures value { OnOk result (out.new.items ≡ out.old.items
         ++ (head Major.Map 1 ++ text_item name.now)) }
     ensures fits { OnOk result (IsText name.now) }

@@ -2,6 +2,7 @@
 
 ghost use Rattle.content_cbor.specs.Laws.{FormsHaveItems, FormsStay, ItemsCodeForms};
 ghost use Rattle.content_cbor.specs.Laws.{LimitsAreKept, LimitsWiden, OneTree};
+ghost use Rattle.content_cbor.specs.Laws.{WholeTreesAreEncoded};
 
 /// No bytes code two trees.
 pub fn one_tree()
@@ -27,4 +28,10 @@ pub fn limits_are_kept()
 pub fn forms_stay()
     ensures form { FormsStay }
     ensures item { FormsHaveItems }
+{}
+
+/// The calls of a whole tree, all taken by an [`Encoder`](crate::Encoder), leave the tree's item,
+/// which codes the tree's form.
+pub fn whole_trees_are_encoded()
+    ensures { WholeTreesAreEncoded }
 {}

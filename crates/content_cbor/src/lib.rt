@@ -4,6 +4,7 @@
 
 mod decode_error;
 mod decoding;
+mod encoder;
 mod encoding;
 mod heads;
 pub mod laws;
@@ -15,5 +16,6 @@ mod strings;
 
 pub use decode_error::{DecodeError, Fault};
 pub use decoding::decode;
+pub use encoder::Encoder;
 pub use encoding::{encode, encode_array, to_bytes};
 pub use round::round_trip;

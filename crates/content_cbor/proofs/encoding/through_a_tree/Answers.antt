@@ -1,7 +1,7 @@
 use Rattle.std.proofs.Common.{false, Err, subst}
 use Rattle.content_build.specs.Serializer.{Serialized}
 use Rattle.content_cbor.proofs.HandedOn.{handed_on}
-use Rattle.content_cbor.proofs.encoding.to_bytes.Goals as goal
+use Rattle.content_cbor.proofs.encoding.through_a_tree.Goals as goal
 
 pub returns-in_err-tree : goal.returns-in_err-tree
 returns-in_err-tree g c =
