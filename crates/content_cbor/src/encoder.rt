@@ -15,7 +15,7 @@ ghost use Rattle.content_cbor.specs.Item.{bytes_item, text_item};
 use crate::encoding::write_entry_of;
 use crate::heads::{Major, write_head};
 use crate::leaves::{write_bool, write_bytes, write_char, write_null, write_number, write_text};
-use content_ser::{Call, Serializer};
+use content_ser::{Aside, Call, Sent, Serializer};
 use content_tree::{Error, ErrorKind, Number, Result};
 use std::alloc::{AllocError, Global};
 use std::marker::Model;
@@ -31,6 +31,7 @@ pub(crate) struct Output {
 
 impl Output {
     /// Writes what a call says: whether it is in place.
+    #[inline(always)]
     fn write(&mut self, call: &Call<'_>) -> StdResult<bool, AllocError>
         ensures { Wrote (step (written_of self.old) (event_of call.now)) (written_of self.old)
             result (written_of self.new) }
@@ -69,6 +70,7 @@ impl Output {
         }
     }
 
+    #[inline(always)]
     fn null(&mut self) -> StdResult<bool, AllocError>
         ensures { Wrote (writes (token.leaf tree.unit) None (written_of self.old))
             (written_of self.old) result (written_of self.new) }
@@ -77,6 +79,7 @@ impl Output {
         Ok(true)
     }
 
+    #[inline(always)]
     fn bool(&mut self, flag: bool) -> StdResult<bool, AllocError>
         ensures { Wrote (writes (token.leaf (tree.boolean flag)) None (written_of self.old))
             (written_of self.old) result (written_of self.new) }
@@ -85,6 +88,7 @@ impl Output {
         Ok(true)
     }
 
+    #[inline(always)]
     fn number(&mut self, number: Number) -> StdResult<bool, AllocError>
         ensures { Wrote (writes (token.leaf (tree.number number)) None (written_of self.old))
             (written_of self.old) result (written_of self.new) }
@@ -133,6 +137,7 @@ impl Output {
     }
 
     /// An array or a map of so many begins, if it is known of how many.
+    #[inline(always)]
     fn begin(&mut self, major: Major, length: Option<usize>) -> StdResult<bool, AllocError>
         ensures { Wrote (begun major length (written_of self.old)) (written_of self.old) result
             (written_of self.new) }
@@ -162,6 +167,7 @@ impl Output {
     }
 
     /// An item or a pair comes, if one is due.
+    #[inline(always)]
     fn announce(&mut self) -> bool
         ensures { Wrote (announced (written_of self.old)) (written_of self.old) (Ok result)
             (written_of self.new) }
@@ -281,14 +287,26 @@ impl Serializer for Encoder {
     /// allocation failed, `Failed` after either. Memory is taken for the bytes, and for each array
     /// or map that is open.
     fn call(&mut self, call: Call<'_>) -> Result<()> {
+        // In the place of an error before there is one; no answer shows it.
+        let mut error = Error::from(ErrorKind::OutOfMemory);
+        match self.call_aside(call, &mut error) {
+            Ok(()) => Ok(()),
+            Err(Aside) => Err(error),
+        }
+    }
+
+    #[inline(always)]
+    fn call_aside(&mut self, call: Call<'_>, error: &mut Error) -> Sent {
         if self.failed {
-            return Err(Error::from(ErrorKind::Failed));
+            *error = Error::from(ErrorKind::Failed);
+            return Err(Aside);
         }
         match self.output.write(&call) {
-            Ok(true) => Ok(()),
-            Ok(false) => Err(self.fail(ErrorKind::Misplaced)),
-            Err(AllocError) => Err(self.fail(ErrorKind::OutOfMemory)),
+            Ok(true) => return Ok(()),
+            Ok(false) => *error = self.fail(ErrorKind::Misplaced),
+            Err(AllocError) => *error = self.fail(ErrorKind::OutOfMemory),
         }
+        Err(Aside)
     }
 
     fn is_human_readable(&self) -> bool {

@@ -20,8 +20,8 @@ use crate::encoder::Encoder;
 use crate::heads::{Major, write_head};
 use crate::leaves::{write_bool, write_bytes, write_char, write_null, write_number, write_text};
 use content_build::Serializer;
-use content_ser::Serialize;
-use content_tree::{CowStr, ErrorKind, NamedData, NamedEnum, NamedValue, Result};
+use content_ser::{Aside, Serialize};
+use content_tree::{CowStr, Error, ErrorKind, NamedData, NamedEnum, NamedValue, Result};
 use std::alloc::{AllocError, Global};
 use std::result::Result as StdResult;
 
@@ -89,9 +89,11 @@ pub fn to_bytes<T: Serialize>(alloc: Global, value: &T) -> Result<Vec<u8>>
     ensures { Encoded (T.script value.now false) result }
 {
     let mut encoder = Encoder::new(alloc);
-    match value.serialize(alloc, &mut encoder) {
+    // In the place of an error before there is one; no answer shows it.
+    let mut error = Error::from(ErrorKind::OutOfMemory);
+    match value.serialize_aside(alloc, &mut encoder, &mut error) {
         Ok(()) => Ok(encoder.into_bytes()),
-        Err(error) => {
+        Err(Aside) => {
             if matches!(error.kind(), ErrorKind::Misplaced) {
                 through_a_tree(alloc, value)
             } else {

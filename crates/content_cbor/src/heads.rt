@@ -1,6 +1,6 @@
 //! The heads of data items.
 
-ghost use Rattle.std.specs.Prelude.{◌≡◌, ◌++◌, ◌*◌, OnOk, IfSome, IfNone, drop, true, false};
+ghost use Rattle.std.specs.Prelude.{◌≡◌, ◌≤◌, ◌++◌, ◌*◌, OnOk, IfSome, IfNone, drop, true, false};
 ghost use Rattle.content_cbor.specs.Heads.{code, head};
 ghost use Rattle.content_cbor.specs.Inner.Reading.{Gives, argument_at, at_break, head_at};
 ghost use Rattle.content_cbor.specs.Inner.Reading.{major_of, number_at};
@@ -49,6 +49,7 @@ impl Major {
     }
 
     /// The first byte of its heads, with the five low bits at 0.
+    #[inline(always)]
     fn first_byte(self) -> u8
         ensures { result ≡ 32 * code self }
     {
@@ -73,14 +74,28 @@ pub(crate) struct Head {
 }
 
 /// Appends a head, in as few bytes as can be.
+#[inline(always)]
 #[tactic(auto, unfolding(crate::specs::Heads::head))]
 pub(crate) fn write_head(out: &mut Vec<u8>, major: Major, number: u64) -> Result<(), AllocError>
     ensures { OnOk result (out.new.items ≡ out.old.items ++ head major number) }
 {
-    let first = major.first_byte();
     if number < 24 {
-        out.push(first + number as u8)?;
-    } else if number < 0x100 {
+        out.push(major.first_byte() + number as u8)?;
+        Ok(())
+    } else {
+        write_long_head(out, major, number)
+    }
+}
+
+/// Appends a head whose number stands behind its first byte.
+#[inline(never)]
+#[tactic(auto, unfolding(crate::specs::Heads::head))]
+fn write_long_head(out: &mut Vec<u8>, major: Major, number: u64) -> Result<(), AllocError>
+    requires { 24 ≤ number }
+    ensures { OnOk result (out.new.items ≡ out.old.items ++ head major number) }
+{
+    let first = major.first_byte();
+    if number < 0x100 {
         out.push(first + 24)?;
         out.push(number as u8)?;
     } else if number < 0x1_0000 {

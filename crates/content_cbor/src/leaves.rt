@@ -53,6 +53,7 @@ pub(crate) fn write_char(character: char, out: &mut Vec<u8>) -> Result<(), Alloc
 }
 
 /// Appends a number, whatever its kind.
+#[inline(always)]
 pub(crate) fn write_number(number: Number, out: &mut Vec<u8>) -> Result<(), AllocError>
     ensures value { OnOk result (out.new.items ≡ out.old.items
         ++ number_item (number_value number)) }
@@ -73,6 +74,7 @@ pub(crate) fn write_number(number: Number, out: &mut Vec<u8>) -> Result<(), Allo
 }
 
 /// Appends a signed number.
+#[inline(always)]
 fn write_signed(number: i128, out: &mut Vec<u8>) -> Result<(), AllocError>
     ensures value { OnOk result (out.new.items ≡ out.old.items ++ number_item number) }
     ensures fits { IsInRange number }
@@ -86,6 +88,7 @@ fn write_signed(number: i128, out: &mut Vec<u8>) -> Result<(), AllocError>
 }
 
 /// Appends a number from 0.
+#[inline(always)]
 fn write_unsigned(number: u128, out: &mut Vec<u8>) -> Result<(), AllocError>
     ensures value { OnOk result (out.new.items ≡ out.old.items ++ number_item (pos number)) }
     ensures fits { IsInRange (pos number) }
@@ -100,6 +103,7 @@ fn write_unsigned(number: u128, out: &mut Vec<u8>) -> Result<(), AllocError>
 }
 
 /// Appends -1 less this number.
+#[inline(always)]
 fn write_negative(number: u128, out: &mut Vec<u8>) -> Result<(), AllocError>
     ensures { OnOk result (out.new.items ≡ out.old.items ++ number_item (negsuc number)) }
 {
