@@ -61,7 +61,7 @@ fn read_items<'de, 'n: 'de, T: Deserialize<'de>>(
 {
     let mut items = Vec::with_capacity(alloc, from.size_hint().unwrap_or(0))?;
     while let Some(item) = from.next_deserializer() {
-        items.push(T::deserialize(alloc, item)?)?;
+        items.push_reserved(T::deserialize(alloc, item)?);
     }
     Ok(items)
 }

@@ -44,7 +44,7 @@ fn read_entries<'de, 'n: 'de, K: Deserialize<'de> + Ord, V: Deserialize<'de>>(
     while let Some(entry) = from.take_entry() {
         let key = K::deserialize(alloc, entry.0)?;
         let value = V::deserialize(alloc, entry.1)?;
-        entries.push((key, value))?;
+        entries.push_reserved((key, value));
     }
     Ok(entries)
 }
