@@ -3,8 +3,8 @@
 use crate::nodes::{bytes, enumeration, fields, items, map, one, owned_text, places, structure};
 use crate::tally::{Made, Tally};
 use crate::values::ascend;
-use serde_content::de::{IntoDeserializer, Map, Seq};
-use serde_content::{CowStr, Data, Deserializer, Number, Result, Value, ValueVisitor};
+use serde_content::de::{IntoDeserializer, Map, Seq, attempt_fitting};
+use serde_content::{CowStr, Data, Deserializer, Expected, Number, Result, Value, ValueVisitor};
 use std::alloc::Global;
 
 /// What reads a value.
@@ -18,6 +18,7 @@ pub fn run(tally: &mut Tally, alloc: Global) -> Made<()> {
     texts(tally, alloc)?;
     octets(tally, alloc)?;
     typed(tally, alloc)?;
+    tries(tally, alloc)?;
     structs(tally, alloc)?;
     sequences(tally, alloc)?;
     maps(tally, alloc)
@@ -92,6 +93,17 @@ fn typed(tally: &mut Tally, alloc: Global) -> Made<()> {
     let items = Value::Tuple(vec![in alloc; true.into(), owned_text(alloc)?]?);
     let tuple: Result<(bool, String)> = reads(items).deserialize(alloc);
     tally.succeeds("the read of a tuple", tuple);
+    Ok(())
+}
+
+fn tries(tally: &mut Tally, alloc: Global) -> Made<()> {
+    let text = reads(owned_text(alloc)?);
+    let flag: Result<Option<bool>> = attempt_fitting(alloc, &text, &Expected::Bool);
+    tally.promised("a refused try of a boolean", matches!(flag, Ok(None)));
+    let number: Result<Option<u8>> = attempt_fitting(alloc, &text, &Expected::U8);
+    tally.promised("a refused try of a number", matches!(number, Ok(None)));
+    let pair: Result<Option<(u8, u8)>> = attempt_fitting(alloc, &text, &Expected::Tuple(2));
+    tally.promised("a refused try of a tuple", matches!(pair, Ok(None)));
     Ok(())
 }
 

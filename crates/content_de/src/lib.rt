@@ -8,6 +8,7 @@ mod coerce;
 mod deserialize;
 mod deserializer;
 mod enum_access;
+mod fits;
 mod impls;
 mod into;
 pub mod laws;
@@ -27,7 +28,7 @@ mod source;
 mod unknown_names;
 mod variant_access;
 
-pub use attempts::attempt;
+pub use attempts::{attempt, attempt_fitting};
 pub use by_name::FieldsByName;
 pub use deserialize::Deserialize;
 pub use deserializer::Deserializer;
