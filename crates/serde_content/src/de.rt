@@ -1,5 +1,8 @@
 //! Reading: what a value is read by, and what can be read.
 
+pub use crate::choosing::{
+    OneOfFour, OneOfThree, OneOfTwo, first_of_four, first_of_three, first_of_two,
+};
 pub use crate::taking::{read_five, read_four, read_one, read_six, read_three, read_two};
 pub use content_de::{
     Deserialize, EnumAccess, FieldsByName, IntoDeserializer, Map, Node, Seq, VariantAccess,

@@ -14,6 +14,7 @@ pub use content_tree::{
 pub use round::{RoundTrip, round_trip};
 pub use values::{from_value, to_value};
 
+mod choosing;
 pub mod de;
 pub mod laws;
 mod literals;
