@@ -12,7 +12,7 @@ use Rattle.serde_content.specs.Names.Words.{SpellsWithin, IsWholeWithin, IsViabl
 use Rattle.serde_content.specs.Names.Words.{IsRefusalWithin}
 use Rattle.serde_content.specs.Names.ErrorKind.{Unexpected, Custom, OutOfMemory, Misplaced, Failed}
 use Rattle.serde_content.specs.Names.ErrorKind.{Unfinished}
-use Rattle.content_cli.specs.Lines.{limit_of, body_of, first_bad, calls_of}
+use Rattle.content_lines.specs.Lines.{limit_of, body_of, first_bad, calls_of}
 use Rattle.content_cli.specs.Answers.{Earns, EarnsStatus}
 use Rattle.content_cli.specs.declared.answer.Answer.{Answer}
 

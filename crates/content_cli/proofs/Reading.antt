@@ -9,9 +9,9 @@ use Rattle.std.specs.Option.{option_to_list}
 use denote.Ref.{Bor}
 use Rattle.serde_content.specs.Names.Words.{Event, seen_of, HasTaken, Builder, AnswersNext, Error}
 use Rattle.serde_content.specs.Names.Words.{kind_of, CallsError, IsRefusalWithin}
-use Rattle.content_cli.specs.Lines.{is_bad, is_blank, lines_of, first_bad, calls_of}
+use Rattle.content_lines.specs.Lines.{is_bad, is_blank, lines_of, first_bad, calls_of}
 use Rattle.content_cli.specs.Verdicts.{AnswersLine, IsVerdict, IsRefusedWithin}
-use Rattle.content_cli.specs.Words.{event_in}
+use Rattle.content_lines.specs.Words.{event_in}
 use Rattle.content_cli.specs.declared.calls.Verdict.{Verdict}
 use Rattle.content_cli.specs.declared.calls.Verdict.TheVariants.{BadLine, Taken, Refused}
 

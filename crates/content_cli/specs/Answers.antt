@@ -5,7 +5,7 @@ use Rattle.std.specs.Io.KnownBytes.{Appends}
 use Rattle.serde_content.specs.Names.Words.{Tree, image, printed, kind_text, ErrorKind, SpellsWithin}
 use Rattle.serde_content.specs.Names.Words.{IsWholeWithin, IsRefusalWithin}
 use Rattle.serde_content.specs.Names.ErrorKind.{OutOfMemory}
-use Rattle.content_cli.specs.Lines.{limit_of, body_of, first_bad, calls_of}
+use Rattle.content_lines.specs.Lines.{limit_of, body_of, first_bad, calls_of}
 
 -- some line is no call, nor a first one that sets a limit: the first of them is named, counted from 1
 pub record IsBad (input line : List ℕ) (status : ℕ) : Type 0 where

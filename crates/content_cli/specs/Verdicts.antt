@@ -4,7 +4,7 @@ use Rattle.std.specs.Prelude.{Result, Ok, Err}
 use Rattle.serde_content.specs.Names.Words.{Event, seen_of, HasTaken, IsRefusalWithin, CallsError, Builder}
 use Rattle.serde_content.specs.Names.Words.{kind_of, Error}
 use Rattle.serde_content.specs.Names.ErrorKind.{OutOfMemory}
-use Rattle.content_cli.specs.Lines.{calls_of, first_bad}
+use Rattle.content_lines.specs.Lines.{calls_of, first_bad}
 use Rattle.content_cli.specs.declared.calls.Verdict.{Verdict}
 use Rattle.content_cli.specs.declared.calls.Verdict.TheVariants.{BadLine, Taken, Refused}
 

@@ -8,11 +8,11 @@ ghost use Rattle.serde_content.specs.Names.Words.{image, kind_of, printed, error
 ghost use Rattle.serde_content.specs.Names.Words.{seen_of, HasTaken};
 ghost use Rattle.serde_content.specs.Names.ErrorKind.{OutOfMemory};
 ghost use Rattle.content_cli.specs.Answers.{Earns, EarnsStatus};
-ghost use Rattle.content_cli.specs.Lines.{limit_of, body_of, first_bad, calls_of};
+ghost use Rattle.content_lines.specs.Lines.{limit_of, body_of, first_bad, calls_of};
 ghost use Rattle.content_cli.specs.Verdicts.{IsVerdict};
 
 use crate::calls::{Verdict, read_calls};
-use crate::limit::split_limit;
+use content_lines::split_limit;
 use serde_content::ser::{Builder, CallsError};
 use serde_content::{ErrorKind, Value};
 use std::alloc::{AllocError, Global};

@@ -1,20 +1,19 @@
 //! From lines to calls.
 
 ghost use Rattle.std.specs.Prelude.{ℕ, ◌≡◌, ◌≤◌, ◌+◌, ◌^◌, ◌-◌, List, [], length, Option};
-ghost use Rattle.std.specs.Prelude.{MatchOption, IfOk};
-ghost use Rattle.serde_content.specs.Names.Words.{event_of, Event, seen_of, HasTaken, IsLimit};
+ghost use Rattle.std.specs.Prelude.{MatchOption};
+ghost use Rattle.serde_content.specs.Names.Words.{Event, seen_of, HasTaken, IsLimit};
 ghost use Rattle.serde_content.specs.Names.Aside.{answer_of};
-ghost use Rattle.content_cli.specs.Lines.{first_bad};
+ghost use Rattle.content_lines.specs.Lines.{first_bad};
 ghost use Rattle.content_cli.specs.Verdicts.{AnswersLine, IsVerdict};
-ghost use Rattle.content_cli.specs.Views.{line_event};
+ghost use Rattle.content_lines.specs.Views.{line_event};
 ghost use Rattle.content_cli.specs.declared.calls.Verdict.TheVariants.{BadLine, Refused};
 
-use crate::hex;
-use crate::line::{Line, first_bad_line, read_printable, split_line};
+use content_lines::{Line, first_bad_line, read_printable, split_line};
 use serde_content::laws::steps_are_exact;
-use serde_content::ser::{Aside, Builder, Call, CallsError, Sent, Serializer};
-use serde_content::{CowBytes, Error, ErrorKind};
-use std::alloc::{AllocError, Global};
+use serde_content::ser::{Aside, Builder, CallsError, Sent, Serializer};
+use serde_content::{Error, ErrorKind};
+use std::alloc::Global;
 
 /// What lines of calls come to.
 #[derive(Drop)]
@@ -26,16 +25,6 @@ pub enum Verdict<'v> {
     Taken(Builder<'v>, usize),
     /// No line is bad, and a call was refused.
     Refused(CallsError),
-}
-
-/// The call that a line says. Its text is borrowed from the line; bytes take memory.
-pub fn make_call<'a>(alloc: Global, line: Line<'a>) -> Result<Call<'a>, AllocError>
-    ensures { IfOk result (λ call. event_of call ≡ line_event line.entry) }
-{
-    match line {
-        Line::Call(call) => Ok(call),
-        Line::Bytes(digits) => Ok(Call::Bytes(CowBytes::Owned(hex::decode(alloc, digits)?))),
-    }
 }
 
 /// A builder that took no call, within the limit where there is one.
@@ -58,7 +47,7 @@ fn take_line(alloc: Global, builder: &mut Builder<'_>, line: Line<'_>, error: &m
         builder.new }
 {
     steps_are_exact();
-    match make_call(alloc, line) {
+    match line.into_call(alloc) {
         Ok(call) => builder.call_aside(call, error),
         Err(refused) => {
             *error = Error::from(refused);

@@ -4,16 +4,10 @@
 
 mod answer;
 mod calls;
-mod forms;
 mod gather;
-mod hex;
-mod limit;
-mod line;
-mod numbers;
 mod port;
 mod ports;
 mod run;
-mod words;
 mod write;
 
 use port::Port;

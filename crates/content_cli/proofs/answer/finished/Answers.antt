@@ -1,6 +1,6 @@
 use Rattle.std.proofs.Common.{refl, sym, subst}
 use Rattle.serde_content.specs.Names.Words.{kind_of, tree_of, IsRefusalWithin}
-use Rattle.content_cli.specs.Lines.{limit_of, body_of, calls_of}
+use Rattle.content_lines.specs.Lines.{limit_of, body_of, calls_of}
 use Rattle.content_cli.proofs.Earned.{taken_earns, refused_earns}
 use Rattle.content_cli.proofs.answer.finished.Goals as goal
 

@@ -1,6 +1,6 @@
 use Rattle.std.proofs.Common.{refl}
 use Rattle.serde_content.specs.Names.Words.{kind_of}
-use Rattle.content_cli.specs.Lines.{body_of, calls_of}
+use Rattle.content_lines.specs.Lines.{body_of, calls_of}
 use Rattle.content_cli.proofs.Earned.{refused_earns, answer_status}
 use Rattle.content_cli.proofs.answer.make_answer.Goals as goal
 

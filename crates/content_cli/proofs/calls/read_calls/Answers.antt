@@ -1,7 +1,7 @@
 use Rattle.std.proofs.Common.{◌≡◌, ◌+◌, ◌-◌, ◌<◌, rules, tests, length, MatchOption, refl, sym, subst}
-use Rattle.content_cli.specs.Lines.{first_bad}
+use Rattle.content_lines.specs.Lines.{first_bad}
 use Rattle.content_cli.specs.Verdicts.{IsVerdict}
-use Rattle.content_cli.specs.Views.{line_event}
+use Rattle.content_lines.specs.Views.{line_event}
 use Rattle.content_cli.proofs.Reading.{none_read, cut_lines, cut_bytes, bad_begins, after_blank}
 use Rattle.content_cli.proofs.Reading.{after_call, renamed, refused_here, to_next, to_end, refused_or_bad}
 use Rattle.content_cli.proofs.Reading.{lines_in, bad_from, HasReadTo}

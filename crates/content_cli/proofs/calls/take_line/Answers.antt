@@ -1,7 +1,7 @@
 use Rattle.std.proofs.Common.{subst}
 use Rattle.serde_content.specs.Names.Aside.{answer_of}
 use Rattle.serde_content.specs.Names.Words.{AnswersNext, event_of, seen_of}
-use Rattle.content_cli.specs.Views.{line_event}
+use Rattle.content_lines.specs.Views.{line_event}
 use Rattle.content_cli.proofs.Reading.{answers_line}
 use Rattle.content_cli.proofs.calls.take_line.Goals as goal
 

@@ -1,9 +1,0 @@
-use Rattle.std.proofs.Common.{◌≡◌, ◌++◌, length}
-use Rattle.content_cli.specs.Numerals.{unhex}
-use Rattle.content_cli.proofs.hex.decode.Given as goal
-
-abbrev pub invariant-pairs : goal.invariant-pairs
-invariant-pairs l = l.bytes.items ++ unhex l.rest ≡ unhex l.text
-
-abbrev pub decreases-pairs : goal.decreases-pairs
-decreases-pairs l = length l.rest

@@ -1,5 +1,0 @@
-use Rattle.content_cli.proofs.Texts.{printable_text}
-use Rattle.content_cli.proofs.line.as_text.Goals as goal
-
-pub returns : goal.returns
-returns c h = rw c.ok.ensures.value (printable_text _ c.args.line.now c.from_utf8.result c.from_utf8.ensures.cases h)

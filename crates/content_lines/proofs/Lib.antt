@@ -1,0 +1,4 @@
+pub mod Cutting
+pub mod Limiting
+pub mod Parsed
+pub mod Texts

@@ -1,0 +1,5 @@
+pub mod Numerals
+pub mod Forms
+pub mod Words
+pub mod Lines
+pub mod Views
