@@ -7,6 +7,7 @@ from .holder import Holder, sending
 from .text import DESERIALIZE, SERIALIZE, all_hold, arm, bracketed, codes, elim, facts, function, ghost
 from .text import together
 from .types import READ, nest
+from .words import CHOICES, PLACES
 
 
 class UntaggedWriter(EnumWriter):
@@ -52,19 +53,34 @@ class UntaggedWriter(EnumWriter):
 
     def deserialize(self) -> List[str]:
         refusals = [f"({v.held().member(READ, 'refusal')} s)" for v in self.item.variants]
-        gives, tries = [], []
+        gives = []
         for place, v in enumerate(self.item.variants):
             values = together(self.values(v.data))
             before = "".join(f"IsSome {refusal} ×\n" for refusal in refusals[:place])
             gives.append(f"{before}IsTakenAs {refusals[place]} ({v.held().member(READ, 'gives')} s) {values}")
-            tries += [f"if let Some({together(v.data.places())}) = attempt::<{v.held().rust()}>(alloc, &from)? {{",
-                      f"return Ok({self.making(v)(v.data.places())});", "}"]
         given = iter(gives)
         refused = nest([f"or_next {refusal}" for refusal in refusals], f"(Some (custom {codes(self.last)}))")
         return [ghost("refusal", f"λ s.{refused}"),
                 ghost("gives", "λ s. " + self.each(lambda v, holder, x: next(given))),
-                function(DESERIALIZE.format(self.item.name), *tries,
-                         f'Err(Error::custom(alloc, "{self.last}"))')]
+                function(DESERIALIZE.format(self.item.name), *self.tries())]
+
+    def tries(self) -> List[str]:
+        """The statements that try the variants: those before the last four one by one, and the
+        others in one call, which takes the source."""
+        start = max(len(self.item.variants) - len(PLACES), 0) if len(self.item.variants) > 1 else 1
+        alone, rest = self.item.variants[:start], self.item.variants[start:]
+        lines = [line for v in alone for line in (
+            f"if let Some({together(v.data.places())}) = attempt::<{v.held().rust()}>(alloc, &from)? {{",
+            f"return {self.given(v)};", "}")]
+        if not rest:
+            return lines + [f'Err(Error::custom(alloc, "{self.last}"))']
+        first, one = CHOICES[len(rest) - 2]
+        types = ", ".join(v.held().rust() for v in rest)
+        arms = [arm(f"{one}::{place}({together(v.data.places())})", [self.given(v)]) for place, v in zip(PLACES, rest)]
+        return lines + [f'match {first}::<{types}>(alloc, from, "{self.last}")? {{', *arms, "}"]
+
+    def given(self, v: Variant) -> str:
+        return f"Ok({self.making(v)(v.data.places())})"
 
     def place(self, v: Variant) -> int:
         return self.item.variants.index(v)

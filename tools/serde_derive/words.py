@@ -75,9 +75,12 @@ std.specs.declared.collections.BTreeMap BTreeMap
 """)
 COUNTS = "one two three four five six seven eight".split()
 SENDERS, READERS = [f"send_{count}" for count in COUNTS], [f"read_{count}" for count in COUNTS[:6]]
+PLACES = "First Second Third Fourth".split()
+CHOICES = [(f"first_of_{count}", f"OneOf{count.title()}") for count in COUNTS[1:len(PLACES)]]
 USES = {
     "serde_content": "CowStr Deserializer Error Result RoundTrip",
-    "serde_content::de": "Deserialize FieldsByName attempt end_fields field_or named_field next_part"
+    "serde_content::de": f"Deserialize FieldsByName {' '.join(sorted(one for _, one in CHOICES))} attempt end_fields"
+                         f" field_or {' '.join(sorted(first for first, _ in CHOICES))} named_field next_part"
                          f" {' '.join(sorted(READERS))} skip_fields tag_field two_parts unknown_variant",
     "serde_content::ser": f"Call Parts Serialize Serializer {' '.join(sorted(SENDERS))}",
     "std::alloc": "Global",

@@ -48,10 +48,11 @@ ghost use Rattle.check_derive.specs.declared.choices.Setting.TheVariants as sett
 ghost use Rattle.check_derive.specs.declared.choices.Steps.TheVariants as steps;
 
 use serde_content::de::{
-    Deserialize, FieldsByName, attempt, read_two, skip_fields, tag_field, unknown_variant,
+    Deserialize, FieldsByName, OneOfFour, OneOfTwo, first_of_four, first_of_two, read_two,
+    skip_fields, tag_field, unknown_variant,
 };
 use serde_content::ser::{Call, Serialize, Serializer, send_one, send_three, send_two};
-use serde_content::{Deserializer, Error, Result, RoundTrip};
+use serde_content::{Deserializer, Result, RoundTrip};
 use std::alloc::Global;
 
 /// A command, told by the field `kind`.
@@ -402,22 +403,16 @@ impl<'de> Deserialize<'de> for Setting {
     ] };
 
     fn deserialize<'n: 'de>(alloc: Global, from: Deserializer<'de, 'n>) -> Result<Setting> {
-        if let Some(x1) = attempt::<bool>(alloc, &from)? {
-            return Ok(Setting::Flag(x1));
-        }
-        if let Some(x1) = attempt::<i32>(alloc, &from)? {
-            return Ok(make_setting_level(x1));
-        }
-        if let Some((x1, x2)) = attempt::<(u8, u8)>(alloc, &from)? {
-            return Ok(Setting::Range(x1, x2));
-        }
-        if let Some(x1) = attempt::<String>(alloc, &from)? {
-            return Ok(Setting::Name(x1));
-        }
-        Err(Error::custom(
+        match first_of_four::<bool, i32, (u8, u8), String>(
             alloc,
+            from,
             "data did not match any variant of untagged enum Setting",
-        ))
+        )? {
+            OneOfFour::First(x1) => Ok(Setting::Flag(x1)),
+            OneOfFour::Second(x1) => Ok(make_setting_level(x1)),
+            OneOfFour::Third((x1, x2)) => Ok(Setting::Range(x1, x2)),
+            OneOfFour::Fourth(x1) => Ok(Setting::Name(x1)),
+        }
     }
 }
 
@@ -606,15 +601,13 @@ impl<'de> Deserialize<'de> for Steps {
     ] };
 
     fn deserialize<'n: 'de>(alloc: Global, from: Deserializer<'de, 'n>) -> Result<Steps> {
-        if let Some((x1, x2)) = attempt::<(u8, u8)>(alloc, &from)? {
-            return Ok(Steps::Pair(x1, x2));
-        }
-        if let Some(x1) = attempt::<Vec<u8>>(alloc, &from)? {
-            return Ok(Steps::List(x1));
-        }
-        Err(Error::custom(
+        match first_of_two::<(u8, u8), Vec<u8>>(
             alloc,
+            from,
             "data did not match any variant of untagged enum Steps",
-        ))
+        )? {
+            OneOfTwo::First((x1, x2)) => Ok(Steps::Pair(x1, x2)),
+            OneOfTwo::Second(x1) => Ok(Steps::List(x1)),
+        }
     }
 }
