@@ -4,6 +4,7 @@ use check_derive::choices::{Command, Setting};
 use check_derive::inlined::{Amount, Change, Line};
 use check_derive::sorts::{Message, Stop};
 use check_derive::types::{Order, Place, Step};
+use content_cbor::to_bytes;
 use serde_content::{Deserializer, Result as Answer, Serializer, Value, round_trip};
 use std::alloc::Global;
 use std::collections::BTreeMap;
@@ -122,6 +123,9 @@ fn inlined_fields_stand_among_the_others(rt: HostRuntime) -> Result<(), Fail> {
             == "{ \"goods\": \"nuts\", \"count\": -3i32, \"unit\": None, \"price\": 20u64 }"
     );
     assert!(rt; round_trip(alloc, &line, false, false)? == line);
+    // Keys that are sent apart from their values are encoded by way of a tree.
+    let wanted = b"\xa4\x65goods\x64nuts\x65count\x22\x64unit\xf6\x65price\x14";
+    assert!(rt; to_bytes(alloc, &line)?.as_slice() == wanted.as_slice());
     let more = Change::Add(line.amount);
     let value = Serializer::new().serialize(alloc, &more)?;
     let shown = format!(in alloc; "{}", value.display())?;
