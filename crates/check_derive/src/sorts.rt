@@ -57,7 +57,7 @@ use std::alloc::Global;
 use std::collections::BTreeMap;
 
 /// Nothing.
-#[derive(Drop, Debug, PartialEq, Eq)]
+#[derive(Drop, PartialEq, Eq)]
 pub struct Marker;
 
 impl Serialize for Marker {

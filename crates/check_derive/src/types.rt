@@ -70,7 +70,7 @@ use std::alloc::Global;
 use std::collections::BTreeMap;
 
 /// Where a parcel goes.
-#[derive(Drop, PartialEq, Eq)]
+#[derive(Drop, Debug, PartialEq, Eq)]
 pub struct Place {
     /// The street, with the number.
     pub street_name: String,
@@ -180,7 +180,7 @@ impl<'de> RoundTrip<'de> for Place {
 }
 
 /// What becomes of an order.
-#[derive(Drop, PartialEq, Eq)]
+#[derive(Drop, Debug, PartialEq, Eq)]
 pub enum Step {
     /// Nothing yet.
     Open,
@@ -457,7 +457,7 @@ impl<'de> RoundTrip<'de> for Step {
 }
 
 /// An order.
-#[derive(Drop, PartialEq, Eq)]
+#[derive(Drop, Debug, PartialEq, Eq)]
 pub struct Order {
     /// Its number.
     pub id: u64,
