@@ -9,7 +9,7 @@
 #   of this one. Its crate is crates/shapes, byte for byte, and each line of its crates.txt stands in ours: so what
 #   `rt ci` proved is what a reader gets. Its tests run there, unproved, by the command that the page gives.
 # - The program, run on the lines of each example, gives the answer that stands beside them; so do the commands after a $.
-# It stands on what `rt ci` leaves in crates/content_cli/out, needs python3, and takes two processor minutes.
+# It stands on what `rt ci` leaves in crates/content_cli/out and crates/cbor_cli/out, needs python3, and takes two processor minutes.
 set -eu
 top=$(cd "$(dirname "$0")/.." && pwd)
 room=$(mktemp -d)

@@ -1,7 +1,7 @@
 #!/usr/bin/env bash
 # checks/refused_memory.sh [FOLDER]: runs the programs that `rt ci` leaves in crates/*/out, or those
-# of FOLDER, on small inputs whose answers are stored (checks/refused/lines, crates/*/stdin and
-# stdout): with ample memory; once for each allocation, refused, and once for each from which on
+# of FOLDER, on small inputs whose answers are stored (checks/refused/lines and calls, crates/*/stdin
+# and stdout): with ample memory; once for each allocation, refused, and once for each from which on
 # all are; once for each read and each write, failed; and with all reads or writes short. A run
 # must end in the stored answer, one with a refusal in that or in `out of memory`, one with a
 # failure in the answer to that; and leave no block unfreed.

@@ -149,24 +149,30 @@ def some_rows():
 
 
 def short_lines():
-    """The short lines of the program that prints what CBOR codes, each with its answer."""
-    stored = [contents(f"{top}/crates/cbor_cli/{name}") for name in ("stdin", "stdout")]
-    for line, answer in zip(*(text.splitlines() for text in stored)):
+    """The short lines of bytes of the program that prints what CBOR codes, each with its answer.
+    They stand before its calls, the first of which has a space."""
+    texts = [contents(f"{top}/crates/cbor_cli/{name}") for name in ("stdin", "stdout")]
+    pairs = zip(*(text.splitlines() for text in texts))
+    for line, answer in itertools.takewhile(lambda pair: b" " not in pair[0], pairs):
         if len(line) < 60:
             yield line, answer
 
 
+def stored(program, name):
+    """A program with each input of a file, behind which stand `-> STATUS ANSWER` and an empty line
+    where another input follows; behind `-|` the input has no newline at its end."""
+    parts = re.split(rb"(?m)^-([>|]) (\d) (.*\n)\n?", contents(f"{here}/{name}"))
+    for text, end, status, answer in zip(*(parts[at::4] for at in range(4))):
+        text = text[:-1] if end == b"|" else text
+        yield Case(program, text, (answer, int(status)))
+    if parts[-1]:
+        sys.exit(f"{here}/{name}: no answer stands behind {parts[-1]!r}")
+
+
 def cases():
     """Each program with each small input: that of the rows has one row a run, some of each sort
-    and two that differ; that of CBOR one line."""
-    # an input, `-> STATUS ANSWER`, and an empty line where another input follows; behind `-|` the
-    # input has no newline at its end
-    lines = re.split(rb"(?m)^-([>|]) (\d) (.*\n)\n?", contents(f"{here}/lines"))
-    for text, end, status, answer in zip(*(lines[at::4] for at in range(4))):
-        text = text[:-1] if end == b"|" else text
-        yield Case("content_cli", text, (answer, int(status)))
-    if lines[-1]:
-        sys.exit(f"{here}/lines: no answer stands behind {lines[-1]!r}")
+    and two that differ; that of CBOR one line, or the calls of one tree."""
+    yield from stored("content_cli", "lines")
     yield Case("check_memory", b"", (contents(f"{top}/crates/check_memory/stdout"), 0))
     for row in some_rows():
         yield Case("check_rows", row + b"\n", AGREES)
@@ -176,6 +182,7 @@ def cases():
     yield Case("check_rows", b"plain\tNone\tok ()\n", differs)
     for line, answer in short_lines():
         yield Case("cbor_cli", line + b"\n", (answer + b"\n", 0))
+    yield from stored("cbor_cli", "calls")
 
 
 def table(name):

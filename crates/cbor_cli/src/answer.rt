@@ -1,4 +1,4 @@
-//! What is answered to a line.
+//! What is answered to a line that is no call.
 
 use crate::digits::{read_digits, write_digits};
 use content_cbor::{DecodeError, decode, encode};
@@ -9,7 +9,7 @@ use std::alloc::{AllocError, Global};
 const DEPTH_LIMIT: usize = 128;
 
 /// The value as it prints and, behind a tab, its bytes in as few as can be.
-fn written(alloc: Global, value: &Value<'_>) -> Result<String, AllocError> {
+pub fn written(alloc: Global, value: &Value<'_>) -> Result<String, AllocError> {
     let mut text = format!(in alloc; "{}\t", value.display())?;
     // Only out of memory keeps them back.
     let bytes = encode(alloc, value).ok().ok_or(AllocError)?;
@@ -26,10 +26,10 @@ fn decoded(alloc: Global, bytes: &[u8]) -> Result<String, AllocError> {
     }
 }
 
-/// The same of a line of digits, or that it is none.
+/// The same of a line of digits, or that it is none and no call.
 pub fn answer(alloc: Global, line: &str) -> Result<String, AllocError> {
     match read_digits(alloc, line)? {
         Some(bytes) => decoded(alloc, bytes.as_slice()),
-        None => String::from_str(alloc, "no hexadecimal digits"),
+        None => String::from_str(alloc, "neither hexadecimal digits nor a call"),
     }
 }

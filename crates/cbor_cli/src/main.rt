@@ -1,9 +1,11 @@
-//! Prints the values that CBOR codes: of each line of the standard input, the value of the bytes
-//! that its hexadecimal digits spell and, behind a tab, the fewest bytes that code it; or why they
-//! are refused.
+//! Prints what CBOR codes and what codes it. Of each line of hexadecimal digits: the value that
+//! its bytes code and, behind a tab, the fewest bytes that do; or why they are refused. Lines that
+//! spell serialiser calls, as `content_cli` reads them, are taken together where nothing stands
+//! between them: each tree that they spell, one after another, is answered so.
 #![tactic(auto)]
 
 mod answer;
+mod calls;
 mod digits;
 mod run;
 
