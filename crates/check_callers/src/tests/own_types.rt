@@ -1,8 +1,8 @@
-//! The sample types as calls and as trees, and read back.
+//! The sample types as calls and as trees.
 
 use serde_content::samples::{Point, Shape};
 use serde_content::ser::{Call, Recorder, Serialize};
-use serde_content::{Deserializer, Number, Result as Answer, Serializer, Value};
+use serde_content::{Number, Result as Answer, Serializer};
 use std::alloc::Global;
 use std::test::Fail;
 
@@ -49,43 +49,5 @@ fn a_shape_is_sent_by_its_variant(rt: HostRuntime) -> Result<(), Fail> {
     assert!(rt; printed(alloc, &Shape::Dot)?.as_str() == "Shape::Dot");
     assert!(rt; printed(alloc, &Shape::Ring(3))?.as_str() == "Shape::Ring(3u32)");
     assert!(rt; printed(alloc, &Shape::Span(-1, 1))?.as_str() == "Shape::Span(-1i32, 1i32)");
-    Ok(())
-}
-
-fn shape_back(alloc: Global, shape: &Shape) -> Answer<Shape> {
-    let value = Serializer::new().serialize(alloc, shape)?;
-    Deserializer::new(value).deserialize(alloc)
-}
-
-#[test]
-fn a_point_comes_back(rt: HostRuntime) -> Result<(), Fail> {
-    let alloc = rt.alloc();
-    let point = Point { x: 1, y: 2 };
-    let value = Serializer::new().serialize(alloc, &point)?;
-    let read: Point = Deserializer::new(value).deserialize(alloc)?;
-    assert!(rt; read == point);
-    Ok(())
-}
-
-#[test]
-fn each_shape_comes_back(rt: HostRuntime) -> Result<(), Fail> {
-    let alloc = rt.alloc();
-    let area = Shape::Area { w: 1, h: 2 };
-    assert!(rt; shape_back(alloc, &Shape::Dot)? == Shape::Dot);
-    assert!(rt; shape_back(alloc, &Shape::Ring(3))? == Shape::Ring(3));
-    assert!(rt; shape_back(alloc, &Shape::Span(-1, 1))? == Shape::Span(-1, 1));
-    assert!(rt; shape_back(alloc, &area)? == area);
-    Ok(())
-}
-
-#[test]
-fn a_shape_of_another_name_is_refused(rt: HostRuntime) -> Result<(), Fail> {
-    let alloc = rt.alloc();
-    let read: Answer<Shape> = Deserializer::new(Value::from("Cone")).deserialize(alloc);
-    let text = match read {
-        Ok(_) => String::new(alloc),
-        Err(error) => format!(in alloc; "{error}")?,
-    };
-    assert!(rt; text.as_str() == "unknown variant");
     Ok(())
 }
