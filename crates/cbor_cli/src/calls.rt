@@ -1,11 +1,9 @@
 //! What is answered to calls.
 
-ghost use Rattle.std.specs.Prelude.{◌<◌, ◌≤◌, length, IfOk};
-
 use crate::answer::written;
 use content_lines::read_line;
+use serde_content::ErrorKind;
 use serde_content::ser::{Call, CallsError, from_calls_prefix};
-use serde_content::{ErrorKind, Value};
 use std::alloc::{AllocError, Global};
 use std::io;
 
@@ -25,29 +23,28 @@ fn refused(alloc: Global, refusal: &CallsError) -> Result<String, AllocError> {
     }
 }
 
-/// The first tree that the calls spell, and how many of them do.
-fn first_tree(alloc: Global, calls: &[Call<'_>]) -> Result<(Value<'static>, usize), CallsError>
-    ensures some { IfOk result (λ found. 0 < found.1) }
-    ensures within { IfOk result (λ found. found.1 ≤ length calls.now) }
-{
-    from_calls_prefix(alloc, calls)
-}
-
 /// Prints each tree that the calls spell, one after another, up to one that is refused.
 pub fn print_trees<R: Print + AllocGlobal>(rt: &R, calls: &[Call<'_>]) -> io::Result<()> {
     let alloc = rt.alloc();
-    let mut rest = calls;
-    'trees: while !rest.is_empty() {
-        match first_tree(alloc, rest) {
+    let mut start = 0usize;
+    // Each tree takes a call at least.
+    for _ in calls {
+        let Some(rest) = calls.get(start..) else {
+            break;
+        };
+        if rest.is_empty() {
+            break;
+        }
+        match from_calls_prefix(alloc, rest) {
             Ok((value, length)) => {
                 let answer = written(alloc, &value)?;
                 println!(rt; "{answer}")?;
-                rest = &rest[length..];
+                start = start.saturating_add(length);
             }
             Err(refusal) => {
                 let answer = refused(alloc, &refusal)?;
                 println!(rt; "{answer}")?;
-                return Ok(());
+                break;
             }
         }
     }
