@@ -1,46 +1,62 @@
 //! Accesses as rows have them, read to their end.
 
+use crate::answer::Answer;
 use crate::deserializer::{write_handed, write_inside};
-use crate::failure::{Failure, Result};
 use crate::flags::{Flags, flags_word};
 use crate::show::{write_comma, write_text};
 use serde_content::de::{Map, Node, Seq, VariantAccess};
-use serde_content::{CowStr, Deserializer, Error, ErrorKind, Expected, Found};
+use serde_content::{CowStr, Deserializer, Error, ErrorKind, Expected, Found, Result};
 use std::alloc::Global;
 
 /// Adds the opening of an access with these flags.
-fn write_opening(out: &mut String, word: &str, flags: Flags) -> Result<()> {
-    let flags = flags_word(flags);
-    Ok(write!(out, "{word}({flags}; ")?)
+fn write_opening(out: &mut Answer, word: &str, flags: Flags) {
+    out.push_str(word);
+    out.push('(');
+    out.push_str(flags_word(flags));
+    out.push_str("; ");
 }
 
 /// Adds the items of a sequence.
-pub fn write_seq(out: &mut String, flags: Flags, mut items: Seq<'_, 'static>) -> Result<()> {
-    write_opening(out, "seq", flags)?;
+pub fn write_seq(out: &mut Answer, flags: Flags, mut items: Seq<'_, 'static>) -> Result<()> {
+    write_opening(out, "seq", flags);
     for place in 0..usize::MAX {
         let Some(item) = items.next_deserializer() else {
             break;
         };
-        write_comma(out, place)?;
+        write_comma(out, place);
         write_inside(out, flags, item)?;
     }
-    Ok(out.push(')')?)
+    out.push(')');
+    Ok(())
 }
 
 /// Adds the entries of a map, of each its key and then its value.
-pub fn write_map(out: &mut String, flags: Flags, mut entries: Map<'_, 'static>) -> Result<()> {
-    let alloc = *out.allocator();
-    write_opening(out, "map", flags)?;
+pub fn write_map(out: &mut Answer, flags: Flags, mut entries: Map<'_, 'static>) -> Result<()> {
+    write_opening(out, "map", flags);
     for place in 0..usize::MAX {
-        let Some(key) = entries.next_key_deserializer(alloc)? else {
+        if !write_entry(out, flags, place, &mut entries)? {
             break;
-        };
-        write_comma(out, place)?;
-        write_inside(out, flags, key)?;
-        out.push_str(" => ")?;
-        write_inside(out, flags, entries.next_value_deserializer(alloc)?)?;
+        }
     }
-    Ok(out.push(')')?)
+    out.push(')');
+    Ok(())
+}
+
+/// Adds the next entry of a map, and says whether there is one.
+fn write_entry(
+    out: &mut Answer,
+    flags: Flags,
+    place: usize,
+    entries: &mut Map<'_, 'static>,
+) -> Result<bool> {
+    let Some(key) = entries.next_key_deserializer(out.alloc())? else {
+        return Ok(false);
+    };
+    write_comma(out, place);
+    write_inside(out, flags, key)?;
+    out.push_str(" => ");
+    write_inside(out, flags, entries.next_value_deserializer(out.alloc())?)?;
+    Ok(true)
 }
 
 /// The tag of the variant that is there, and what it holds: requested under a name, or as whatever
@@ -49,47 +65,46 @@ fn open<'de>(
     alloc: Global,
     from: &Deserializer<'de, 'static>,
     name: Option<&'static str>,
-) -> Result<(Deserializer<'de, 'static>, VariantAccess<'de, 'static>)> {
+) -> Result<Option<(Deserializer<'de, 'static>, VariantAccess<'de, 'static>)>> {
     let from = from.try_clone(alloc)?;
     let access = match name {
         Some(name) => from.deserialize_enum(alloc, name, &[])?,
         None => match from.deserialize_any(alloc)? {
             Node::Enum(access) => access,
-            _ => return Err(Failure::NoRow),
+            _ => return Ok(None),
         },
     };
-    Ok(access.variant_deserializer(alloc)?)
+    Ok(Some(access.variant_deserializer(alloc)?))
+}
+
+/// What a variant answers when it is asked for another sort than its own. Behind that stands what a
+/// newtype variant would hold, if it would.
+fn refusal_of<'de>(
+    alloc: Global,
+    variant: VariantAccess<'de, 'static>,
+    same: VariantAccess<'de, 'static>,
+) -> (Result<()>, Option<Deserializer<'de, 'static>>) {
+    match same.newtype_deserializer(alloc) {
+        Ok(inner) => (variant.unit_variant(alloc), Some(inner)),
+        Err(error) => (Err(error), None),
+    }
 }
 
 /// What was found, and the name of the enum that was expected.
-fn refusal_of(error: Error) -> Result<(Found, String)> {
+fn told_by(refusal: Result<()>) -> Result<Option<(Found, String)>> {
+    let Err(error) = refusal else {
+        return Ok(None);
+    };
     match error.into_kind() {
-        ErrorKind::OutOfMemory => Err(Failure::OutOfMemory),
+        ErrorKind::OutOfMemory => Err(Error::from(ErrorKind::OutOfMemory)),
         ErrorKind::Unexpected { found, expected } => match expected {
             Expected::Enum {
                 name: Some(name),
                 typ: _,
-            } => Ok((found, name)),
-            _ => Err(Failure::NoRow),
+            } => Ok(Some((found, name))),
+            _ => Ok(None),
         },
-        _ => Err(Failure::NoRow),
-    }
-}
-
-/// What a variant refuses when it is asked for another sort than its own: the image of what it
-/// holds, and the name of the enum. Behind that stands what a newtype variant would hold, if it
-/// would.
-fn refused<'de>(
-    alloc: Global,
-    variant: VariantAccess<'de, 'static>,
-    same: VariantAccess<'de, 'static>,
-) -> Result<((Found, String), Option<Deserializer<'de, 'static>>)> {
-    match same.newtype_deserializer(alloc) {
-        Ok(inner) => match variant.unit_variant(alloc) {
-            Ok(()) => Err(Failure::NoRow),
-            Err(error) => Ok((refusal_of(error)?, Some(inner))),
-        },
-        Err(error) => Ok((refusal_of(error)?, None)),
+        _ => Ok(None),
     }
 }
 
@@ -104,57 +119,67 @@ fn has_image(alloc: Global, from: &Deserializer<'_, '_>, image: &Found) -> Resul
 /// Adds what a variant holds: nothing, the value of a map's entry, or the node of an enum. `found`
 /// is the image of that, `inner` what a newtype variant would hold, and `node` what was asked.
 fn write_held(
-    out: &mut String,
+    out: &mut Answer,
     flags: Flags,
     found: &Found,
     inner: Option<Deserializer<'_, 'static>>,
     node: Deserializer<'_, 'static>,
 ) -> Result<()> {
-    let alloc = *out.allocator();
     if let Some(inner) = inner {
-        if has_image(alloc, &inner, found)? {
-            out.push_str("value ")?;
+        if has_image(out.alloc(), &inner, found)? {
+            out.push_str("value ");
             return write_inside(out, flags, inner);
         }
     }
     if matches!(found, Found::Unit) {
-        return Ok(out.push_str("nothing")?);
+        out.push_str("nothing");
+        return Ok(());
     }
-    out.push_str("enum ")?;
-    if has_image(alloc, &node, found)? {
+    out.push_str("enum ");
+    if has_image(out.alloc(), &node, found)? {
         write_inside(out, flags, node)
     } else {
-        Ok(out.push_str("another tree")?)
+        out.push_str("another tree");
+        Ok(())
     }
 }
 
 /// Adds the name that errors say was expected, and the tag.
 fn write_tag(
-    out: &mut String,
+    out: &mut Answer,
     flags: Flags,
     expected: String,
     tag: Deserializer<'_, 'static>,
 ) -> Result<()> {
-    write_opening(out, "enum", flags)?;
-    write_text(out, 's', &CowStr::Owned(expected))?;
-    out.push_str("; ")?;
+    write_opening(out, "enum", flags);
+    write_text(out, 's', &CowStr::Owned(expected));
+    out.push_str("; ");
     write_handed(out, tag)?;
-    Ok(out.push_str("; ")?)
+    out.push_str("; ");
+    Ok(())
 }
 
 /// Adds the variant of an enum, requested under a name or as whatever is there: the name that
 /// errors say was expected, the tag, and what the variant holds.
 pub fn write_enum(
-    out: &mut String,
+    out: &mut Answer,
     flags: Flags,
     from: Deserializer<'_, 'static>,
     name: Option<&'static str>,
 ) -> Result<()> {
-    let alloc = *out.allocator();
-    let (tag, variant) = open(alloc, &from, name)?;
-    let (_tag, same) = open(alloc, &from, name)?;
-    let ((found, expected), inner) = refused(alloc, variant, same)?;
+    let alloc = out.alloc();
+    let (Some((tag, variant)), Some((_tag, same))) = (
+        open(alloc, &from, name)?,
+        open(alloc, &from, name)?,
+    ) else {
+        return out.no_row();
+    };
+    let (refusal, inner) = refusal_of(alloc, variant, same);
+    let Some((found, expected)) = told_by(refusal)? else {
+        return out.no_row();
+    };
     write_tag(out, flags, expected, tag)?;
     write_held(out, flags, &found, inner, from)?;
-    Ok(out.push(')')?)
+    out.push(')');
+    Ok(())
 }

@@ -1,60 +1,47 @@
 //! Expectations of a row.
 
-use crate::failure::{Failure, Result};
 use crate::named::case_named;
-use crate::piece::{Case, Piece, Pieces, take_mark, take_parsed, take_word};
+use crate::piece::{Pieces, take_held, take_if_word, take_mark, take_text, take_word};
 use serde_content::{DataType, Expected};
 
 /// An expectation.
-pub fn read_expected(pieces: &mut Pieces<'_>) -> Result<Expected> {
-    match take_word(pieces)? {
-        "Tuple" => {
-            take_mark(pieces, b'(')?;
-            let length = take_parsed(pieces)?;
-            take_mark(pieces, b')')?;
-            Ok(Expected::Tuple(length))
-        }
+pub fn read_expected(pieces: &mut Pieces<'_>) -> Expected {
+    match take_word(pieces) {
+        "Tuple" => Expected::Tuple(take_held(pieces)),
         "Struct" => {
-            let (name, typ) = read_named(pieces)?;
-            Ok(Expected::Struct { name, typ })
+            let (name, typ) = read_named(pieces);
+            Expected::Struct { name, typ }
         }
         "Enum" => {
-            let (name, typ) = read_named(pieces)?;
-            Ok(Expected::Enum { name, typ })
+            let (name, typ) = read_named(pieces);
+            Expected::Enum { name, typ }
         }
-        word => expected_of(word),
+        word => {
+            let expected = case_named!(
+                word,
+                Expected,
+                [
+                    Unit, Bool, Char, String, StaticStr, Bytes, Seq, Map, Identifier, I8, U8, I16,
+                    U16, I32, U32, I64, U64, I128, U128,
+                ]
+            );
+            pieces.found_or(expected, Expected::Unit)
+        }
     }
 }
 
-/// The expectation that this word names.
-fn expected_of(word: &str) -> Result<Expected> {
-    case_named!(
-        word,
-        Expected,
-        [
-            Unit, Bool, Char, String, StaticStr, Bytes, Seq, Map, Identifier, I8, U8, I16, U16,
-            I32, U32, I64, U64, I128, U128,
-        ]
-    )
-}
-
 /// A name and a type in brackets, each of which may be `-`.
-fn read_named(pieces: &mut Pieces<'_>) -> Result<(Option<String>, Option<DataType>)> {
-    take_mark(pieces, b'(')?;
-    let name = match pieces.next()? {
-        Piece::Word(word) if word.as_str() == "-" => None,
-        Piece::Text(Case::Owned, name) => Some(String::from_str(pieces.alloc(), name.as_str())?),
-        _ => return Err(Failure::NoRow),
-    };
-    let typ = match take_word(pieces)? {
-        "-" => None,
-        word => Some(type_of(word)?),
-    };
-    take_mark(pieces, b')')?;
-    Ok((name, typ))
+fn read_named(pieces: &mut Pieces<'_>) -> (Option<String>, Option<DataType>) {
+    take_mark(pieces, b'(');
+    let name = (!take_if_word(pieces, "-")).then(|| take_text(pieces));
+    let typ = (!take_if_word(pieces, "-")).then(|| read_type(pieces));
+    take_mark(pieces, b')');
+    (name, typ)
 }
 
-/// The type that this word names.
-pub fn type_of(word: &str) -> Result<DataType> {
-    case_named!(word, DataType, [Unit, NewType, Tuple, Struct])
+/// A type.
+pub fn read_type(pieces: &mut Pieces<'_>) -> DataType {
+    let word = take_word(pieces);
+    let typ = case_named!(word, DataType, [Unit, NewType, Tuple, Struct]);
+    pieces.found_or(typ, DataType::Unit)
 }

@@ -1,11 +1,11 @@
 //! The two flags of a deserializer.
 
-use crate::failure::{Failure, Result};
-use serde_content::Deserializer;
+use crate::piece::{Pieces, take_word};
+use serde_content::{Deserializer, Result};
 use std::alloc::Global;
 
 /// The two flags of a deserializer.
-#[derive(Clone, Copy, PartialEq, Eq)]
+#[derive(Clone, Copy, Default, PartialEq, Eq)]
 pub struct Flags {
     /// What is read was written for people.
     pub human_readable: bool,
@@ -13,19 +13,19 @@ pub struct Flags {
     pub coerces: bool,
 }
 
-/// The flags that this word tells.
-pub fn read_flags(word: &str) -> Result<Flags> {
-    let (human_readable, coerces) = match word {
+/// Takes flags.
+pub fn read_flags(pieces: &mut Pieces<'_>) -> Flags {
+    let (human_readable, coerces) = match take_word(pieces) {
         "-" => (false, false),
         "h" => (true, false),
         "c" => (false, true),
         "hc" => (true, true),
-        _ => return Err(Failure::NoRow),
+        _ => pieces.found_or(None, (false, false)),
     };
-    Ok(Flags {
+    Flags {
         human_readable,
         coerces,
-    })
+    }
 }
 
 /// The word of these flags.

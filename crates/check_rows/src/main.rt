@@ -3,6 +3,7 @@
 #![tactic(auto)]
 
 mod access;
+mod answer;
 mod call;
 mod cursor;
 mod deserializer;
@@ -16,12 +17,10 @@ mod names;
 mod number;
 mod operations;
 mod order;
-mod parted;
 mod piece;
 mod printable;
 mod quoted;
 mod request;
-mod row;
 mod run;
 mod samples;
 mod show;

@@ -10,12 +10,12 @@ macro_rules! with_type {
     };
 }
 
-/// The case among these of an enum that has this name; of another name: no row.
+/// The case among these of an enum that has this name; of another name none.
 macro_rules! case_named {
     ($name:expr, $of:ident, [$($known:ident),* $(,)?]) => {
         match $name {
-            $(stringify!($known) => Ok($of::$known),)*
-            _ => Err(Failure::NoRow),
+            $(stringify!($known) => Some($of::$known),)*
+            _ => None,
         }
     };
 }

@@ -1,7 +1,5 @@
 //! The names that a row may have static.
 
-use crate::failure::{Failure, Result};
-
 /// The names that a row may have static.
 static NAMES: [&'static str; 30] = [
     "Foo", "Bar", "Baz", "Point", "Shape", "Dot", "Ring", "Span", "Area", "Other", "E", "K", "N",
@@ -14,12 +12,7 @@ nnnnnnnnnnnnnnnnnnnnnnnnnnnnnnnnnnnnnnnnnnnnnnnnnnnnnnnnnnnnnnnnnnnnnnnnnnnnnnnn
 nnnnnnnnnnnnnnnnnnnnnnnnnnnnnnnnnnnnnnnnnnnnnnnnnnnnnnnnnnnnnnnnnnnnnnnnnnnnnnnn\
 nnnnnnnnnnnnnnnnnnnnnnnnnnnnnnnnnnnnnnnn";
 
-/// The same name, for as long as the program runs. Of another name: no row.
-pub fn static_name(name: &str) -> Result<&'static str> {
-    for known in &NAMES {
-        if *known == name {
-            return Ok(*known);
-        }
-    }
-    Err(Failure::NoRow)
+/// The same name, for as long as the program runs, where it is one of these.
+pub fn static_name(name: &str) -> Option<&'static str> {
+    NAMES.iter().copied().find(|known| *known == name)
 }

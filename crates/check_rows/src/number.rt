@@ -1,8 +1,8 @@
 //! Whole numbers.
 
-use crate::failure::{Failure, Result, Written};
+use crate::answer::Answer;
+use crate::cursor::Cursor;
 use serde_content::Number;
-use std::str::FromStr;
 
 /// What is to be done with a number, whichever whole type it has.
 macro_rules! with_whole {
@@ -24,45 +24,35 @@ macro_rules! with_whole {
 
 pub(crate) use with_whole;
 
-/// What the text spells.
-pub fn parse<T: FromStr>(text: &str) -> Result<T>
-where
-    T::Err: Drop,
-{
-    text.parse::<T>().ok().ok_or(Failure::NoRow)
-}
-
-/// The number of this kind that the digits spell.
-pub fn number_of(kind: &str, digits: &str) -> Result<Number> {
+/// The number of this kind that the digits spell, for what is read here.
+pub fn number_of<T>(from: &mut Cursor<'_, T>, kind: &str, digits: &str) -> Number {
     match kind {
-        "i8" => Ok(Number::I8(parse(digits)?)),
-        "u8" => Ok(Number::U8(parse(digits)?)),
-        "i16" => Ok(Number::I16(parse(digits)?)),
-        "u16" => Ok(Number::U16(parse(digits)?)),
-        "i32" => Ok(Number::I32(parse(digits)?)),
-        "u32" => Ok(Number::U32(parse(digits)?)),
-        "i64" => Ok(Number::I64(parse(digits)?)),
-        "u64" => Ok(Number::U64(parse(digits)?)),
-        "i128" => Ok(Number::I128(parse(digits)?)),
-        "u128" => Ok(Number::U128(parse(digits)?)),
-        _ => Err(Failure::NoRow),
+        "i8" => Number::I8(from.parsed(digits)),
+        "u8" => Number::U8(from.parsed(digits)),
+        "i16" => Number::I16(from.parsed(digits)),
+        "u16" => Number::U16(from.parsed(digits)),
+        "i32" => Number::I32(from.parsed(digits)),
+        "u32" => Number::U32(from.parsed(digits)),
+        "i64" => Number::I64(from.parsed(digits)),
+        "u64" => Number::U64(from.parsed(digits)),
+        "i128" => Number::I128(from.parsed(digits)),
+        "u128" => Number::U128(from.parsed(digits)),
+        _ => from.found_or(None, Number::U8(0)),
     }
 }
 
 /// The number that a word such as `-5i16` is. One without a kind has the widest that it fits in.
-pub fn read_number(word: &str) -> Result<Number> {
-    match word.find(['i', 'u']) {
-        Some(place) => {
-            let (digits, kind) = word.split_at(place);
-            number_of(kind, digits)
-        }
-        None if word.starts_with('-') => number_of("i128", word),
-        None => number_of("u128", word),
-    }
+pub fn read_number<T>(from: &mut Cursor<'_, T>, word: &str) -> Number {
+    let (digits, kind) = match word.find(['i', 'u']) {
+        Some(place) => word.split_at(place),
+        None if word.starts_with('-') => (word, "i128"),
+        None => (word, "u128"),
+    };
+    number_of(from, kind, digits)
 }
 
 /// The word of the number's kind.
-pub fn kind_word(number: &Number) -> &'static str {
+pub fn kind_word(number: Number) -> &'static str {
     match number {
         Number::I8(_) => "i8",
         Number::U8(_) => "u8",
@@ -78,12 +68,12 @@ pub fn kind_word(number: &Number) -> &'static str {
 }
 
 /// Adds the number's digits.
-pub fn write_digits(out: &mut String, number: &Number) -> Written {
-    with_whole!(number, n => write!(out, "{n}"))
+pub fn write_digits(out: &mut Answer, number: Number) {
+    with_whole!(number, n => out.print(n));
 }
 
 /// Adds a number and its kind.
-pub fn write_number(out: &mut String, number: &Number) -> Written {
-    write_digits(out, number)?;
-    out.push_str(kind_word(number))
+pub fn write_number(out: &mut Answer, number: Number) {
+    write_digits(out, number);
+    out.push_str(kind_word(number));
 }

@@ -12,59 +12,74 @@ mod returning;
 mod sending;
 mod stepping;
 
+use crate::answer::Answer;
 use crate::cursor::Cursor;
-use crate::failure::{Failure, Result};
-use crate::parted::Parted;
-use crate::piece::{Pieces, read_pieces};
+use crate::expectation::{read_expected, read_type};
+use crate::failure::Failure;
+use crate::kind::read_kind;
+use crate::piece::{Piece, Pieces, add_pieces};
+use crate::printable::{write_printed, write_refusal};
+use crate::quoted::take_rest;
+use comparing::compare;
+use serde_content::{Error, Result};
+use std::alloc::Global;
 
-/// Adds the answer of an operation to its arguments, which tabs part.
-pub fn write_answer(out: &mut String, operation: &str, arguments: &str) -> Result<()> {
-    let mut columns = Parted::new(arguments, '\t');
-    match operation {
-        "access" => stepping::access(out, &mut columns)?,
-        "ask" => asking::ask(out, &mut columns)?,
-        "builder" => building::builder(out, &mut columns)?,
-        "calls" => building::calls(out, &mut columns)?,
-        "calls_prefix" => building::calls_prefix(out, &mut columns)?,
-        "calls_within" => building::calls_within(out, &mut columns)?,
-        "compare_calls" => comparing::calls(out, &mut columns)?,
-        "copy_calls" => copying::calls(out, &mut columns)?,
-        "enum" => asking::variant(out, &mut columns)?,
-        "into" => converting::into(out, &mut columns)?,
-        "order" => comparing::deserializers(out, &mut columns)?,
-        "plain" => reading::plain(out, &mut columns)?,
-        "read" => reading::read(out, &mut columns)?,
-        "record" => sending::record(out, &mut columns)?,
-        "refusal" => building::refusal(out, &mut columns)?,
-        "replay" => building::replay(out, &mut columns)?,
-        "round_trip" => returning::round_trip(out, &mut columns)?,
-        _ => {
-            let pieces = read_pieces(*out.allocator(), columns.take_rest()?)?;
-            let mut pieces = Cursor::new(*out.allocator(), pieces.as_slice());
-            write_of_pieces(out, operation, &mut pieces)?;
-            pieces.end()?;
-        }
+/// The answer of an operation to its arguments, which tabs part. What is wrong with the arguments
+/// goes before what becomes of them.
+pub fn answer(alloc: Global, operation: &str, arguments: &str) -> crate::failure::Result<String> {
+    let mut out = Answer::new(alloc);
+    let mut columns = Cursor::new(alloc, arguments.as_bytes());
+    if let Err(refused) = write_answer(&mut out, operation, &mut columns) {
+        out = Answer::new(alloc);
+        write_refusal(&mut out, "refused ", refused);
     }
-    columns.end()
+    columns.end()?;
+    out.finish()
 }
 
-/// The same for an operation whose arguments are read by pieces.
-fn write_of_pieces(out: &mut String, operation: &str, pieces: &mut Pieces<'_>) -> Result<()> {
+/// Adds the answer of an operation.
+fn write_answer(out: &mut Answer, operation: &str, columns: &mut Cursor<'_, u8>) -> Result<()> {
     match operation {
-        "borrowed" => converting::borrowed(out, pieces),
+        "builder" => building::builder(out, columns),
+        "calls" => building::calls(out, columns),
+        "calls_prefix" => building::calls_prefix(out, columns),
+        "calls_within" => building::calls_within(out, columns),
+        "compare_calls" => comparing::calls(out, columns),
+        "copy_calls" => return copying::calls(out, columns),
+        "record" => return sending::record(out, columns),
+        "refusal" => building::refusal(out, columns),
+        "replay" => building::replay(out, columns),
+        _ => return write_columns(out, operation, columns),
+    }
+    Ok(())
+}
+
+/// The same for an operation whose arguments are read by pieces. A request, the steps of `access`
+/// and the type of `read` or `round_trip` are one word each.
+fn write_columns(out: &mut Answer, operation: &str, columns: &mut Cursor<'_, u8>) -> Result<()> {
+    let mut pieces = Vec::new(columns.alloc());
+    for (place, column) in take_rest(columns).split('\t').enumerate() {
+        match (operation, place) {
+            ("access", 1 | 2) | ("ask" | "read" | "round_trip", 1) | ("enum", 2) => {
+                let word = columns.copied(column);
+                columns.made(pieces.push(Piece::Word(word)));
+            }
+            _ => columns.note(add_pieces(&mut pieces, column)),
+        }
+    }
+    let mut pieces = Cursor::new(columns.alloc(), pieces.as_slice());
+    let answered = write_of_pieces(out, operation, &mut pieces);
+    columns.note(pieces.end());
+    answered
+}
+
+/// The same of pieces.
+fn write_of_pieces(out: &mut Answer, operation: &str, pieces: &mut Pieces<'_>) -> Result<()> {
+    match operation {
+        "access" => stepping::access(out, pieces),
+        "ask" => asking::ask(out, pieces),
         "canonical" => building::canonical(out, pieces),
-        "canonical_within" => building::canonical_within(out, pieces),
         "collect" => building::collect(out, pieces),
-        "compare" => comparing::values(out, pieces),
-        "compare_data" => comparing::data(out, pieces),
-        "compare_errors" => comparing::errors(out, pieces),
-        "compare_expected" => comparing::expected(out, pieces),
-        "compare_image_data" => comparing::image_data(out, pieces),
-        "compare_images" => comparing::images(out, pieces),
-        "compare_kinds" => comparing::kinds(out, pieces),
-        "compare_parts" => comparing::parts(out, pieces),
-        "compare_serializers" => comparing::serializers(out, pieces),
-        "compare_types" => comparing::types(out, pieces),
         "copy" => copying::copy(out, pieces),
         "copy_data" => copying::copy_data(out, pieces),
         "copy_error" => copying::error(out, pieces),
@@ -73,24 +88,52 @@ fn write_of_pieces(out: &mut String, operation: &str, pieces: &mut Pieces<'_>) -
         "copy_image_data" => copying::image_data(out, pieces),
         "copy_kind" => copying::kind(out, pieces),
         "copy_parts" => copying::copy_parts(out, pieces),
-        "error" => printing::error(out, pieces),
-        "expected" => printing::expected(out, pieces),
-        "from" => converting::from(out, pieces),
-        "get" => looking::get(out, pieces),
-        "get_str" => looking::get_str(out, pieces),
+        "enum" => asking::variant(out, pieces),
         "image" => printing::image(out, pieces),
-        "kind" => printing::kind(out, pieces),
-        "lend" => looking::lend(out, pieces),
-        "number_from" => converting::number_from(out, pieces),
+        "into" => converting::into(out, pieces),
         "own" => copying::own(out, pieces),
         "own_data" => copying::own_data(out, pieces),
         "own_parts" => copying::own_parts(out, pieces),
-        "readable" => building::readable(out, pieces),
+        "plain" => reading::plain(out, pieces),
+        "read" => reading::read(out, pieces),
+        "round_trip" => returning::round_trip(out, pieces),
         "send" => sending::send(out, pieces),
         "send_as" => sending::send_as(out, pieces),
-        "type" => printing::data_type(out, pieces),
+        _ => {
+            write_surely(out, operation, pieces);
+            Ok(())
+        }
+    }
+}
+
+/// The same for an operation that is never refused.
+fn write_surely(out: &mut Answer, operation: &str, pieces: &mut Pieces<'_>) {
+    match operation {
+        "borrowed" => converting::borrowed(out, pieces),
+        "canonical_within" => building::canonical_within(out, pieces),
+        "compare" => comparing::values(out, pieces),
+        "compare_data" => comparing::data(out, pieces),
+        "compare_errors" => comparing::errors(out, pieces),
+        "compare_expected" => compare(out, &read_expected(pieces), &read_expected(pieces)),
+        "compare_image_data" => comparing::image_data(out, pieces),
+        "compare_images" => comparing::images(out, pieces),
+        "compare_kinds" => compare(out, &read_kind(pieces), &read_kind(pieces)),
+        "compare_parts" => comparing::parts(out, pieces),
+        "compare_serializers" => comparing::serializers(out, pieces),
+        "compare_types" => compare(out, &read_type(pieces), &read_type(pieces)),
+        "error" => write_printed(out, &Error::from(read_kind(pieces))),
+        "expected" => write_printed(out, &read_expected(pieces)),
+        "from" => converting::from(out, pieces),
+        "get" => looking::get(out, pieces),
+        "get_str" => looking::get_str(out, pieces),
+        "kind" => write_printed(out, &read_kind(pieces)),
+        "lend" => looking::lend(out, pieces),
+        "number_from" => converting::number_from(out, pieces),
+        "order" => comparing::deserializers(out, pieces),
+        "readable" => building::readable(out, pieces),
+        "type" => write_printed(out, &read_type(pieces)),
         "unexpected" => printing::unexpected(out, pieces),
         "unexpected_part" => printing::unexpected_part(out, pieces),
-        _ => Err(Failure::NoRow),
+        _ => out.fail(Failure::NoRow),
     }
 }

@@ -1,6 +1,6 @@
 //! The order of two things, as a row tells it.
 
-use crate::failure::Result;
+use crate::answer::Answer;
 use std::cmp::Ordering;
 
 /// Whether `==`, `<`, `partial_cmp` and `cmp` the other way round say what this order says.
@@ -22,11 +22,11 @@ pub fn if_lawful(order: Option<Ordering>, equal: bool) -> Option<Ordering> {
 }
 
 /// Adds the word of an order.
-pub fn write_order(out: &mut String, order: Option<Ordering>) -> Result<()> {
-    Ok(out.push_str(match order {
+pub fn write_order(out: &mut Answer, order: Option<Ordering>) {
+    out.push_str(match order {
         None => "contradiction",
         Some(Ordering::Less) => "less",
         Some(Ordering::Equal) => "equal",
         Some(Ordering::Greater) => "greater",
-    })?)
+    });
 }

@@ -2,11 +2,8 @@
 
 use crate::cursor::Cursor;
 use crate::failure::{Failure, Result};
-use crate::names::static_name;
-use crate::number::parse;
 use crate::quoted::{read_bytes, read_char, read_text};
 use serde_content::CowStr;
-use std::alloc::Global;
 use std::str;
 use std::str::FromStr;
 
@@ -40,12 +37,12 @@ pub enum Piece {
 pub type Pieces<'a> = Cursor<'a, Piece>;
 
 /// The case that this letter tells.
-fn case_of(letter: u8) -> Result<Case> {
+fn case_of(bytes: &mut Cursor<'_, u8>, letter: u8) -> Case {
     match letter {
-        b's' => Ok(Case::Static),
-        b'b' => Ok(Case::Borrowed),
-        b'o' => Ok(Case::Owned),
-        _ => Err(Failure::NoRow),
+        b's' => Case::Static,
+        b'b' => Case::Borrowed,
+        b'o' => Case::Owned,
+        _ => bytes.found_or(None, Case::Static),
     }
 }
 
@@ -54,58 +51,58 @@ fn is_word(byte: u8) -> bool {
 }
 
 /// Takes a word of at least one byte.
-fn read_word(bytes: &mut Cursor<'_, u8>) -> Result<Piece> {
+fn read_word(bytes: &mut Cursor<'_, u8>) -> String {
     let rest = bytes.rest();
     let length = rest.iter().position(|b| !is_word(*b)).unwrap_or(rest.len());
-    if length == 0 {
-        return Err(Failure::NoRow);
-    }
     let (word, after) = rest.split_at(length);
     bytes.move_to(after);
-    let word = str::from_utf8(word).ok().ok_or(Failure::NoRow)?;
-    Ok(Piece::Word(String::from_str(bytes.alloc(), word)?))
+    let word = str::from_utf8(word).ok().filter(|word| !word.is_empty());
+    let word = bytes.found_or(word, "");
+    bytes.copied(word)
 }
 
 /// Takes a piece.
-fn read_piece(bytes: &mut Cursor<'_, u8>) -> Result<Piece> {
+fn read_piece(bytes: &mut Cursor<'_, u8>) -> Piece {
     match bytes.rest() {
         [mark @ (b'(' | b')' | b'[' | b']' | b'{' | b'}'), after @ ..] => {
             bytes.move_to(after);
-            Ok(Piece::Mark(*mark))
+            Piece::Mark(*mark)
         }
         [b'\'', after @ ..] => {
             bytes.move_to(after);
-            Ok(Piece::Char(read_char(bytes)?))
+            Piece::Char(read_char(bytes))
         }
         [b'"', after @ ..] => {
             bytes.move_to(after);
-            Ok(Piece::Text(Case::Owned, read_text(bytes)?))
+            Piece::Text(Case::Owned, read_text(bytes))
         }
         [letter, b'"', after @ ..] => {
             bytes.move_to(after);
-            Ok(Piece::Text(case_of(*letter)?, read_text(bytes)?))
+            Piece::Text(case_of(bytes, *letter), read_text(bytes))
         }
         [letter @ (b'b' | b'o'), b'[', after @ ..] => {
             bytes.move_to(after);
-            Ok(Piece::Bytes(case_of(*letter)?, read_bytes(bytes)?))
+            Piece::Bytes(case_of(bytes, *letter), read_bytes(bytes))
         }
-        _ => read_word(bytes),
+        _ => Piece::Word(read_word(bytes)),
     }
 }
 
-/// The pieces of a text, in order.
-pub fn read_pieces(alloc: Global, text: &str) -> Result<Vec<Piece>> {
-    let mut pieces = Vec::new(alloc);
-    let mut bytes = Cursor::new(alloc, text.as_bytes());
+/// Adds the pieces of a text, in order.
+pub fn add_pieces(pieces: &mut Vec<Piece>, text: &str) -> Result<()> {
+    let mut bytes = Cursor::new(*pieces.allocator(), text.as_bytes());
     // Each step takes a byte at least.
     for _ in text.as_bytes() {
         match bytes.rest() {
-            [] => return Ok(pieces),
+            [] => break,
             [b' ' | b',' | b':' | b'=' | b'>' | b'\t', after @ ..] => bytes.move_to(after),
-            _ => pieces.push(read_piece(&mut bytes)?)?,
+            _ => {
+                let piece = read_piece(&mut bytes);
+                bytes.made(pieces.push(piece));
+            }
         }
     }
-    Ok(pieces)
+    bytes.end()
 }
 
 /// Whether this bracket is next; it is then taken.
@@ -119,46 +116,65 @@ pub fn take_if_mark(pieces: &mut Pieces<'_>, mark: u8) -> bool {
     }
 }
 
+/// Whether this word is next; it is then taken.
+pub fn take_if_word(pieces: &mut Pieces<'_>, word: &str) -> bool {
+    match pieces.rest() {
+        [Piece::Word(found), after @ ..] if found.as_str() == word => {
+            pieces.move_to(after);
+            true
+        }
+        _ => false,
+    }
+}
+
 /// Takes this bracket.
-pub fn take_mark(pieces: &mut Pieces<'_>, mark: u8) -> Result<()> {
-    if take_if_mark(pieces, mark) {
-        Ok(())
-    } else {
-        Err(Failure::NoRow)
+pub fn take_mark(pieces: &mut Pieces<'_>, mark: u8) {
+    if !take_if_mark(pieces, mark) {
+        pieces.note(Err(Failure::NoRow));
     }
 }
 
 /// Takes a word.
-pub fn take_word<'a>(pieces: &mut Pieces<'a>) -> Result<&'a str> {
-    match pieces.next()? {
-        Piece::Word(word) => Ok(word.as_str()),
-        _ => Err(Failure::NoRow),
+pub fn take_word<'a>(pieces: &mut Pieces<'a>) -> &'a str {
+    match pieces.next() {
+        Some(Piece::Word(word)) => word.as_str(),
+        _ => pieces.found_or(None, ""),
     }
 }
 
 /// Takes a word as what it spells.
-pub fn take_parsed<T: FromStr>(pieces: &mut Pieces<'_>) -> Result<T>
+pub fn take_parsed<T: FromStr + Default + Drop>(pieces: &mut Pieces<'_>) -> T
 where
     T::Err: Drop,
 {
-    parse(take_word(pieces)?)
+    let word = take_word(pieces);
+    pieces.parsed(word)
 }
 
-/// Takes an owned text.
-pub fn take_owned<'a>(pieces: &mut Pieces<'a>) -> Result<&'a str> {
-    match pieces.next()? {
-        Piece::Text(Case::Owned, text) => Ok(text.as_str()),
-        _ => Err(Failure::NoRow),
+/// Takes what a word spells, in brackets.
+pub fn take_held<T: FromStr + Default + Drop>(pieces: &mut Pieces<'_>) -> T
+where
+    T::Err: Drop,
+{
+    take_mark(pieces, b'(');
+    let held = take_parsed(pieces);
+    take_mark(pieces, b')');
+    held
+}
+
+/// Takes an owned text, as a copy.
+pub fn take_text(pieces: &mut Pieces<'_>) -> String {
+    match pieces.next() {
+        Some(Piece::Text(Case::Owned, text)) => pieces.copied(text.as_str()),
+        _ => pieces.found_or(None, String::new(pieces.alloc())),
     }
 }
 
 /// Takes a name, static or owned.
-pub fn take_name(pieces: &mut Pieces<'_>) -> Result<CowStr<'static>> {
-    match pieces.next()? {
-        Piece::Text(Case::Static, name) => Ok(CowStr::Borrowed(static_name(name.as_str())?)),
-        Piece::Text(Case::Owned, name) => {
-            Ok(CowStr::Owned(String::from_str(pieces.alloc(), name.as_str())?))
-        }
-        _ => Err(Failure::NoRow),
+pub fn take_name(pieces: &mut Pieces<'_>) -> CowStr<'static> {
+    match pieces.next() {
+        Some(Piece::Text(Case::Static, name)) => { CowStr::Borrowed(pieces.name(name.as_str())) }
+        Some(Piece::Text(Case::Owned, name)) => CowStr::Owned(pieces.copied(name.as_str())),
+        _ => pieces.found_or(None, CowStr::Borrowed("")),
     }
 }

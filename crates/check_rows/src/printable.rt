@@ -1,8 +1,10 @@
 //! Texts in bytes that a row may hold.
 
-use crate::failure::{Failure, Result, Written};
-use std::alloc::Global;
-use std::fmt::Display;
+use crate::answer::Answer;
+use crate::cursor::Cursor;
+use crate::failure::Failure;
+use serde_content::{Error, ErrorKind};
+use std::fmt::{Debug, Display};
 
 /// Whether a row may hold this byte: it prints as one character in ASCII.
 pub fn is_printable(byte: u8) -> bool {
@@ -11,49 +13,74 @@ pub fn is_printable(byte: u8) -> bool {
 
 /// Adds the text: `%`, this mark and each byte that a row may not hold as `%` and two hexadecimal
 /// digits.
-fn write_but(out: &mut String, text: &str, mark: u8) -> Written {
+fn write_but(out: &mut Answer, text: &str, mark: u8) {
     for byte in text.bytes() {
         if byte == b'%' || byte == mark || !is_printable(byte) {
-            write!(out, "%{byte:02X}")?;
+            out.print(format_args!("%{byte:02X}"));
         } else {
-            out.push(char::from(byte))?;
+            out.push(char::from(byte));
         }
     }
-    Ok(())
 }
 
 /// Adds the text of an item in a list that semicolons part.
-pub fn write_listed(out: &mut String, text: &str) -> Written {
-    write_but(out, text, b';')
+pub fn write_listed(out: &mut Answer, text: &str) {
+    write_but(out, text, b';');
 }
 
 /// Adds what is printed.
-pub fn write_printed<T: Display>(out: &mut String, printed: &T) -> Written {
-    let text = format!(in *out.allocator(); "{printed}")?;
-    write_but(out, text.as_str(), b'%')
+pub fn write_printed<T: Display>(out: &mut Answer, printed: &T) {
+    match format!(in out.alloc(); "{printed}") {
+        Ok(text) => write_but(out, text.as_str(), b'%'),
+        Err(_) => out.fail(Failure::OutOfMemory),
+    }
+}
+
+/// Adds a word and why something was refused, unless memory is the cause.
+pub fn write_refusal(out: &mut Answer, word: &str, refused: Error) {
+    match refused.into_kind() {
+        ErrorKind::OutOfMemory => out.fail(Failure::OutOfMemory),
+        kind => {
+            out.push_str(word);
+            write_printed(out, &kind);
+        }
+    }
+}
+
+/// Adds what is printed for a programmer.
+pub fn write_debug<T: Debug>(out: &mut Answer, printed: &T) {
+    write_printed(out, &format_args!("{printed:?}"));
 }
 
 /// The byte that two hexadecimal digits are.
-pub fn octet(high: u8, low: u8) -> Result<u8> {
-    let high = char::from(high).to_digit(16).ok_or(Failure::NoRow)?;
-    let low = char::from(low).to_digit(16).ok_or(Failure::NoRow)?;
-    let byte = u8::try_from(high.wrapping_mul(16).wrapping_add(low));
-    byte.ok().ok_or(Failure::NoRow)
+pub fn octet(high: u8, low: u8) -> Option<u8> {
+    let high = char::from(high).to_digit(16)?;
+    let low = char::from(low).to_digit(16)?;
+    u8::try_from(high.wrapping_mul(16).wrapping_add(low)).ok()
 }
 
-/// The text that such a text stands for.
-pub fn read_printable(alloc: Global, text: &str) -> Result<String> {
-    let mut pieces = text.split('%');
-    let first = pieces.next().ok_or(Failure::NoRow)?;
-    let mut bytes = first.as_bytes().to_vec(alloc)?;
-    for piece in pieces {
-        match piece.as_bytes() {
-            [high, low, after @ ..] => {
-                bytes.push(octet(*high, *low)?)?;
-                bytes.extend_from_slice(after)?;
-            }
-            _ => return Err(Failure::NoRow),
+/// Takes a byte, which may stand as `%` and two hexadecimal digits.
+fn read_octet(text: &mut Cursor<'_, u8>) -> u8 {
+    match text.rest() {
+        [b'%', high, low, after @ ..] => {
+            text.move_to(after);
+            text.found_or(octet(*high, *low), 0)
+        }
+        _ => {
+            let octet = text.next().copied().filter(|octet| *octet != b'%');
+            text.found_or(octet, 0)
         }
     }
-    String::from_utf8(bytes).ok().ok_or(Failure::NoRow)
+}
+
+/// Takes the bytes of the text that such a text stands for.
+pub fn read_printable(text: &mut Cursor<'_, u8>) -> Vec<u8> {
+    let mut octets = Vec::new(text.alloc());
+    for _ in text.rest() {
+        if !text.rest().is_empty() {
+            let octet = read_octet(text);
+            text.made(octets.push(octet));
+        }
+    }
+    octets
 }

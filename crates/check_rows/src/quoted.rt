@@ -1,74 +1,97 @@
-//! Characters and texts in quotes, and bytes in brackets, each from behind its opening.
+//! Parts of a text; characters and texts in quotes and bytes in brackets, from behind their opening.
 
 use crate::cursor::Cursor;
-use crate::failure::{Failure, Result};
-use crate::number::parse;
+use crate::failure::Failure;
 use std::str;
 
-/// Takes the text before this byte, and the byte.
-fn take_until<'a>(bytes: &mut Cursor<'a, u8>, end: u8) -> Result<&'a str> {
+/// Takes the text before this byte, or all that is left where there is none, and the byte.
+pub fn take_part<'a>(bytes: &mut Cursor<'a, u8>, end: u8) -> &'a str {
     let rest = bytes.rest();
-    let length = rest.iter().position(|b| *b == end).ok_or(Failure::NoRow)?;
-    let (text, after) = rest.split_at(length);
-    bytes.move_to(after);
-    bytes.next()?;
-    str::from_utf8(text).ok().ok_or(Failure::NoRow)
+    let length = rest.iter().position(|b| *b == end).unwrap_or(rest.len());
+    let (part, after) = rest.split_at(length);
+    bytes.move_to(after.get(1..).unwrap_or(&[]));
+    bytes.found_or(str::from_utf8(part).ok(), "")
 }
 
-/// The character whose code stands here in hexadecimal digits, as in `{e9}`.
-fn read_code(bytes: &mut Cursor<'_, u8>) -> Result<char> {
-    let digits = take_until(bytes, b'}')?;
-    let digits = digits.strip_prefix('{').ok_or(Failure::NoRow)?;
-    let code = u32::from_str_radix(digits, 16).ok().ok_or(Failure::NoRow)?;
-    char::from_u32(code).ok_or(Failure::NoRow)
+/// Takes all that is left.
+pub fn take_rest<'a>(bytes: &mut Cursor<'a, u8>) -> &'a str {
+    let rest = bytes.rest();
+    bytes.move_to(&[]);
+    bytes.found_or(str::from_utf8(rest).ok(), "")
+}
+
+/// Takes a byte.
+fn take(bytes: &mut Cursor<'_, u8>) -> u8 {
+    bytes.next().copied().unwrap_or(0)
+}
+
+/// The character whose code these hexadecimal digits are, as in `{e9`.
+fn character_of(digits: &str) -> Option<char> {
+    let digits = digits.strip_prefix('{')?;
+    char::from_u32(u32::from_str_radix(digits, 16).ok()?)
 }
 
 /// The character that stands behind a backslash.
-fn read_escape(bytes: &mut Cursor<'_, u8>) -> Result<char> {
-    match *bytes.next()? {
-        b't' => Ok('\t'),
-        b'n' => Ok('\n'),
-        b'r' => Ok('\r'),
-        b'0' => Ok('\0'),
-        b'u' => read_code(bytes),
-        byte @ (b'\\' | b'"' | b'\'') => Ok(char::from(byte)),
-        _ => Err(Failure::NoRow),
+fn read_escape(bytes: &mut Cursor<'_, u8>) -> char {
+    match take(bytes) {
+        b't' => '\t',
+        b'n' => '\n',
+        b'r' => '\r',
+        b'0' => '\0',
+        b'u' => {
+            let character = character_of(take_part(bytes, b'}'));
+            bytes.found_or(character, '\0')
+        }
+        byte @ (b'\\' | b'"' | b'\'') => char::from(byte),
+        _ => bytes.found_or(None, '\0'),
+    }
+}
+
+/// A character, which may be escaped.
+fn read_one(bytes: &mut Cursor<'_, u8>) -> char {
+    match take(bytes) {
+        b'\\' => read_escape(bytes),
+        byte => char::from(byte),
     }
 }
 
 /// A character and its closing quote.
-pub fn read_char(bytes: &mut Cursor<'_, u8>) -> Result<char> {
-    let character = match *bytes.next()? {
-        b'\\' => read_escape(bytes)?,
-        byte => char::from(byte),
-    };
-    match *bytes.next()? {
-        b'\'' => Ok(character),
-        _ => Err(Failure::NoRow),
+pub fn read_char(bytes: &mut Cursor<'_, u8>) -> char {
+    let character = read_one(bytes);
+    if take(bytes) != b'\'' {
+        bytes.note(Err(Failure::NoRow));
     }
+    character
 }
 
 /// A text and its closing quote.
-pub fn read_text(bytes: &mut Cursor<'_, u8>) -> Result<String> {
+pub fn read_text(bytes: &mut Cursor<'_, u8>) -> String {
     let mut text = String::new(bytes.alloc());
     for _ in bytes.rest() {
-        match *bytes.next()? {
-            b'"' => return Ok(text),
-            b'\\' => text.push(read_escape(bytes)?)?,
-            byte => text.push(char::from(byte))?,
+        match bytes.rest() {
+            [b'"', after @ ..] => {
+                bytes.move_to(after);
+                return text;
+            }
+            _ => {
+                let character = read_one(bytes);
+                bytes.made(text.push(character));
+            }
         }
     }
-    Err(Failure::NoRow)
+    bytes.note(Err(Failure::NoRow));
+    text
 }
 
 /// Bytes as numbers parted by commas, and the closing bracket.
-pub fn read_bytes(bytes: &mut Cursor<'_, u8>) -> Result<Vec<u8>> {
-    let list = take_until(bytes, b']')?;
+pub fn read_bytes(bytes: &mut Cursor<'_, u8>) -> Vec<u8> {
     let mut octets = Vec::new(bytes.alloc());
+    let list = take_part(bytes, b']');
     if !list.is_empty() {
         for number in list.split(", ") {
-            octets.push(parse(number)?)?;
+            let octet = bytes.parsed(number);
+            bytes.made(octets.push(octet));
         }
     }
-    Ok(octets)
+    octets
 }

@@ -1,8 +1,6 @@
 //! Requests of a row.
 
-use crate::failure::{Failure, Result};
-use crate::names::static_name;
-use crate::number::parse;
+use crate::piece::{Pieces, take_word};
 
 /// A request.
 #[derive(Clone, Copy)]
@@ -15,20 +13,16 @@ pub struct Request<'a> {
     pub length: usize,
 }
 
-/// A word, behind which a name, a length or both may stand in brackets.
-pub fn read_request(text: &str) -> Result<Request<'_>> {
-    let Some((word, rest)) = text.split_once('(') else {
-        return Ok(Request {
-            word: text,
-            name: "",
-            length: 0,
-        });
-    };
-    let inside = rest.strip_suffix(')').ok_or(Failure::NoRow)?;
+/// Takes a word, behind which a name, a length or both may stand in brackets.
+pub fn read_request<'a>(pieces: &mut Pieces<'a>) -> Request<'a> {
+    let text = take_word(pieces);
+    let (word, rest) = text.split_once('(').unwrap_or((text, ")"));
+    let inside = pieces.found_or(rest.strip_suffix(')'), "");
     let (name, length) = match (word, inside.split_once(", ")) {
-        (_, Some((name, length))) => (static_name(name)?, parse(length)?),
-        ("tuple" | "tuple_variant", None) => ("", parse(inside)?),
-        (_, None) => (static_name(inside)?, 0),
+        (_, None) if inside.is_empty() => ("", 0),
+        (_, Some((name, length))) => (pieces.name(name), pieces.parsed(length)),
+        ("tuple" | "tuple_variant", None) => ("", pieces.parsed(inside)),
+        (_, None) => (pieces.name(inside), 0),
     };
-    Ok(Request { word, name, length })
+    Request { word, name, length }
 }

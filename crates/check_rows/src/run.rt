@@ -1,22 +1,32 @@
 //! Every row of the input, one after another.
 
 use crate::failure::{Failure, Result};
-use crate::row::read_row;
+use crate::operations::answer;
+use crate::printable::is_printable;
 use crate::unfold::unfold;
 use std::alloc::{AllocError, Global};
 use std::io;
 
+/// The operation, the arguments and the wanted answer of the row that the line is, if it is one.
+fn parts_of(line: &str) -> Option<(&str, &str, &str)> {
+    if !line.bytes().all(|byte| byte == b'\t' || is_printable(byte)) {
+        return None;
+    }
+    let (operation, rest) = line.split_once('\t')?;
+    let (arguments, wanted) = rest.rsplit_once('\t')?;
+    Some((operation, arguments, wanted))
+}
+
 /// What is to be said of a line, or nothing where its answer is the wanted one.
 fn finding(alloc: Global, line: &str) -> Result<Option<String>> {
-    let row = read_row(line)?;
-    let operation = row.operation;
-    let wanted = row.wanted;
-    let got = row.answer(alloc)?;
+    let (operation, arguments, wanted) = parts_of(line).ok_or(Failure::NoRow)?;
+    let arguments = unfold(alloc, arguments)?;
+    let got = answer(alloc, operation, arguments.as_str())?;
     if got.as_str() == unfold(alloc, wanted)?.as_str() {
-        Ok(None)
-    } else {
-        Ok(Some(format!(in alloc; "{operation}: got {got}, wanted {wanted}")?))
+        return Ok(None);
     }
+    let finding = format!(in alloc; "{operation}: got {got}, wanted {wanted}");
+    finding.map(Some).map_err(|_| Failure::OutOfMemory)
 }
 
 /// The same, where a line that is no row is said to be none.
@@ -24,7 +34,7 @@ fn told(alloc: Global, line: &str) -> std::result::Result<Option<String>, AllocE
     match finding(alloc, line) {
         Ok(finding) => Ok(finding),
         Err(Failure::OutOfMemory) => Err(AllocError),
-        Err(_) => Ok(Some(String::from_str(alloc, "no row")?)),
+        Err(Failure::NoRow) => Ok(Some(String::from_str(alloc, "no row")?)),
     }
 }
 

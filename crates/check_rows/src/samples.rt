@@ -1,58 +1,52 @@
 //! The library's samples of a caller's own types, as rows have them.
 
-use crate::failure::{Failure, Result, Written};
-use crate::piece::{Pieces, take_mark, take_parsed, take_word};
+use crate::answer::Answer;
+use crate::failure::Failure;
+use crate::piece::{Pieces, take_held, take_if_word, take_mark, take_parsed, take_word};
 use serde_content::samples::{Point, Shape};
 
 /// Two numbers in brackets.
-fn read_two(pieces: &mut Pieces<'_>) -> Result<(i32, i32)> {
-    take_mark(pieces, b'(')?;
-    let two = (take_parsed(pieces)?, take_parsed(pieces)?);
-    take_mark(pieces, b')')?;
-    Ok(two)
+fn read_two(pieces: &mut Pieces<'_>) -> (i32, i32) {
+    take_mark(pieces, b'(');
+    let two = (take_parsed(pieces), take_parsed(pieces));
+    take_mark(pieces, b')');
+    two
 }
 
 /// A point.
-pub fn read_point(pieces: &mut Pieces<'_>) -> Result<Point> {
-    match take_word(pieces)? {
-        "Point" => {
-            let (x, y) = read_two(pieces)?;
-            Ok(Point { x, y })
-        }
-        _ => Err(Failure::NoRow),
+pub fn read_point(pieces: &mut Pieces<'_>) -> Point {
+    if !take_if_word(pieces, "Point") {
+        pieces.note(Err(Failure::NoRow));
     }
+    let (x, y) = read_two(pieces);
+    Point { x, y }
 }
 
 /// A shape; one with fields has no row.
-pub fn read_shape(pieces: &mut Pieces<'_>) -> Result<Shape> {
-    match take_word(pieces)? {
-        "Dot" => Ok(Shape::Dot),
-        "Ring" => {
-            take_mark(pieces, b'(')?;
-            let radius = take_parsed(pieces)?;
-            take_mark(pieces, b')')?;
-            Ok(Shape::Ring(radius))
-        }
+pub fn read_shape(pieces: &mut Pieces<'_>) -> Shape {
+    match take_word(pieces) {
+        "Dot" => Shape::Dot,
+        "Ring" => Shape::Ring(take_held(pieces)),
         "Span" => {
-            let (first, second) = read_two(pieces)?;
-            Ok(Shape::Span(first, second))
+            let (first, second) = read_two(pieces);
+            Shape::Span(first, second)
         }
-        _ => Err(Failure::NoRow),
+        _ => pieces.found_or(None, Shape::Dot),
     }
 }
 
 /// Adds a point.
-pub fn write_point(out: &mut String, point: &Point) -> Written {
+pub fn write_point(out: &mut Answer, point: &Point) {
     let Point { x, y } = point;
-    write!(out, "Point({x}, {y})")
+    out.print(format_args!("Point({x}, {y})"));
 }
 
 /// Adds a shape.
-pub fn write_shape(out: &mut String, shape: &Shape) -> Written {
+pub fn write_shape(out: &mut Answer, shape: &Shape) {
     match shape {
         Shape::Dot => out.push_str("Dot"),
-        Shape::Ring(radius) => write!(out, "Ring({radius})"),
-        Shape::Span(first, second) => write!(out, "Span({first}, {second})"),
-        Shape::Area { w, h } => write!(out, "Area({w}, {h})"),
+        Shape::Ring(radius) => out.print(format_args!("Ring({radius})")),
+        Shape::Span(first, second) => out.print(format_args!("Span({first}, {second})")),
+        Shape::Area { w, h } => out.print(format_args!("Area({w}, {h})")),
     }
 }

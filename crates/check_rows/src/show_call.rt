@@ -1,34 +1,33 @@
 //! Lists of calls as rows have them.
 
-use crate::failure::Written;
+use crate::answer::Answer;
 use crate::number::{kind_word, write_digits};
 use crate::printable::write_listed;
 use serde_content::ser::Call;
 
 /// Adds the calls, parted by a semicolon and a space.
-pub fn write_calls(out: &mut String, calls: &[Call<'_>]) -> Written {
+pub fn write_calls(out: &mut Answer, calls: &[Call<'_>]) {
     for (place, call) in calls.iter().enumerate() {
         if place > 0 {
-            out.push_str("; ")?;
+            out.push_str("; ");
         }
-        write_call(out, call)?;
+        write_call(out, call);
     }
-    Ok(())
 }
 
 /// Adds a call.
-pub fn write_call(out: &mut String, call: &Call<'_>) -> Written {
+pub fn write_call(out: &mut Answer, call: &Call<'_>) {
     match call {
-        Call::Bool(flag) => write!(out, "bool {flag}"),
+        Call::Bool(flag) => out.push_str(if *flag { "bool true" } else { "bool false" }),
         Call::Number(number) => {
-            out.push_str(kind_word(number))?;
-            out.push(' ')?;
-            write_digits(out, number)
+            out.push_str(kind_word(*number));
+            out.push(' ');
+            write_digits(out, *number);
         }
         Call::Char(character) => write_char(out, *character),
         Call::Str(text) => {
-            out.push_str("str ")?;
-            write_listed(out, text.as_str())
+            out.push_str("str ");
+            write_listed(out, text.as_str());
         }
         Call::Bytes(bytes) => write_bytes(out, bytes.as_bytes()),
         Call::Seq(hint) => write_hint(out, "seq", *hint),
@@ -43,54 +42,47 @@ pub fn write_call(out: &mut String, call: &Call<'_>) -> Written {
         Call::Value => out.push_str("value"),
         Call::Entry => out.push_str("entry"),
         Call::End => out.push_str("end"),
-        _ => write_named(out, call),
+        Call::Field(key) => out.print(format_args!("field {key}")),
+        Call::UnitStruct(name) => out.print(format_args!("unit_struct {name}")),
+        Call::NewtypeStruct(name) => out.print(format_args!("newtype_struct {name}")),
+        Call::TupleStruct(name, n) => out.print(format_args!("tuple_struct {name} {n}")),
+        Call::Struct(name, n) => out.print(format_args!("struct {name} {n}")),
+        Call::UnitVariant(name, i, variant) => write_variant(out, "unit", name, *i, variant),
+        Call::NewtypeVariant(name, i, variant) => write_variant(out, "newtype", name, *i, variant),
+        Call::TupleVariant(name, i, variant, n) => {
+            write_variant(out, "tuple", name, *i, variant);
+            out.print(format_args!(" {n}"));
+        }
+        Call::StructVariant(name, i, variant, n) => {
+            write_variant(out, "struct", name, *i, variant);
+            out.print(format_args!(" {n}"));
+        }
     }
 }
 
-/// Adds a call that names a struct, a variant or a field.
-fn write_named(out: &mut String, call: &Call<'_>) -> Written {
-    match call {
-        Call::Field(key) => write!(out, "field {key}"),
-        Call::UnitStruct(name) => write!(out, "unit_struct {name}"),
-        Call::NewtypeStruct(name) => write!(out, "newtype_struct {name}"),
-        Call::TupleStruct(name, length) => write!(out, "tuple_struct {name} {length}"),
-        Call::Struct(name, length) => write!(out, "struct {name} {length}"),
-        Call::UnitVariant(name, i, variant) => write!(out, "unit_variant {name} {i} {variant}"),
-        Call::NewtypeVariant(name, i, variant) => {
-            write!(out, "newtype_variant {name} {i} {variant}")
-        }
-        Call::TupleVariant(name, i, variant, length) => {
-            write!(out, "tuple_variant {name} {i} {variant} {length}")
-        }
-        Call::StructVariant(name, i, variant, length) => {
-            write!(out, "struct_variant {name} {i} {variant} {length}")
-        }
-        _ => Ok(()),
-    }
+/// Adds the call of a variant of this sort, but for its length.
+fn write_variant(out: &mut Answer, sort: &str, name: &str, index: u32, variant: &str) {
+    out.print(format_args!("{sort}_variant {name} {index} {variant}"));
 }
 
 /// Adds the call of a character.
-fn write_char(out: &mut String, character: char) -> Written {
-    let mut text = String::new(*out.allocator());
-    text.push(character)?;
-    out.push_str("char ")?;
-    write_listed(out, text.as_str())
+fn write_char(out: &mut Answer, character: char) {
+    out.push_str("char ");
+    write_listed(out, character.encode_utf8(&mut [0; 4]));
 }
 
 /// Adds the call of bytes.
-fn write_bytes(out: &mut String, bytes: &[u8]) -> Written {
-    out.push_str("bytes ")?;
+fn write_bytes(out: &mut Answer, bytes: &[u8]) {
+    out.push_str("bytes ");
     for byte in bytes {
-        write!(out, "{byte:02x}")?;
+        out.print(format_args!("{byte:02x}"));
     }
-    Ok(())
 }
 
 /// Adds a word, and a length where there is one.
-fn write_hint(out: &mut String, word: &str, hint: Option<usize>) -> Written {
-    out.push_str(word)?;
-    match hint {
-        None => Ok(()),
-        Some(length) => write!(out, " {length}"),
+fn write_hint(out: &mut Answer, word: &str, hint: Option<usize>) {
+    out.push_str(word);
+    if let Some(length) = hint {
+        out.print(format_args!(" {length}"));
     }
 }

@@ -1,7 +1,7 @@
 //! Long texts in short: `<<0..3: k#; >>` stands for `k0; k1; k2; `.
 
+use crate::answer::Answer;
 use crate::failure::{Failure, Result};
-use crate::number::parse;
 use serde_content::CowStr;
 use std::alloc::Global;
 
@@ -17,43 +17,35 @@ pub fn unfold<'a>(alloc: Global, text: &'a str) -> Result<CowStr<'a>> {
 
 /// The text with all that stands in double angles written out.
 fn written_out(alloc: Global, text: &str) -> Result<String> {
-    let mut out = String::new(alloc);
+    let mut out = Answer::new(alloc);
     for (place, piece) in text.split("<<").enumerate() {
         if place == 0 {
-            out.push_str(piece)?;
-        } else {
-            let (repeated, after) = piece.split_once(">>").ok_or(Failure::NoRow)?;
-            write_repeated(&mut out, repeated)?;
-            out.push_str(after)?;
+            out.push_str(piece);
+        } else if write_piece(&mut out, piece).is_none() {
+            out.fail(Failure::NoRow);
         }
     }
-    Ok(out)
+    out.finish()
 }
 
-/// Adds the text behind a range such as `0..3: `, once for each number in it.
-fn write_repeated(out: &mut String, repeated: &str) -> Result<()> {
-    let (range, text) = repeated.split_once(": ").ok_or(Failure::NoRow)?;
-    let (start, end) = range.split_once("..").ok_or(Failure::NoRow)?;
-    let start: u32 = parse(start)?;
-    let end: u32 = parse(end)?;
-    let is_plain = !text.contains('#');
-    for number in start..end {
-        if is_plain {
-            out.push_str(text)?;
-        } else {
-            write_numbered(out, text, number)?;
-        }
+/// Adds the text behind a range such as `0..3: `, once for each number in it, and what follows.
+fn write_piece(out: &mut Answer, piece: &str) -> Option<()> {
+    let (repeated, after) = piece.split_once(">>")?;
+    let (range, text) = repeated.split_once(": ")?;
+    let (start, end) = range.split_once("..")?;
+    for number in start.parse::<u32>().ok()?..end.parse().ok()? {
+        write_numbered(out, text, number);
     }
-    Ok(())
+    out.push_str(after);
+    Some(())
 }
 
 /// Adds the text, where `#` stands for the number.
-fn write_numbered(out: &mut String, text: &str, number: u32) -> Result<()> {
+fn write_numbered(out: &mut Answer, text: &str, number: u32) {
     for (place, piece) in text.split('#').enumerate() {
         if place > 0 {
-            write!(out, "{number}")?;
+            out.print(number);
         }
-        out.push_str(piece)?;
+        out.push_str(piece);
     }
-    Ok(())
 }

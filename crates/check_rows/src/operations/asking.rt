@@ -1,36 +1,34 @@
 //! Requests, and what they answer.
 
 use crate::access::{write_enum, write_map, write_seq};
+use crate::answer::Answer;
 use crate::deserializer::{read_deserializer, write_handed};
-use crate::failure::{Failure, Result};
 use crate::flags::{Flags, read_flags};
-use crate::parted::Parted;
-use crate::piece::read_pieces;
+use crate::piece::{Pieces, take_word};
+use crate::printable::write_debug;
 use crate::request::{Request, read_request};
-use crate::show::write_tree;
-use serde_content::de::Node;
-use serde_content::{Deserializer, Value};
+use crate::show::{write_bytes, write_text, write_tree, write_value};
+use serde_content::de::{Node, VariantAccess};
+use serde_content::{Deserializer, Result, Value};
 use std::fmt::Debug;
 
 /// What is answered to a request.
-pub fn ask(out: &mut String, columns: &mut Parted<'_>) -> Result<()> {
-    let alloc = *out.allocator();
-    let flags = read_flags(columns.next()?)?;
-    let request = read_request(columns.next()?)?;
-    let pieces = read_pieces(alloc, columns.next()?)?;
-    let from = read_deserializer(alloc, pieces.as_slice(), flags)?;
-    out.push_str("ok ")?;
-    write_parts(out, flags, &request, from)
+pub fn ask(out: &mut Answer, pieces: &mut Pieces<'_>) -> Result<()> {
+    let flags = read_flags(pieces);
+    let request = read_request(pieces);
+    let from = read_deserializer(pieces, flags);
+    out.push_str("ok ");
+    write_parts(out, flags, request, from)
 }
 
 /// Adds the answer to a request, of one for what stands inside here.
 fn write_parts(
-    out: &mut String,
+    out: &mut Answer,
     flags: Flags,
-    request: &Request<'_>,
+    request: Request<'_>,
     from: Deserializer<'_, 'static>,
 ) -> Result<()> {
-    let alloc = *out.allocator();
+    let alloc = out.alloc();
     let name = request.name;
     let length = request.length;
     match request.word {
@@ -39,11 +37,8 @@ fn write_parts(
         "seq" => write_seq(out, flags, from.deserialize_seq(alloc)?),
         "tuple" => write_seq(out, flags, from.deserialize_tuple(alloc, length)?),
         "tuple_struct" => {
-            write_seq(
-                out,
-                flags,
-                from.deserialize_tuple_struct(alloc, name, length)?,
-            )
+            let items = from.deserialize_tuple_struct(alloc, name, length)?;
+            write_seq(out, flags, items)
         }
         "map" => write_map(out, flags, from.deserialize_map(alloc)?),
         "struct" => write_map(out, flags, from.deserialize_struct(alloc, name, &[])?),
@@ -54,34 +49,31 @@ fn write_parts(
 }
 
 /// Adds what may be held.
-fn write_option(out: &mut String, held: Option<Deserializer<'_, 'static>>) -> Result<()> {
+fn write_option(out: &mut Answer, held: Option<Deserializer<'_, 'static>>) -> Result<()> {
     match held {
-        None => Ok(out.push_str("none")?),
+        None => {
+            out.push_str("none");
+            Ok(())
+        }
         Some(held) => {
-            out.push_str("some ")?;
+            out.push_str("some ");
             write_handed(out, held)
         }
     }
 }
 
 /// Adds a datum as it prints.
-fn write_datum<T: Debug + Drop>(out: &mut String, datum: serde_content::Result<T>) -> Result<()> {
-    let datum = datum?;
-    Ok(write!(out, "{datum:?}")?)
-}
-
-/// Adds a datum as a tree.
-fn write_value(out: &mut String, tree: Value<'_>) -> Result<()> {
-    Ok(write_tree(out, &tree)?)
+fn write_datum<T: Debug + Drop>(out: &mut Answer, datum: Result<T>) -> Result<()> {
+    datum.map(|datum| write_debug(out, &datum))
 }
 
 /// Adds the answer to a request for a datum.
 fn write_leaf(
-    out: &mut String,
-    request: &Request<'_>,
+    out: &mut Answer,
+    request: Request<'_>,
     from: Deserializer<'_, 'static>,
 ) -> Result<()> {
-    let alloc = *out.allocator();
+    let alloc = out.alloc();
     match request.word {
         "bool" => write_datum(out, from.deserialize_bool(alloc)),
         "i8" => write_datum(out, from.deserialize_i8(alloc)),
@@ -103,50 +95,61 @@ fn write_leaf(
         "unit" => write_datum(out, from.deserialize_unit(alloc)),
         "unit_struct" => write_datum(out, from.deserialize_unit_struct(alloc, request.name)),
         "ignored_any" => write_datum(out, from.deserialize_ignored_any(alloc)),
-        _ => Err(Failure::NoRow),
+        _ => out.no_row(),
     }
 }
 
 /// Adds what is there, whatever it is.
-fn write_node(out: &mut String, flags: Flags, from: Deserializer<'_, 'static>) -> Result<()> {
-    let alloc = *out.allocator();
-    let same = from.try_clone(alloc)?;
-    out.push_str("node ")?;
-    match from.deserialize_any(alloc)? {
-        Node::Unit => write_value(out, Value::Unit),
-        Node::Bool(flag) => write_value(out, Value::Bool(flag)),
-        Node::Number(number) => write_value(out, Value::Number(number)),
-        Node::Char(character) => write_value(out, Value::Char(character)),
-        Node::Str(text) => write_value(out, Value::String(text)),
-        Node::Bytes(bytes) => write_value(out, Value::Bytes(bytes)),
-        Node::NoneNode => write_option(out, None),
-        Node::SomeNode(held) => write_option(out, Some(held)),
+fn write_node(out: &mut Answer, flags: Flags, from: Deserializer<'_, 'static>) -> Result<()> {
+    let same = from.try_clone(out.alloc())?;
+    let node = from.deserialize_any(out.alloc())?;
+    out.push_str("node ");
+    match node {
+        Node::Unit => out.push_str("()"),
+        Node::Bool(flag) => write_tree(out, &Value::Bool(flag)),
+        Node::Number(number) => write_tree(out, &Value::Number(number)),
+        Node::Char(character) => write_tree(out, &Value::Char(character)),
+        Node::Str(text) => write_text(out, 'b', &text),
+        Node::Bytes(bytes) => write_bytes(out, &bytes),
+        Node::NoneNode => return write_option(out, None),
+        Node::SomeNode(held) => return write_option(out, Some(held)),
         Node::Newtype(held) => {
-            out.push_str("newtype ")?;
-            write_handed(out, held)
+            out.push_str("newtype ");
+            return write_handed(out, held);
         }
-        Node::Seq(items) => write_seq(out, flags, items),
-        Node::Map(entries) => write_map(out, flags, entries),
-        Node::Enum(_) => write_enum(out, flags, same, None),
+        Node::Seq(items) => return write_seq(out, flags, items),
+        Node::Map(entries) => return write_map(out, flags, entries),
+        Node::Enum(_) => return write_enum(out, flags, same, None),
     }
+    Ok(())
 }
 
 /// What is answered to a request for a variant, whatever its tag.
-pub fn variant(out: &mut String, columns: &mut Parted<'_>) -> Result<()> {
-    let alloc = *out.allocator();
-    let flags = read_flags(columns.next()?)?;
-    let name = columns.name()?;
-    let request = read_request(columns.next()?)?;
-    let pieces = read_pieces(alloc, columns.next()?)?;
-    let from = read_deserializer(alloc, pieces.as_slice(), flags)?;
-    let access = from.deserialize_enum(alloc, name, &[])?;
-    let (_tag, variant) = access.variant_deserializer(alloc)?;
-    out.push_str("ok ")?;
+pub fn variant(out: &mut Answer, pieces: &mut Pieces<'_>) -> Result<()> {
+    let flags = read_flags(pieces);
+    let name = take_word(pieces);
+    let name = pieces.name(name);
+    let request = read_request(pieces);
+    let from = read_deserializer(pieces, flags);
+    let access = from.deserialize_enum(out.alloc(), name, &[])?;
+    let (_tag, variant) = access.variant_deserializer(out.alloc())?;
+    out.push_str("ok ");
+    write_variant(out, flags, request, variant)
+}
+
+/// Adds the answer to a request for what a variant holds.
+fn write_variant(
+    out: &mut Answer,
+    flags: Flags,
+    request: Request<'_>,
+    variant: VariantAccess<'_, 'static>,
+) -> Result<()> {
+    let alloc = out.alloc();
     match request.word {
         "unit_variant" => write_datum(out, variant.unit_variant(alloc)),
         "newtype_deserializer" => write_handed(out, variant.newtype_deserializer(alloc)?),
         "tuple_variant" => write_seq(out, flags, variant.tuple_variant(alloc, request.length)?),
         "struct_variant" => write_map(out, flags, variant.struct_variant(alloc, &[])?),
-        _ => Err(Failure::NoRow),
+        _ => out.no_row(),
     }
 }

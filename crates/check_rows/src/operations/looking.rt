@@ -1,99 +1,72 @@
 //! What stands in a value, and behind a key of it.
 
-use crate::failure::{Failure, Result};
+use crate::answer::Answer;
+use crate::failure::Failure;
 use crate::piece::{Pieces, take_word};
-use crate::show::{write_comma, write_tree};
+use crate::show::{write_items, write_pairs, write_tree};
 use crate::tree::read_tree;
 use serde_content::{CowBytes, CowStr, NamedValue, Number, Value};
 
 /// The value behind a key.
-pub fn get(out: &mut String, pieces: &mut Pieces<'_>) -> Result<()> {
-    let key = read_tree(pieces)?;
-    let value = read_tree(pieces)?;
-    write_lent(out, value.get(&key))
+pub fn get(out: &mut Answer, pieces: &mut Pieces<'_>) {
+    let key = read_tree(pieces);
+    let value = read_tree(pieces);
+    write_lent(out, value.get(&key));
 }
 
 /// The value behind a text.
-pub fn get_str(out: &mut String, pieces: &mut Pieces<'_>) -> Result<()> {
-    let Value::String(key) = read_tree(pieces)? else {
-        return Err(Failure::NoRow);
+pub fn get_str(out: &mut Answer, pieces: &mut Pieces<'_>) {
+    let Value::String(key) = read_tree(pieces) else {
+        return out.fail(Failure::NoRow);
     };
-    let value = read_tree(pieces)?;
-    write_lent(out, value.get_str(key.as_str()))
+    let value = read_tree(pieces);
+    write_lent(out, value.get_str(key.as_str()));
 }
 
 /// What stands right inside, by the type that is named.
-pub fn lend(out: &mut String, pieces: &mut Pieces<'_>) -> Result<()> {
-    let typ = take_word(pieces)?;
-    let value = read_tree(pieces)?;
+pub fn lend(out: &mut Answer, pieces: &mut Pieces<'_>) {
+    let typ = take_word(pieces);
+    write_inside(out, typ, &read_tree(pieces));
+}
+
+/// Adds what stands right inside a value, as this type.
+fn write_inside(out: &mut Answer, typ: &str, value: &Value<'_>) {
     match typ {
-        "bool" => match value.as_bool() {
-            Some(flag) => write_lent(out, Some(&Value::Bool(flag))),
-            None => write_lent(out, None),
-        },
-        "number" => write_number(out, value.as_number()),
-        "i64" => write_number(out, value.as_i64().map(|number| Number::I64(number))),
-        "u64" => write_number(out, value.as_u64().map(|number| Number::U64(number))),
-        "i128" => write_number(out, value.as_i128().map(|number| Number::I128(number))),
-        "u128" => write_number(out, value.as_u128().map(|number| Number::U128(number))),
-        "char" => match value.as_char() {
-            Some(character) => write_lent(out, Some(&Value::Char(character))),
-            None => write_lent(out, None),
-        },
-        "str" => match value.as_str() {
-            Some(text) => write_lent(out, Some(&Value::String(CowStr::Borrowed(text)))),
-            None => write_lent(out, None),
-        },
-        "bytes" => match value.as_bytes() {
-            Some(bytes) => write_lent(out, Some(&Value::Bytes(CowBytes::Borrowed(bytes)))),
-            None => write_lent(out, None),
-        },
         "seq" => match value.as_seq() {
-            Some(items) => write_items(out, items),
+            Some(items) => write_items(out, "[", items),
             None => write_lent(out, None),
         },
         "map" => match value.as_map() {
-            Some(pairs) => write_pairs(out, pairs),
+            Some(pairs) => write_pairs(out, "{", pairs),
             None => write_lent(out, None),
         },
-        _ => Err(Failure::NoRow),
+        "bool" | "number" | "i64" | "u64" | "i128" | "u128" | "char" | "str" | "bytes" => {
+            write_lent(out, leaf_of(typ, value).as_ref());
+        }
+        _ => out.fail(Failure::NoRow),
+    }
+}
+
+/// What stands right inside a value, as this type of a leaf.
+fn leaf_of<'a>(typ: &str, value: &'a Value<'_>) -> Option<Value<'a>> {
+    match typ {
+        "bool" => Some(Value::Bool(value.as_bool()?)),
+        "number" => Some(Value::Number(value.as_number()?)),
+        "i64" => Some(Value::Number(Number::I64(value.as_i64()?))),
+        "u64" => Some(Value::Number(Number::U64(value.as_u64()?))),
+        "i128" => Some(Value::Number(Number::I128(value.as_i128()?))),
+        "u128" => Some(Value::Number(Number::U128(value.as_u128()?))),
+        "char" => Some(Value::Char(value.as_char()?)),
+        "str" => Some(Value::String(CowStr::Borrowed(value.as_str()?))),
+        "bytes" => Some(Value::Bytes(CowBytes::Borrowed(value.as_bytes()?))),
+        _ => None,
     }
 }
 
 /// Adds a value that is lent, or that there is none.
-fn write_lent(out: &mut String, value: Option<&NamedValue<'_, '_>>) -> Result<()> {
+fn write_lent(out: &mut Answer, value: Option<&NamedValue<'_, '_>>) {
     match value {
-        Some(value) => Ok(write_tree(out, value)?),
-        None => Ok(out.push_str("none")?),
+        Some(value) => write_tree(out, value),
+        None => out.push_str("none"),
     }
-}
-
-/// Adds a number, or that there is none.
-fn write_number(out: &mut String, number: Option<Number>) -> Result<()> {
-    match number {
-        Some(number) => write_lent(out, Some(&Value::Number(number))),
-        None => write_lent(out, None),
-    }
-}
-
-/// Adds items that are lent.
-fn write_items(out: &mut String, items: &[NamedValue<'_, '_>]) -> Result<()> {
-    out.push_str("[")?;
-    for (place, item) in items.iter().enumerate() {
-        write_comma(out, place)?;
-        write_tree(out, item)?;
-    }
-    Ok(out.push_str("]")?)
-}
-
-/// Adds pairs that are lent.
-fn write_pairs(out: &mut String, pairs: &[(NamedValue<'_, '_>, NamedValue<'_, '_>)]) -> Result<()> {
-    out.push_str("{")?;
-    for (place, (key, value)) in pairs.iter().enumerate() {
-        write_comma(out, place)?;
-        write_tree(out, key)?;
-        out.push_str(" => ")?;
-        write_tree(out, value)?;
-    }
-    Ok(out.push_str("}")?)
 }

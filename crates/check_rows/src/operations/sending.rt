@@ -1,36 +1,36 @@
 //! The calls by which something is sent.
 
+use crate::answer::Answer;
 use crate::call::read_calls;
-use crate::failure::{Failure, Result};
+use crate::cursor::Cursor;
 use crate::methods::make_call;
 use crate::number::with_whole;
-use crate::parted::Parted;
 use crate::piece::{Pieces, take_word};
-use crate::printable::write_printed;
+use crate::printable::write_refusal;
 use crate::show::write_tree;
 use crate::show_call::write_calls;
 use crate::tree::read_tree;
 use serde_content::ser::{Call, Recorder, Serialize, from_calls};
-use serde_content::{CowStr, ErrorKind, Number, Serializer, Value};
-use std::alloc::Global;
+use serde_content::{CowStr, Number, Result, Serializer, Value};
+use std::alloc::{AllocError, Global};
 use std::collections::BTreeMap;
 
 /// The calls that a recorder holds, each made by its own method.
-pub fn record(out: &mut String, columns: &mut Parted<'_>) -> Result<()> {
-    let alloc = *out.allocator();
-    let calls = read_calls(alloc, columns.next()?)?;
-    let mut recorder = Recorder::new(alloc, false);
+pub fn record(out: &mut Answer, columns: &mut Cursor<'_, u8>) -> Result<()> {
+    let calls = read_calls(columns);
+    let mut recorder = Recorder::new(out.alloc(), false);
     for call in &calls {
         make_call(&mut recorder, call)?;
     }
-    Ok(write_calls(out, recorder.into_calls().as_slice())?)
+    write_calls(out, recorder.into_calls().as_slice());
+    Ok(())
 }
 
 /// A tree as rows have it.
 fn shown(alloc: Global, value: &Value<'_>) -> Result<String> {
-    let mut out = String::new(alloc);
-    write_tree(&mut out, value)?;
-    Ok(out)
+    let mut out = Answer::new(alloc);
+    write_tree(&mut out, value);
+    Ok(out.finish().ok().ok_or(AllocError)?)
 }
 
 /// Whether the tree that a `Serializer` makes of it is the one that the calls spell.
@@ -38,76 +38,74 @@ fn is_built<T: Serialize>(alloc: Global, value: &T, calls: &[Call<'_>]) -> Resul
     let built = Serializer::new().serialize(alloc, value)?;
     match from_calls(alloc, calls) {
         Ok(spelled) => Ok(shown(alloc, &built)? == shown(alloc, &spelled)?),
-        Err(refusal) => Err(Failure::from(refusal.error)),
+        Err(refusal) => Err(refusal.error),
     }
 }
 
 /// Adds the calls by which it is sent, and where it stops the text of that.
-fn write_sent<T: Serialize>(out: &mut String, value: &T) -> Result<()> {
-    let alloc = *out.allocator();
-    let mut recorder = Recorder::new(alloc, false);
-    let ended = value.serialize(alloc, &mut recorder);
-    write_calls(out, recorder.calls())?;
+fn write_sent<T: Serialize>(out: &mut Answer, value: &T) -> Result<()> {
+    let mut recorder = Recorder::new(out.alloc(), false);
+    let ended = value.serialize(out.alloc(), &mut recorder);
+    write_calls(out, recorder.calls());
     match ended {
-        Ok(()) if is_built(alloc, value, recorder.calls())? => Ok(()),
-        Ok(()) => Ok(out.push_str("; another tree")?),
-        Err(error) => match error.into_kind() {
-            ErrorKind::OutOfMemory => Err(Failure::OutOfMemory),
-            kind => {
-                out.push_str("; stop ")?;
-                Ok(write_printed(out, &kind)?)
-            }
-        },
+        Err(error) => write_refusal(out, "; stop ", error),
+        Ok(()) if is_built(out.alloc(), value, recorder.calls())? => {}
+        Ok(()) => out.push_str("; another tree"),
     }
+    Ok(())
 }
 
 /// Of a tree.
-pub fn send(out: &mut String, pieces: &mut Pieces<'_>) -> Result<()> {
-    write_sent(out, &read_tree(pieces)?)
+pub fn send(out: &mut Answer, pieces: &mut Pieces<'_>) -> Result<()> {
+    write_sent(out, &read_tree(pieces))
 }
 
 /// Of what a tree holds, as the type that is named.
-pub fn send_as(out: &mut String, pieces: &mut Pieces<'_>) -> Result<()> {
-    let typ = take_word(pieces)?;
-    match (typ, read_tree(pieces)?) {
-        ("unit", Value::Unit) => write_sent(out, &()),
-        ("bool", Value::Bool(flag)) => write_sent(out, &flag),
-        ("char", Value::Char(character)) => write_sent(out, &character),
-        ("&str", Value::String(text)) => write_sent(out, &text.as_str()),
-        ("String", Value::String(CowStr::Owned(text))) => write_sent(out, &text),
-        ("Number", Value::Number(number)) => write_sent(out, &number),
-        ("whole", Value::Number(number)) => with_whole!(number, n => write_sent(out, &n)),
-        ("usize", Value::Number(Number::U64(n))) => {
-            write_sent(out, &usize::try_from(n).ok().ok_or(Failure::NoRow)?)
-        }
-        ("isize", Value::Number(Number::I64(n))) => {
-            write_sent(out, &isize::try_from(n).ok().ok_or(Failure::NoRow)?)
-        }
-        ("Option", Value::Option(held)) => write_sent(out, &held),
-        ("Box", Value::Struct(node)) => write_sent(out, &node),
-        ("Box", Value::Enum(node)) => write_sent(out, &node),
-        ("Vec", Value::Seq(items)) => write_sent(out, &items),
-        ("tuple", Value::Tuple(items)) => write_sent_tuple(out, items),
-        ("BTreeMap", Value::Map(pairs)) => write_sent_map(out, pairs),
-        _ => Err(Failure::NoRow),
+pub fn send_as(out: &mut Answer, pieces: &mut Pieces<'_>) -> Result<()> {
+    let named = take_word(pieces);
+    match read_tree(pieces) {
+        Value::Unit if named == "unit" => write_sent(out, &()),
+        Value::Bool(flag) if named == "bool" => write_sent(out, &flag),
+        Value::Char(character) if named == "char" => write_sent(out, &character),
+        Value::String(CowStr::Owned(text)) if named == "String" => write_sent(out, &text),
+        Value::String(text) if named == "&str" => write_sent(out, &text.as_str()),
+        Value::Number(number) => write_sent_number(out, named, number),
+        Value::Option(held) if named == "Option" => write_sent(out, &held),
+        Value::Struct(node) if named == "Box" => write_sent(out, &node),
+        Value::Enum(node) if named == "Box" => write_sent(out, &node),
+        Value::Seq(items) if named == "Vec" => write_sent(out, &items),
+        Value::Tuple(items) if named == "tuple" => write_sent_tuple(out, items),
+        Value::Map(pairs) if named == "BTreeMap" => write_sent_map(out, pairs),
+        _ => out.no_row(),
+    }
+}
+
+/// Of a number, as the type that is named.
+fn write_sent_number(out: &mut Answer, named: &str, number: Number) -> Result<()> {
+    match (named, number) {
+        ("Number", number) => write_sent(out, &number),
+        ("whole", number) => with_whole!(number, n => write_sent(out, &n)),
+        ("usize", Number::U64(n)) => write_sent(out, &(n as usize)),
+        ("isize", Number::I64(n)) => write_sent(out, &(n as isize)),
+        _ => out.no_row(),
     }
 }
 
 /// Of one to four trees, as a tuple.
-fn write_sent_tuple(out: &mut String, items: Vec<Value<'_>>) -> Result<()> {
+fn write_sent_tuple(out: &mut Answer, items: Vec<Value<'_>>) -> Result<()> {
     let mut items = items.into_iter();
     match (items.next(), items.next(), items.next(), items.next()) {
         (Some(a), None, None, None) => write_sent(out, &(a,)),
         (Some(a), Some(b), None, None) => write_sent(out, &(a, b)),
         (Some(a), Some(b), Some(c), None) => write_sent(out, &(a, b, c)),
         (Some(a), Some(b), Some(c), Some(d)) => write_sent(out, &(a, b, c, d)),
-        _ => Err(Failure::NoRow),
+        _ => out.no_row(),
     }
 }
 
 /// Of pairs, put into a `BTreeMap` in turn.
-fn write_sent_map(out: &mut String, pairs: Vec<(Value<'_>, Value<'_>)>) -> Result<()> {
-    let mut map = BTreeMap::new(*out.allocator());
+fn write_sent_map(out: &mut Answer, pairs: Vec<(Value<'_>, Value<'_>)>) -> Result<()> {
+    let mut map = BTreeMap::new(out.alloc());
     for (key, value) in pairs {
         drop(map.insert(key, value)?);
     }

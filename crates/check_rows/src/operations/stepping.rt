@@ -1,24 +1,24 @@
 //! Accesses, step by step.
 
+use crate::answer::Answer;
 use crate::deserializer::{read_deserializer, write_handed};
-use crate::failure::{Failure, Result};
+use crate::failure::Failure;
 use crate::flags::read_flags;
-use crate::parted::Parted;
-use crate::piece::read_pieces;
+use crate::piece::{Pieces, take_word};
 use crate::printable::write_listed;
 use crate::request::read_request;
 use serde_content::de::{Deserialize, Map, Seq};
-use std::alloc::Global;
+use serde_content::{Error, ErrorKind, Result};
+use std::alloc::{AllocError, Global};
 use std::fmt::Debug;
 
 /// What an access answers to each step.
-pub fn access(out: &mut String, columns: &mut Parted<'_>) -> Result<()> {
-    let alloc = *out.allocator();
-    let flags = read_flags(columns.next()?)?;
-    let request = read_request(columns.next()?)?;
-    let steps = columns.next()?;
-    let pieces = read_pieces(alloc, columns.next()?)?;
-    let from = read_deserializer(alloc, pieces.as_slice(), flags)?;
+pub fn access(out: &mut Answer, pieces: &mut Pieces<'_>) -> Result<()> {
+    let flags = read_flags(pieces);
+    let request = read_request(pieces);
+    let steps = take_word(pieces);
+    let from = read_deserializer(pieces, flags);
+    let alloc = out.alloc();
     match request.word {
         "seq" => write_seq_steps(out, steps, from.deserialize_seq(alloc)?),
         "map" => write_map_steps(out, steps, from.deserialize_map(alloc)?),
@@ -26,29 +26,36 @@ pub fn access(out: &mut String, columns: &mut Parted<'_>) -> Result<()> {
             let entries = from.deserialize_struct(alloc, request.name, &[])?;
             write_map_steps(out, steps, entries)
         }
-        _ => Err(Failure::NoRow),
+        _ => out.no_row(),
     }
 }
 
 /// Adds the answer of the step at this place.
-fn write_step(out: &mut String, place: usize, answer: Result<String>) -> Result<()> {
-    out.push_str(if place == 0 { "" } else { "; " })?;
-    let text = match answer {
+fn write_step(out: &mut Answer, place: usize, answer: Result<String>) {
+    out.push_str(if place == 0 { "" } else { "; " });
+    match answer {
         Ok(text) => {
-            out.push_str("ok ")?;
-            text
+            out.push_str("ok ");
+            write_listed(out, text.as_str());
         }
-        Err(Failure::Refused(kind)) => {
-            out.push_str("refused ")?;
-            format!(in *out.allocator(); "{kind}")?
+        Err(error) => write_refused(out, error),
+    }
+}
+
+/// Adds `refused` and why, unless memory is the cause.
+fn write_refused(out: &mut Answer, refused: Error) {
+    let kind = refused.into_kind();
+    match format!(in out.alloc(); "{kind}") {
+        Ok(text) if !matches!(kind, ErrorKind::OutOfMemory) => {
+            out.push_str("refused ");
+            write_listed(out, text.as_str());
         }
-        Err(failure) => return Err(failure),
-    };
-    Ok(write_listed(out, text.as_str())?)
+        _ => out.fail(Failure::OutOfMemory),
+    }
 }
 
 /// A datum as it prints.
-fn told<T: Debug + Drop>(alloc: Global, datum: serde_content::Result<T>) -> Result<String> {
+fn told<T: Debug + Drop>(alloc: Global, datum: Result<T>) -> Result<String> {
     let datum = datum?;
     Ok(format!(in alloc; "{datum:?}")?)
 }
@@ -62,22 +69,22 @@ fn size(alloc: Global, hint: Option<usize>) -> Result<String> {
 }
 
 /// Adds what a sequence answers to each step.
-fn write_seq_steps(out: &mut String, steps: &str, mut items: Seq<'_, 'static>) -> Result<()> {
-    let alloc = *out.allocator();
+fn write_seq_steps(out: &mut Answer, steps: &str, mut items: Seq<'_, 'static>) -> Result<()> {
+    let alloc = out.alloc();
     for (place, step) in steps.split("; ").enumerate() {
         let answer = match step {
             "size_hint" => size(alloc, items.size_hint()),
             "next_element<u8>" => told(alloc, items.next_element::<u8>(alloc)),
-            _ => return Err(Failure::NoRow),
+            _ => return out.no_row(),
         };
-        write_step(out, place, answer)?;
+        write_step(out, place, answer);
     }
     Ok(())
 }
 
 /// Adds what a map answers to each step.
-fn write_map_steps(out: &mut String, steps: &str, mut entries: Map<'_, 'static>) -> Result<()> {
-    let alloc = *out.allocator();
+fn write_map_steps(out: &mut Answer, steps: &str, mut entries: Map<'_, 'static>) -> Result<()> {
+    let alloc = out.alloc();
     for (place, step) in steps.split("; ").enumerate() {
         let answer = match step {
             "size_hint" => size(alloc, entries.size_hint()),
@@ -93,27 +100,25 @@ fn write_map_steps(out: &mut String, steps: &str, mut entries: Map<'_, 'static>)
             "next_entry<String, bool>" => next_entry::<String, bool>(alloc, &mut entries),
             "next_entry<String, u8>" => next_entry::<String, u8>(alloc, &mut entries),
             "next_entry_deserializers" => next_deserializers(alloc, &mut entries),
-            _ => return Err(Failure::NoRow),
+            _ => return out.no_row(),
         };
-        write_step(out, place, answer)?;
+        write_step(out, place, answer);
     }
     Ok(())
 }
 
 /// The next entry as what reads its key and what reads its value.
 fn next_deserializers(alloc: Global, entries: &mut Map<'_, 'static>) -> Result<String> {
-    let mut out = String::new(alloc);
-    match entries.next_entry_deserializers(alloc)? {
-        None => out.push_str("None")?,
-        Some((key, value)) => {
-            out.push_str("Some(")?;
-            write_handed(&mut out, key)?;
-            out.push_str(" => ")?;
-            write_handed(&mut out, value)?;
-            out.push(')')?;
-        }
-    }
-    Ok(out)
+    let Some((key, value)) = entries.next_entry_deserializers(alloc)? else {
+        return Ok(String::from_str(alloc, "None")?);
+    };
+    let mut out = Answer::new(alloc);
+    out.push_str("Some(");
+    write_handed(&mut out, key)?;
+    out.push_str(" => ");
+    write_handed(&mut out, value)?;
+    out.push(')');
+    Ok(out.finish().ok().ok_or(AllocError)?)
 }
 
 /// The next entry as values of these types.
