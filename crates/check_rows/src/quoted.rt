@@ -1,4 +1,5 @@
-//! Parts of a text; characters and texts in quotes and bytes in brackets, from behind their opening.
+//! Parts of a text; characters and texts in quotes and bytes in brackets, from behind their
+//! opening.
 
 use crate::cursor::Cursor;
 use crate::failure::Failure;
