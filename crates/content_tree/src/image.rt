@@ -135,7 +135,8 @@ fn name_enum<'n>(
 /// What holds images by place, in a box.
 #[inline(never)]
 fn box_items(alloc: Global, items: Vec<Found>) -> StdResult<Box<FoundData>, AllocError>
-    ensures { IfOk result (λ held. image_data_view held.value ≡ many (images_view items.items)) }
+    ensures { IfOk result (λ boxed. image_data_view boxed.value ≡ many
+        (images_view items.items)) }
 {
     Ok(Box::new(alloc, FoundData::Tuple(items))?)
 }
@@ -143,7 +144,7 @@ fn box_items(alloc: Global, items: Vec<Found>) -> StdResult<Box<FoundData>, Allo
 /// What holds images by key, in a box.
 #[inline(never)]
 fn box_fields(alloc: Global, fields: Vec<(String, Found)>) -> StdResult<Box<FoundData>, AllocError>
-    ensures { IfOk result (λ held. image_data_view held.value ≡ named
+    ensures { IfOk result (λ boxed. image_data_view boxed.value ≡ named
         (image_fields_view fields.items)) }
 {
     Ok(Box::new(alloc, FoundData::Struct(fields))?)
@@ -156,7 +157,7 @@ fn found_newtype<'a, 'n>(
     alloc: Global,
     value: &mut NamedValue<'a, 'n>,
 ) -> StdResult<Box<FoundData>, AllocError>
-    ensures { IfOk result (λ held. image_data_view held.value ≡ one
+    ensures { IfOk result (λ boxed. image_data_view boxed.value ≡ one
         (image (tree_of value.old))) }
 {
     let value = found_value(alloc, value)?;
@@ -169,7 +170,7 @@ fn found_data<'a, 'n>(
     alloc: Global,
     inside: &mut NamedData<'a, 'n>,
 ) -> StdResult<Box<FoundData>, AllocError>
-    ensures { IfOk result (λ held. image_data_view held.value ≡ image_data
+    ensures { IfOk result (λ boxed. image_data_view boxed.value ≡ image_data
         (tree_data_of inside.old)) }
 {
     match inside {

@@ -10,7 +10,7 @@ ghost use Rattle.content_tree.specs.Memory.{DataOwningTakesNoMemory};
 ghost use Rattle.content_tree.specs.Values.Cases.{string_at, vec_at, struct_name, enum_names};
 ghost use Rattle.content_tree.specs.declared.cow.CowStr.TheVariants as text;
 ghost use Rattle.content_tree.specs.declared.cow.CowBytes.TheVariants as bytes;
-ghost use Rattle.content_tree.specs.declared.value.NamedValue as value;
+ghost use Rattle.content_tree.specs.declared.value.NamedValue as kind;
 ghost use Rattle.content_tree.specs.Values.Text.{to_owned};
 ghost use Rattle.content_tree.specs.Values.Tree.{owned, owned_data, at_texts_each, at_texts_pairs};
 ghost use Rattle.content_tree.specs.Values.Tree.{at_texts_fields};
@@ -31,9 +31,9 @@ impl<'a, 'n> NamedValue<'a, 'n> {
         ensures value { IfOk result (λ own. tree_of own ≡ owned (tree_of self.entry)) }
         ensures succeeds { OwningTakesNoMemory (tree_of self.entry) → IsOk result }
         ensures text { IfSome (string_at self.entry)
-            (λ own. result ≡ Ok (value.String (text.Owned own))) }
+            (λ own. result ≡ Ok (kind.String (text.Owned own))) }
         ensures bytes { IfSome (vec_at self.entry)
-            (λ own. result ≡ Ok (value.Bytes (bytes.Owned own))) }
+            (λ own. result ≡ Ok (kind.Bytes (bytes.Owned own))) }
         ensures memory { IfErr result (λ e. IsOutOfMemory e) }
     {
         Ok(own_value(alloc, self)?)
@@ -100,16 +100,16 @@ impl<'a, 'n> NamedData<'a, 'n> {
 #[inline(always)]
 fn own_value<'a, 'n>(
     alloc: Global,
-    held: NamedValue<'a, 'n>,
+    value: NamedValue<'a, 'n>,
 ) -> StdResult<NamedValue<'static, 'n>, AllocError>
-    ensures value { IfOk result (λ own. tree_of own ≡ owned (tree_of held.entry)) }
-    ensures succeeds { OwningTakesNoMemory (tree_of held.entry) → IsOk result }
-    ensures text { IfSome (string_at held.entry)
-        (λ own. result ≡ Ok (value.String (text.Owned own))) }
-    ensures bytes { IfSome (vec_at held.entry)
-        (λ own. result ≡ Ok (value.Bytes (bytes.Owned own))) }
+    ensures value { IfOk result (λ own. tree_of own ≡ owned (tree_of value.entry)) }
+    ensures succeeds { OwningTakesNoMemory (tree_of value.entry) → IsOk result }
+    ensures text { IfSome (string_at value.entry)
+        (λ own. result ≡ Ok (kind.String (text.Owned own))) }
+    ensures bytes { IfSome (vec_at value.entry)
+        (λ own. result ≡ Ok (kind.Bytes (bytes.Owned own))) }
 {
-    match held {
+    match value {
         NamedValue::Unit => Ok(NamedValue::Unit),
         NamedValue::Bool(boolean) => Ok(NamedValue::Bool(boolean)),
         NamedValue::Number(number) => Ok(NamedValue::Number(number)),
@@ -118,7 +118,7 @@ fn own_value<'a, 'n>(
         NamedValue::Bytes(bytes) => Ok(NamedValue::Bytes(CowBytes::Owned(bytes.own(alloc)?))),
         NamedValue::Seq(items) => Ok(NamedValue::Seq(own_items(alloc, items)?)),
         NamedValue::Map(pairs) => Ok(NamedValue::Map(own_pairs(alloc, pairs)?)),
-        NamedValue::Option(inner) => Ok(NamedValue::Option(own_held(alloc, inner)?)),
+        NamedValue::Option(held) => Ok(NamedValue::Option(own_held(alloc, held)?)),
         NamedValue::Struct(node) => Ok(NamedValue::Struct(own_struct(alloc, node)?)),
         NamedValue::Enum(node) => Ok(NamedValue::Enum(own_enum(alloc, node)?)),
         NamedValue::Tuple(items) => Ok(NamedValue::Tuple(own_items(alloc, items)?)),
