@@ -11,3 +11,6 @@ pub mod Tags
 pub mod Items
 pub mod Whole
 pub mod Inside
+pub mod Longer
+pub mod Placed
+pub mod Place

@@ -59,8 +59,9 @@ pub enum DecodeError {
     OutOfMemory,
     /// What is wrong with the bytes, and where.
     Refused {
-        /// The place, counted from 0, of the first byte of what is wrong: of a head, or of the
-        /// first character that is none; the length where bytes are missing.
+        /// The place, counted from 0, of the first byte of what is wrong: of a head, of a tag whose
+        /// number has no room, or of the first character that is none; the length where bytes are
+        /// missing.
         at: usize,
         /// What is wrong.
         fault: Fault,

@@ -7,7 +7,7 @@ ghost use Rattle.std.specs.Prelude.{◌≡◌, length, map, IfOk, IfErr};
 ghost use Rattle.content_tree.specs.Values.Tree.{Tree};
 ghost use Rattle.content_tree.specs.Values.Value.{tree_of, pair_tree};
 ghost use Rattle.content_cbor.specs.Codes.{Codes};
-ghost use Rattle.content_cbor.specs.Decoded.{IsReadAs, StopsAt};
+ghost use Rattle.content_cbor.specs.Decoded.{IsPlaced, IsReadAs, StopsAt};
 ghost use Rattle.content_cbor.specs.Inner.Reading.{Gives, each_at, inside_at, item_at, leaf_at};
 ghost use Rattle.content_cbor.specs.Inner.Reading.{pair_at, parts_at, simple_at, until_at};
 ghost use Rattle.content_cbor.specs.Inner.Reading.{whole_at};
@@ -34,7 +34,8 @@ use std::alloc::Global;
 ///
 /// `Refused` for bytes that code no value, with the first fault from the left: floats, simple
 /// values other than false, true and null, tags other than 2 and 3 and numbers past 128 bits are
-/// faults too. `OutOfMemory`.
+/// faults too. Where that isn't at the end, what stands before it begins some item, and what
+/// stands there can't go on to one, whatever follows. `OutOfMemory`.
 ///
 /// ```rust
 /// let value = decode(alloc, &[0x82, 0x01, 0x61, b'a'], 16)?;
@@ -49,6 +50,7 @@ pub fn decode<'de>(
     ensures value { IfOk result (λ v. Codes depth_limit (tree_of v) bytes.now) }
     ensures only { (t : Tree) → Codes depth_limit t bytes.now → IsReadAs t result }
     ensures fault { IfErr result (λ e. StopsAt bytes.now e (whole_at depth_limit bytes.now)) }
+    ensures place { IfErr result (λ e. IsPlaced depth_limit bytes.now e) }
 {
     match read_whole(alloc, bytes, depth_limit) {
         Ok(value) => Ok(value),
@@ -104,10 +106,9 @@ fn read_leaf<'de>(
         (Major::Unsigned, Some(number)) => {
             Ok((Value::Number(from_unsigned(u128::from(number))), bytes))
         }
-        (Major::Negative, Some(number)) => match from_negative(u128::from(number)) {
-            Some(number) => Ok((Value::Number(number), bytes)),
-            None => Err(stop_at(Fault::TooWide, from)),
-        },
+        (Major::Negative, Some(number)) => {
+            Ok((Value::Number(from_negative(u128::from(number))), bytes))
+        }
         (Major::Bytes, length) => {
             let (content, rest) = read_byte_string(alloc, length, bytes)?;
             Ok((Value::Bytes(content), rest))
@@ -117,7 +118,7 @@ fn read_leaf<'de>(
             Ok((Value::String(content), rest))
         }
         (Major::Tag, Some(tag)) => {
-            let (number, rest) = read_tag(alloc, tag, from, bytes)?;
+            let (number, rest) = read_tag(tag, from, bytes)?;
             Ok((Value::Number(number), rest))
         }
         (Major::Simple, Some(number)) => read_simple(number, from, bytes),

@@ -14,7 +14,7 @@ use std::alloc::Global;
 use std::str;
 
 /// So many bytes, and those behind them.
-fn read_bytes(length: u64, bytes: &[u8]) -> Result<(&[u8], &[u8]), Stop>
+pub(crate) fn read_bytes(length: u64, bytes: &[u8]) -> Result<(&[u8], &[u8]), Stop>
     ensures { Gives (λ x. (x.0.now, x.1.now)) result (bytes_at length bytes.now) }
 {
     if (bytes.len() as u64) < length {
@@ -51,7 +51,7 @@ fn chunk_length(is_text: bool, head: Head) -> Option<u64>
 
 /// A chunk of bytes.
 #[tactic(auto, unfolding(crate::specs::Inner::Reading::chunk_at, crate::specs::Inner::Reading::content_at))]
-fn read_chunk_of_bytes(bytes: &[u8]) -> Result<(&[u8], &[u8]), Stop>
+pub(crate) fn read_chunk_of_bytes(bytes: &[u8]) -> Result<(&[u8], &[u8]), Stop>
     ensures { Gives (λ x. (x.0.now, x.1.now)) result (chunk_at false bytes.now) }
 {
     let (head, rest) = read_head(bytes)?;

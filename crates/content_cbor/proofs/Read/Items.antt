@@ -18,7 +18,7 @@ use Rattle.content_cbor.proofs.Read.Strings.{string_sound, string_whole}
 use Rattle.content_cbor.proofs.Read.Tags.{tag_sound}
 
 -- a tree, by what stands behind a head
-abbrev Behind : (Tree → List ℕ → Type 0) → List ℕ → Tree → List ℕ → Type 0
+abbrev pub Behind : (Tree → List ℕ → Type 0) → List ℕ → Tree → List ℕ → Type 0
 Behind Inner head t body = IsItem Inner t (head ++ body)
 
 -- ---- what holds no part
@@ -81,7 +81,7 @@ leaf_sound Inner from major.Map None head bs t rest fits is e = absurd cc
 -- ---- parts
 
 -- parts behind the head of an array or a map
-abbrev PartsBody : {A : Type 0} → (A → List ℕ → Type 0) → Option ℕ → List A → List ℕ → Type 0
+abbrev pub PartsBody : {A : Type 0} → (A → List ℕ → Type 0) → Option ℕ → List A → List ℕ → Type 0
 PartsBody Part (Some n) xs body = (length xs ≡ n) × Each Part xs body
 PartsBody Part None xs body = Ends Part xs body
 
@@ -99,14 +99,14 @@ parts_sound Part read sound zero from (Some (suc n)) bs xs rest fits e = absurd 
 parts_sound Part read sound zero from (Some zero) bs xs rest fits e = each_behind Part read sound zero bs xs rest fits e
 parts_sound Part read sound (suc limit) from (Some n) bs xs rest fits e = each_behind Part read sound n bs xs rest fits e
 
-parts_whole : {A : Type 0} (Part : A → List ℕ → Type 0) (m : Major) (o : Option ℕ) (xs : List A) (head body : List ℕ) → HeadOf m o head → PartsBody Part o xs body
+pub parts_whole : {A : Type 0} (Part : A → List ℕ → Type 0) (m : Major) (o : Option ℕ) (xs : List A) (head body : List ℕ) → HeadOf m o head → PartsBody Part o xs body
     → Parts m Part xs (head ++ body)
 parts_whole Part m (Some n) xs head body is behind =
     inl (head, body, subst (λ k. IsHead m k head) (sym behind.0) (numbered m n head is), behind.1, refl)
 parts_whole Part m None xs head body is behind =
     inr (behind.0, behind.1, ap (λ h. h ++ body) is ∙ ap (λ b. first_byte m 31 ∷ b) behind.2)
 
-pair_sound : (Inner : Tree → List ℕ → Type 0) (read : Reader Tree) → Sound Inner read → Sound (IsPair Inner) (pair_at read)
+pub pair_sound : (Inner : Tree → List ℕ → Type 0) (read : Reader Tree) → Sound Inner read → Sound (IsPair Inner) (pair_at read)
 unfolding pair_at
 pair_sound Inner read sound bs p rest fits e =
     let a = bind_ok (read bs) (λ k. read k.1 >>= λ v. Ok ((k.0, v.0), v.1)) (p, rest) e in

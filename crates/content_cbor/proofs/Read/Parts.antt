@@ -46,11 +46,11 @@ each_complete Part read complete (x ∷ xs) body rest is =
     ap (each_at read (suc (length xs))) split
     ∙ rw (complete x front (back ++ rest) is.2, each_complete Part read complete xs back rest is.3) refl
 
-broken : (bs : List ℕ) → at_break bs ≡ true → bs ≡ 255 ∷ drop 1 bs
+pub broken : (bs : List ℕ) → at_break bs ≡ true → bs ≡ 255 ∷ drop 1 bs
 broken [] e = absurd cc
 broken (b ∷ bs) e = ap (λ n. n ∷ bs) (eqb-true b 255 e)
 
-fits_behind : (bs : List ℕ) → IsBytes bs → IsBytes (drop 1 bs)
+pub fits_behind : (bs : List ℕ) → IsBytes bs → IsBytes (drop 1 bs)
 fits_behind [] h = h
 fits_behind (b ∷ bs) h = IsBytes-rest b bs h
 

@@ -65,19 +65,19 @@ opening_begins m rest simple = not_255 (first_byte m 31) (omega (arith, code_sma
 
 -- ---- in one piece
 
-bytes_sound : (n : ℕ) (bs x rest : List ℕ) → IsBytes bs → bytes_at n bs ≡ Ok (x, rest) → (bs ≡ x ++ rest) × (length x ≡ n) × IsBytes rest
+pub bytes_sound : (n : ℕ) (bs x rest : List ℕ) → IsBytes bs → bytes_at n bs ≡ Ok (x, rest) → (bs ≡ x ++ rest) × (length x ≡ n) × IsBytes rest
 bytes_sound n bs x rest fits e =
     let g = passed (ltb (length bs) n) (record { «fault» = fault.Ended; left = 0 }) (Ok (take n bs, drop n bs)) (x, rest) e in
     let len : length (take n bs) ≡ n = omega (arith, length-take n bs, ltb-false (length bs) n g.0) in
     subst (λ (p : List ℕ × List ℕ). (bs ≡ p.0 ++ p.1) × (length p.0 ≡ n) × IsBytes p.1) (ok_is (take n bs, drop n bs) (x, rest) g.1)
     (sym (take-append-drop n bs), len, IsBytes-drop n bs fits)
 
-bytes_complete : (x rest : List ℕ) → bytes_at (length x) (x ++ rest) ≡ Ok (x, rest)
+pub bytes_complete : (x rest : List ℕ) → bytes_at (length x) (x ++ rest) ≡ Ok (x, rest)
 bytes_complete x rest =
     let long : ltb (length (x ++ rest)) (length x) ≡ false = le-ltb _ _ (omega (arith, length-append x rest)) in
     rw (long, take_at x rest (length x) refl, drop_at x rest (length x) refl) refl
 
-content_sound : (t : Bool) (n : ℕ) (bs x rest : List ℕ) → IsBytes bs → content_at t n bs ≡ Ok (x, rest)
+pub content_sound : (t : Bool) (n : ℕ) (bs x rest : List ℕ) → IsBytes bs → content_at t n bs ≡ Ok (x, rest)
     → (bs ≡ x ++ rest) × (length x ≡ n) × IsBytes rest × IsContent (string_major t) x
 unfolding content_at
 content_sound false n bs x rest fits e = let b = bytes_sound n bs x rest fits e in (b.0, b.1, b.2, tt)
@@ -97,7 +97,7 @@ content_complete true x rest is = rw (bytes_complete x rest, is_utf8-from_IsUtf8
 
 -- ---- in chunks
 
-length_of_chunk : (t : Bool) (m : Major) (o : Option ℕ) (n : ℕ) → chunk_length t m o ≡ Some n → (m ≡ string_major t) × (o ≡ Some n)
+pub length_of_chunk : (t : Bool) (m : Major) (o : Option ℕ) (n : ℕ) → chunk_length t m o ≡ Some n → (m ≡ string_major t) × (o ≡ Some n)
 length_of_chunk true major.Unsigned o n e = absurd cc
 length_of_chunk true major.Negative o n e = absurd cc
 length_of_chunk true major.Bytes o n e = absurd cc
@@ -119,7 +119,7 @@ chunk_again : (t : Bool) (n : ℕ) → chunk_length t (string_major t) (Some n) 
 chunk_again true n = refl
 chunk_again false n = refl
 
-chunk_sound : (t : Bool) → Sound (IsPiece (string_major t)) (chunk_at t)
+pub chunk_sound : (t : Bool) → Sound (IsPiece (string_major t)) (chunk_at t)
 unfolding chunk_at
 chunk_sound t bs x rest fits e =
     let long : (h : Head × List ℕ) → Option ℕ = λ h. chunk_length t h.0.«major» h.0.number in
@@ -136,14 +136,14 @@ chunk_sound t bs x rest fits e =
       fits = c.2;
     }
 
-chunk_complete : (t : Bool) → Complete (IsPiece (string_major t)) (chunk_at t)
+pub chunk_complete : (t : Bool) → Complete (IsPiece (string_major t)) (chunk_at t)
 unfolding chunk_at
 chunk_complete t x front rest is =
     let split : front ++ rest ≡ is.0 ++ (x ++ rest) = ap (λ f. f ++ rest) is.3 ∙ append_assoc is.0 x rest in
     ap (chunk_at t) split
     ∙ rw (head_again (string_major t) (length x) is.0 (x ++ rest) (not_simple t) is.1, chunk_again t (length x), content_complete t x rest is.2) refl
 
-chunk_begins : (t : Bool) → Begins (IsPiece (string_major t))
+pub chunk_begins : (t : Bool) → Begins (IsPiece (string_major t))
 chunk_begins t x bs rest is =
     let split : bs ++ rest ≡ is.0 ++ (x ++ rest) = ap (λ f. f ++ rest) is.3 ∙ append_assoc is.0 x rest in
     let b = head_begins (string_major t) (length x) is.0 (x ++ rest) is.1 in

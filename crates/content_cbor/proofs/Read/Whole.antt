@@ -181,7 +181,7 @@ whole_complete limit bs t is =
 abbrev done : Tree → Result Tree Refusal
 done t = Ok t
 
-not_both : (t : Tree) (r : Refusal) → done t ≡ Err r → ⊥
+pub not_both : (t : Tree) (r : Refusal) → done t ≡ Err r → ⊥
 not_both t r e = absurd cc
 
 -- what is refused codes nothing

@@ -3,7 +3,7 @@ use Rattle.std.specs.Prelude.{◌≡◌, ℕ, suc, zero, ◌-◌, ◌/◌, ◌%�
 use Rattle.std.specs.List.{concat}
 use Rattle.std.specs.Prelude.{take, drop, Option, Some, None, Result, Ok, Err, nat_lt, nat_eq, if◌then◌else◌}
 use Rattle.std.specs.Int.{Width, byte_len, from_be_bytes, w8, w16, w32, w64}
-use Rattle.std.specs.Int.Digits.{number_from_digits}
+use Rattle.std.specs.Int.Digits.{number_from_digits, number_from_digits_after}
 use Rattle.std.specs.Str.{is_utf8}
 use Rattle.std.specs.Str.Lossy.{utf8_valid_len}
 use Rattle.content_tree.specs.Values.Text.{Text, owned_text, static_name}
@@ -140,35 +140,44 @@ unfoldable pub string_at : Bool → Option ℕ → Reader Text
 string_at is_text (Some n) bs = content_at is_text n bs >>= λ x. Ok (static_name x.0, x.1)
 string_at is_text None bs = chunks_at is_text bs >>= λ x. Ok (owned_text x.0, x.1)
 
--- bytes under a tag, behind their head
-abbrev pub octets_of : List ℕ → Major → Option ℕ → Reader Text
-octets_of from major.Bytes number bs = string_at false number bs
-octets_of from m number bs = refused fault.Misplaced from
-
--- the bytes that stand under a tag
-unfoldable pub octets_at : Reader Text
-octets_at bs = head_at bs >>= λ h. octets_of bs h.0.«major» h.0.number h.1
-
 -- a number that has room in 128 bits
 abbrev pub below_128_bits : ℕ → Option ℕ
 below_128_bits n = if nat_lt n (2 ^ 128) then Some n else None
 
--- the number under tag 2 or 3, of this size
-abbrev pub tagged_number : Bool → ℕ → Option Number
-tagged_number false n = if nat_lt n (2 ^ 128) then Some (number_of (pos n)) else None
-tagged_number true n = if nat_lt n (2 ^ 127) then Some (number_of (negsuc n)) else None
+-- a number that has room under its tag
+abbrev pub magnitude : Bool → ℕ → Option ℕ
+magnitude is_negative n = if nat_lt n (if is_negative then 2 ^ 127 else 2 ^ 128) then Some n else None
+
+-- the number whose digits go on in chunks up to a break, and no more than so many
+unfoldable pub digits_until : Bool → List ℕ → ℕ → ℕ → Reader ℕ
+digits_until is_negative from n zero bs = refused fault.Ended []
+digits_until is_negative from n (suc k) bs =
+    if at_break bs then Ok (n, drop 1 bs) else chunk_at false bs >>= λ x.
+    or_refused fault.TooWide from (magnitude is_negative (number_from_digits_after 256 n x.0)) >>= λ m.
+    digits_until is_negative from m k x.1
+
+-- the number whose digits stand behind the head of bytes
+abbrev pub magnitude_behind : Bool → List ℕ → Option ℕ → Reader ℕ
+magnitude_behind is_negative from (Some n) bs = bytes_at n bs >>= λ x.
+    or_refused fault.TooWide from (magnitude is_negative (number_from_digits 256 x.0)) >>= λ m.
+    Ok (m, x.1)
+magnitude_behind is_negative from None bs = digits_until is_negative from 0 (length bs) bs
+
+-- the same, where the head is of bytes
+abbrev pub digits_of : Bool → List ℕ → List ℕ → Major → Option ℕ → Reader ℕ
+digits_of is_negative from at major.Bytes number bs = magnitude_behind is_negative from number bs
+digits_of is_negative from at m number bs = refused fault.Misplaced at
 
 -- the number under tag 2 or 3, from its bytes
-unfoldable pub tagged_at : Bool → List ℕ → Reader Number
-tagged_at is_negative from bs = octets_at bs >>= λ x.
-    or_refused fault.TooWide from
-    (tagged_number is_negative (number_from_digits 256 x.0.content)) >>= λ n. Ok (n, x.1)
+unfoldable pub magnitude_at : Bool → List ℕ → Reader ℕ
+magnitude_at is_negative from bs = head_at bs >>= λ h.
+    digits_of is_negative from bs h.0.«major» h.0.number h.1
 
 -- a number under this tag, behind its head
 unfoldable pub tag_at : ℕ → List ℕ → Reader Number
 tag_at n from bs =
-    if nat_eq n 2 then tagged_at false from bs
-    else if nat_eq n 3 then tagged_at true from bs
+    if nat_eq n 2 then (magnitude_at false from bs >>= λ x. Ok (number_of (pos x.0), x.1))
+    else if nat_eq n 3 then (magnitude_at true from bs >>= λ x. Ok (number_of (negsuc x.0), x.1))
     else refused fault.Tag from
 
 -- a simple value
