@@ -1,4 +1,5 @@
-//! What needs a type, a serialiser or a session of its own, with expected values written by hand.
+//! What needs a type or a serialiser of its own, or several calls in turn, with expected values
+//! written by hand.
 //! All else is rows, which `check_rows` runs.
 
 mod cbor;

@@ -75,10 +75,10 @@ abbrev pub IsPiece : Major → List ℕ → List ℕ → Type 0
 IsPiece m content bs =
     (head : List ℕ) × IsHead m (length content) head × IsContent m content × (bs ≡ head ++ content)
 
--- a text or bytes: in one piece, and borrowed, or in pieces up to a break, and owned
+-- a text or bytes: in one piece, and borrowed, or in chunks up to a break, and owned
 abbrev pub IsString : Major → Text → List ℕ → Type 0
 IsString m x bs = ((x.borrowed ≡ true) × IsPiece m x.content bs)
-    ⊎ ((pieces : List (List ℕ)) × (x ≡ owned_text (concat pieces)) × Open m (IsPiece m) pieces bs)
+    ⊎ ((chunks : List (List ℕ)) × (x ≡ owned_text (concat chunks)) × Open m (IsPiece m) chunks bs)
 
 -- bytes under a tag, which are the digits of a number to the base 256
 abbrev pub IsTagged : ℕ → ℕ → List ℕ → Type 0

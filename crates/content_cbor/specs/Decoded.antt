@@ -1,9 +1,16 @@
 -- What decoding answers.
-use Rattle.std.specs.Prelude.{◌≡◌, ◌<◌, ℕ, ◌-◌, List, ◌++◌, length, take, Result, Ok, Err}
+use Rattle.std.specs.Prelude.{◌≡◌, ◌⊎◌, ◌<◌, true, false, ℕ, ◌-◌, List, ◌++◌, length, take, Result, Ok, Err}
+use Rattle.content_tree.specs.Errors.Kind.{IsOutOfMemory}
 use Rattle.content_tree.specs.Values.Tree.{Tree}
 use Rattle.content_tree.specs.Values.Value.{tree_of}
+use Rattle.content_tree.specs.declared.error.Error.{Error}
 use Rattle.content_tree.specs.declared.value.NamedValue.{NamedValue}
+use Rattle.content_de.specs.Sources.Origin.{Subject, tree_under}
+use Rattle.content_ser.specs.Scripts.Script.{IsCustom}
 use Rattle.content_cbor.specs.Codes.{Codes}
+use Rattle.content_cbor.specs.Inner.Reading.{whole_at}
+use Rattle.content_cbor.specs.PrintedFault.{error_text}
+use Rattle.content_cbor.specs.declared.decode_error.Fault.{Fault}
 use Rattle.content_cbor.specs.declared.decode_error.DecodeError.{DecodeError}
 use Rattle.content_cbor.specs.declared.decode_error.DecodeError.TheVariants as error
 use Rattle.content_cbor.specs.declared.stop.Refusal.{Refusal}
@@ -19,12 +26,22 @@ StopsAt bs error.OutOfMemory read = Unit {0}
 StopsAt bs (error.Refused at f) read = (left : ℕ)
     × (read ≡ Err (record { «fault» = f; left = left })) × (at ≡ length bs - left)
 
--- some item begins with these bytes
-abbrev pub Begins : ℕ → List ℕ → Type 0
-Begins limit bs = (t : Tree) × (rest : List ℕ) × Codes limit t (bs ++ rest)
+-- some bytes can follow that make these a whole item
+abbrev pub IsViable : ℕ → List ℕ → Type 0
+IsViable limit bs = (t : Tree) × (rest : List ℕ) × Codes limit t (bs ++ rest)
 
--- where the end isn't what is at fault, an item can go on up to the place, and none with what is there
+-- where the place isn't the end: what stands before it is viable, and all the bytes are not
 abbrev pub IsPlaced : ℕ → List ℕ → DecodeError → Type 0
 IsPlaced limit bs error.OutOfMemory = Unit {0}
 IsPlaced limit bs (error.Refused at f) = at < length bs
-    → (0 < limit → Begins limit (take at bs)) × (Begins limit bs → ⊥)
+    → (0 < limit → IsViable limit (take at bs)) × (IsViable limit bs → ⊥)
+
+-- a tree as typed data is read of it: for no people, with numbers coerced
+abbrev pub as_read : Tree → Subject
+as_read t = tree_under (record { human_readable = false; coerces = true }) t
+
+-- the printed fault with which reading these bytes ends; or out of memory
+abbrev pub IsFaultOf : ℕ → List ℕ → Error → Type 0
+IsFaultOf limit bs e = IsOutOfMemory e ⊎ ((at : ℕ) × (f : Fault)
+    × StopsAt bs (error.Refused at f) (whole_at limit bs) × IsPlaced limit bs (error.Refused at f)
+    × IsCustom (error_text (error.Refused at f)) e)

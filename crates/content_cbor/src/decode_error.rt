@@ -16,7 +16,7 @@ pub enum Fault {
     TooDeep,
     /// A first byte that RFC 8949 gives no meaning.
     Reserved,
-    /// A break where no array, map, text or bytes of unknown length may end.
+    /// A break where an item is due.
     Break,
     /// A float.
     Float,
@@ -26,7 +26,8 @@ pub enum Fault {
     Tag,
     /// A number past 128 bits.
     TooWide,
-    /// An item under a tag or in a text or bytes of unknown length that can't stand there.
+    /// What can't stand under a tag, or as a chunk of a text or of bytes of unknown length; a break
+    /// under a tag too.
     Misplaced,
     /// A text that is no UTF-8.
     NotUtf8,
@@ -59,9 +60,10 @@ pub enum DecodeError {
     OutOfMemory,
     /// What is wrong with the bytes, and where.
     Refused {
-        /// The place, counted from 0, of the first byte of what is wrong: of a head, of a tag whose
-        /// number has no room, or of the first character that is none; the length where bytes are
-        /// missing.
+        /// The place, counted from 0: of the head, of the character that is none or of the tag whose
+        /// number has no room, or of the first byte behind the item; where bytes are missing, the
+        /// length. What stands before it can go on to an item within the limit, if that is not 0;
+        /// all the bytes can't, whatever follows, unless the place is the length.
         at: usize,
         /// What is wrong.
         fault: Fault,

@@ -27,15 +27,16 @@ use std::alloc::Global;
 /// from the bytes, others are owned. Heads may be longer than they need be, lengths unknown.
 ///
 /// `depth_limit` bounds how deep items stand in one another, and so the stack that is taken; the
-/// item's own depth is 1. Memory is taken for what holds parts, as it is read, and for texts and
-/// bytes of unknown length; a length alone reserves none.
+/// item's own depth is 1, and a limit of 0 refuses everything. Memory is taken for what holds parts,
+/// as it is read, and for texts and bytes of unknown length; numbers under a tag take none, and a
+/// length alone reserves none.
 ///
 /// # Errors
 ///
-/// `Refused` for bytes that code no value, with the first fault from the left: floats, simple
-/// values other than false, true and null, tags other than 2 and 3 and numbers past 128 bits are
-/// faults too. Where that isn't at the end, what stands before it begins some item, and what
-/// stands there can't go on to one, whatever follows. `OutOfMemory`.
+/// `Refused` for bytes that code no value, with the fault at which reading from the left stops, and
+/// [its place](DecodeError::Refused): floats, simple values other than false, true and null, tags
+/// other than 2 and 3 and numbers past 128 bits are faults too. What is cut short is not looked at:
+/// it ends too early, whatever stands in it. `OutOfMemory`.
 ///
 /// ```rust
 /// let value = decode(alloc, &[0x82, 0x01, 0x61, b'a'], 16)?;

@@ -221,6 +221,7 @@ impl Output {
 /// A length is written where it is said, so a call is `Misplaced` that opens a sequence or a map
 /// without a length, announces more than were said, or ends before all came; so are a key and a
 /// value that aren't one entry. [`to_bytes`](crate::to_bytes) sends such a value through a tree.
+/// Whether the calls spell a tree isn't checked: of others the bytes may be no item.
 ///
 /// ```rust
 /// let mut encoder = Encoder::new(alloc);
@@ -256,8 +257,9 @@ impl Encoder {
         }
     }
 
-    /// The bytes, moved out. Of the calls of one whole tree, all taken, they are its data item: the
-    /// law [`whole_trees_are_encoded`](crate::laws::whole_trees_are_encoded) says so.
+    /// The bytes, moved out; after a refusal those that were written before. Of the calls of one
+    /// whole tree, all taken, they are its data item: the law
+    /// [`whole_trees_are_encoded`](crate::laws::whole_trees_are_encoded) says so.
     pub fn into_bytes(self) -> Vec<u8>
         ensures { result.items ≡ self.written.bytes }
     {

@@ -32,7 +32,7 @@ use std::result::Result as StdResult;
 /// are what they hold. A unit variant is its name, and any other a map from its name to what it
 /// holds. A number past 64 bits goes as bytes under tag 2 or 3.
 ///
-/// It takes memory for the bytes alone.
+/// It takes memory for the bytes alone, and stack as deep as the value nests.
 ///
 /// # Errors
 ///
@@ -53,7 +53,8 @@ pub fn encode<'a, 'n>(alloc: Global, value: &NamedValue<'a, 'n>) -> Result<Vec<u
     Ok(out)
 }
 
-/// Values as one data item, an array of their items.
+/// Values as one data item, an array of their items. It takes memory for the bytes alone, and stack
+/// as deep as the values nest.
 ///
 /// # Errors
 ///
@@ -76,7 +77,7 @@ pub fn encode_array<'a, 'n>(alloc: Global, items: &[NamedValue<'a, 'n>]) -> Resu
 /// Anything that can be serialised, as one data item: that of the tree which its calls spell.
 ///
 /// Its calls are written as they come, by an [`Encoder`]; where one can't be, they are made again,
-/// into a tree.
+/// into a tree. Memory is taken for the bytes, a number for each open array or map, and the tree.
 ///
 /// # Errors
 ///

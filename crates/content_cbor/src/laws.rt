@@ -10,8 +10,8 @@ pub fn one_tree()
 {}
 
 /// The item of a tree codes the tree's form, within each limit that the form keeps, where texts are
-/// UTF-8 and lengths and numbers have room in 64 and 128 bits. The tree of any value is such a one:
-/// [`encode`](crate::encode) says so of what it writes.
+/// UTF-8 and lengths and numbers have room in 64 and 128 bits. Of any value
+/// [`encode`](crate::encode) says so without that premise.
 pub fn items_code_forms()
     ensures { ItemsCodeForms }
 {}

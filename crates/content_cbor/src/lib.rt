@@ -13,9 +13,11 @@ mod numbers;
 mod round;
 mod stop;
 mod strings;
+mod typed;
 
 pub use decode_error::{DecodeError, Fault};
 pub use decoding::decode;
 pub use encoder::Encoder;
 pub use encoding::{encode, encode_array, to_bytes};
 pub use round::round_trip;
+pub use typed::from_bytes;

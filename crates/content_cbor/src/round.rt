@@ -16,11 +16,11 @@ use std::alloc::Global;
 /// value owned.
 ///
 /// The depth of an array or a map is one more than that of the deepest item in it, of any other
-/// item 1.
+/// item 1. Memory is taken for the bytes, for the value, and for its texts once more.
 ///
 /// # Errors
 ///
-/// `Refused` exactly where the item is deeper than the limit; `OutOfMemory`.
+/// `Refused` only where the item is deeper than the limit; `OutOfMemory`.
 ///
 /// ```rust
 /// let value = Value::Tuple(vec![in alloc; Value::from(7u8), Value::Unit]?);

@@ -1,7 +1,7 @@
 //! What no row of `cbor_cli` says: values that come back, several as one item, what can be
 //! serialised, and characters past ASCII, whose bytes RFC 8949 gives in its appendix A.
 
-use content_cbor::{decode, encode, encode_array, round_trip, to_bytes};
+use content_cbor::{decode, encode, encode_array, from_bytes, round_trip, to_bytes};
 use serde_content::Value;
 use std::test::Fail;
 
@@ -26,9 +26,11 @@ fn bytes_of_values(rt: HostRuntime) -> Result<(), Fail> {
     let wanted = Value::Seq(vec![in alloc; Value::from(1u64), Value::from("a")]?);
     assert!(rt; value == wanted);
 
-    // What can be serialised.
-    let bytes = to_bytes(alloc, &(Some(7u8), 'a', false))?;
+    // What can be serialised, and is read again as typed data.
+    let bytes = to_bytes(alloc, &(Some(7u8), "a", false))?;
     assert!(rt; bytes.as_slice() == [0x83, 0x07, 0x61, b'a', 0xf4].as_slice());
+    let three: (Option<u8>, &str, bool) = from_bytes(alloc, &bytes, 16)?;
+    assert!(rt; three == (Some(7), "a", false));
 
     // Characters past ASCII, which no line of calls names.
     let bytes = to_bytes(alloc, &('\u{fc}', '\u{6c34}', '\u{10151}'))?;
@@ -57,5 +59,15 @@ fn what_is_kept_of_values(rt: HostRuntime) -> Result<(), Fail> {
 
     let bytes = encode_array(alloc, &[Value::from(1u8), Value::from("a")])?;
     assert!(rt; bytes.as_slice() == [0x82, 0x01, 0x61, b'a'].as_slice());
+
+    // Typed data of bytes that code nothing.
+    let refused: serde_content::Result<u8> = from_bytes(alloc, &[0xf9, 0, 0], 16);
+    match refused {
+        Ok(_) => assert!(rt; false),
+        Err(error) => {
+            let text = format!(in alloc; "{error}")?;
+            assert!(rt; text.as_str() == "refused at byte 0: a float");
+        }
+    }
     Ok(())
 }
