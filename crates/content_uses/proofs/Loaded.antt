@@ -6,7 +6,7 @@ use Rattle.serde_content.specs.Names.Tree.{Trees, seq, tree_then, unit, boolean,
 use Rattle.serde_content.specs.Names.Tree.{character, text, octets, absent, present, structure}
 use Rattle.serde_content.specs.Names.Tree.{enumeration, tuple}
 use Rattle.serde_content.specs.Names.Words.{trees_of}
-use Rattle.content_cbor.specs.Decoded.{StopsAt}
+use Rattle.content_cbor.specs.Decoded.{IsPlaced, StopsAt}
 use Rattle.content_cbor.specs.Form.{form, each_form}
 use Rattle.content_cbor.specs.Inner.Reading.{whole_at}
 use Rattle.content_cbor.specs.declared.decode_error.DecodeError.{DecodeError}
@@ -63,9 +63,9 @@ failed_as ts e (Ok s) out is = absurd is
 failed_as ts e (Err x) out is = is ∙ ap load.Decode out
 
 pub stops_as : (limit : ℕ) (bs : List ℕ) (e : DecodeError) (r : Result Store LoadError) → StopsAt bs e (whole_at limit bs)
-    → IsErrAnd r (λ x. x ≡ load.Decode e) → IfErr r (λ x. StopsLoading limit bs x)
-stops_as limit bs e (Ok s) stops is = tt
-stops_as limit bs e (Err x) stops is = subst (StopsLoading limit bs) (sym is) stops
+    → IsPlaced limit bs e → IsErrAnd r (λ x. x ≡ load.Decode e) → IfErr r (λ x. StopsLoading limit bs x)
+stops_as limit bs e (Ok s) stops placed is = tt
+stops_as limit bs e (Err x) stops placed is = subst (StopsLoading limit bs) (sym is) (stops, placed)
 
 -- out of memory stays that
 pub no_memory : {A : Type 0} (e : LoadError) (r : Result A LoadError) → IsNoMemory e → IsErrAnd r (λ x. x ≡ e) → IfErr r (λ x. IsNoMemory x)

@@ -4,7 +4,7 @@ use Rattle.serde_content.specs.Names.Words.{items_in, Tree}
 use Rattle.serde_content.specs.Names.Tree.{seq}
 use Rattle.serde_content.specs.Names.Words.{trees_of}
 use Rattle.content_cbor.specs.Codes.{Codes}
-use Rattle.content_cbor.specs.Decoded.{StopsAt}
+use Rattle.content_cbor.specs.Decoded.{IsPlaced, StopsAt}
 use Rattle.content_cbor.specs.Form.{form}
 use Rattle.content_cbor.specs.Inner.Reading.{whole_at}
 use Rattle.content_cbor.specs.Item.{item}
@@ -33,7 +33,7 @@ IsLoadedAs ts (Err e) = IsNoMemory e
 
 -- the fault with which decoding within a limit ends, or what the bytes code is no sequence
 abbrev pub StopsLoading : ℕ → List ℕ → LoadError → Type 0
-StopsLoading limit bs (load.Decode e) = StopsAt bs e (whole_at limit bs)
+StopsLoading limit bs (load.Decode e) = StopsAt bs e (whole_at limit bs) × IsPlaced limit bs e
 StopsLoading limit bs load.NotArray = (t : Tree) × Codes limit t bs × (items_in t ≡ None)
 
 -- what CBOR keeps of records is the same bytes again

@@ -14,7 +14,8 @@ returns-in_err-value-clause-saved c = λ ts le codes.
     failed_as (forms ts) _ _ (c.in_err-value.ensures.only (form (array_of ts)) (codes c.args.depth_limit le)) c.from_residual.ensures.1
 
 pub returns-in_err-value-clause-refused : goal.returns-in_err-value-clause-refused
-returns-in_err-value-clause-refused c = stops_as c.args.depth_limit c.args.bytes.now _ _ c.in_err-value.ensures.fault c.from_residual.ensures.1
+returns-in_err-value-clause-refused c = stops_as c.args.depth_limit c.args.bytes.now _ _ c.in_err-value.ensures.fault c.in_err-value.ensures.place
+    c.from_residual.ensures.1
 
 pub returns-in-Some-clause-value : goal.returns-in-Some-clause-value
 returns-in-Some-clause-value c =
