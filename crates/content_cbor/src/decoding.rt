@@ -3,12 +3,12 @@
 //! A level of a deep value passes two functions that aren't inlined, one for an item and one for
 //! what holds several, so that it takes little stack.
 
-ghost use Rattle.std.specs.Prelude.{◌≡◌, length, map, IfOk, IfErr};
+ghost use Rattle.std.specs.Prelude.{◌≡◌, ◌≤◌, ◌++◌, ℕ, List, length, map, take, IfOk, IfErr};
 ghost use Rattle.content_tree.specs.Values.Tree.{Tree};
 ghost use Rattle.content_tree.specs.Values.Value.{tree_of, pair_tree};
 ghost use Rattle.content_cbor.specs.Codes.{Codes};
-ghost use Rattle.content_cbor.specs.Decoded.{IsPlaced, IsReadAs, StopsAt};
-ghost use Rattle.content_cbor.specs.Inner.Reading.{Gives, each_at, inside_at, item_at, leaf_at};
+ghost use Rattle.content_cbor.specs.Decoded.{IsPlaced, IsReadAs, IsReadFrom, StopsAt};
+ghost use Rattle.content_cbor.specs.Inner.Reading.{Gives, each_at, error_in, inside_at, item_at, leaf_at};
 ghost use Rattle.content_cbor.specs.Inner.Reading.{pair_at, parts_at, simple_at, until_at};
 ghost use Rattle.content_cbor.specs.Inner.Reading.{whole_at};
 
@@ -55,11 +55,49 @@ pub fn decode<'de>(
 {
     match read_whole(alloc, bytes, depth_limit) {
         Ok(value) => Ok(value),
-        Err(Stop::OutOfMemory) => Err(DecodeError::OutOfMemory),
-        Err(Stop::Refused(Refusal { fault, left })) => Err(DecodeError::Refused {
+        Err(stop) => Err(error_of(stop, bytes)),
+    }
+}
+
+/// The value that the data item at the front of bytes of CBOR codes, as [`decode`] reads it, and
+/// how many bytes that takes: so the items of a sequence (RFC 8742) are read one after another.
+///
+/// # Errors
+///
+/// Those of `decode`, but that bytes behind the item are none.
+///
+/// ```rust
+/// let (value, length) = decode_prefix(alloc, &[0x61, b'a', 0x01], 16)?;
+/// assert!(rt; value == Value::from("a") && length == 2);
+/// ```
+pub fn decode_prefix<'de>(
+    alloc: Global,
+    bytes: &'de [u8],
+    depth_limit: usize,
+) -> Result<(Value<'de>, usize), DecodeError>
+    ensures value { IfOk result (λ x. Codes depth_limit (tree_of x.0) (take x.1 bytes.now)) }
+    ensures length { IfOk result (λ x. x.1 ≤ length bytes.now) }
+    ensures only { (t : Tree) (front rest : List ℕ) → Codes depth_limit t front
+        → bytes.now ≡ front ++ rest → IsReadFrom t (length front) result }
+    ensures fault { IfErr result (λ e. StopsAt bytes.now e (item_at depth_limit bytes.now)) }
+    ensures place { IfErr result (λ e. IsPlaced depth_limit bytes.now e) }
+{
+    match read_item(alloc, depth_limit, bytes) {
+        Ok((value, rest)) => Ok((value, bytes.len().saturating_sub(rest.len()))),
+        Err(stop) => Err(error_of(stop, bytes)),
+    }
+}
+
+/// The error of a stop in these bytes.
+fn error_of(stop: Stop, bytes: &[u8]) -> DecodeError
+    ensures { result ≡ error_in bytes.now stop }
+{
+    match stop {
+        Stop::OutOfMemory => DecodeError::OutOfMemory,
+        Stop::Refused(Refusal { fault, left }) => DecodeError::Refused {
             at: bytes.len().saturating_sub(left),
             fault,
-        }),
+        },
     }
 }
 

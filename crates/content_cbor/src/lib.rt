@@ -16,7 +16,7 @@ mod strings;
 mod typed;
 
 pub use decode_error::{DecodeError, Fault};
-pub use decoding::decode;
+pub use decoding::{decode, decode_prefix};
 pub use encoder::Encoder;
 pub use encoding::{encode, encode_array, to_bytes};
 pub use round::round_trip;

@@ -1,7 +1,7 @@
 //! What no row of `cbor_cli` says: values that come back, several as one item, what can be
 //! serialised, and characters past ASCII, whose bytes RFC 8949 gives in its appendix A.
 
-use content_cbor::{decode, encode, encode_array, from_bytes, round_trip, to_bytes};
+use content_cbor::{decode, decode_prefix, encode, encode_array, from_bytes, round_trip, to_bytes};
 use serde_content::Value;
 use std::test::Fail;
 
@@ -25,6 +25,10 @@ fn bytes_of_values(rt: HostRuntime) -> Result<(), Fail> {
     let value = decode(alloc, &[0x82, 0x01, 0x61, b'a'], 16)?;
     let wanted = Value::Seq(vec![in alloc; Value::from(1u64), Value::from("a")]?);
     assert!(rt; value == wanted);
+
+    // One item after another.
+    let (value, length) = decode_prefix(alloc, &[0x61, b'a', 0x01], 16)?;
+    assert!(rt; value == Value::from("a") && length == 2);
 
     // What can be serialised, and is read again as typed data.
     let bytes = to_bytes(alloc, &(Some(7u8), "a", false))?;

@@ -1,5 +1,5 @@
 -- What bytes behind others change: only what had ended.
-use Rattle.std.proofs.Common.{◌≡◌, ℕ, suc, zero, ◌+◌, ◌%◌, ◌/◌, ◌<◌, ◌≤◌, Bool, true, false, cond, eqb, ltb, List, [], ◌∷◌, ◌++◌, length, take, drop, Option, Some, None, Result, Ok, Err, ◌⊎◌, refl, sym, ap, ◌∙◌, append_assoc, arith, length-append, inl, inr}
+use Rattle.std.proofs.Common.{◌≡◌, ℕ, suc, zero, ◌+◌, ◌%◌, ◌/◌, ◌<◌, ◌≤◌, Bool, true, false, cond, eqb, ltb, List, [], ◌∷◌, ◌++◌, length, take, drop, Option, Some, None, Result, Ok, Err, ◌⊎◌, refl, sym, ap, subst, ◌∙◌, append_assoc, arith, length-append, inl, inr}
 use Rattle.std.specs.Int.Digits.{number_from_digits, number_from_digits_after}
 use Rattle.std.specs.Int.{byte_len, from_be_bytes, w8, w16, w32, w64}
 use Rattle.std.specs.List.{concat}
@@ -263,6 +263,20 @@ longer_item zero (b ∷ bs) more = agrees_refused more fault.TooDeep (b ∷ bs)
 longer_item (suc limit) bs more =
     agrees_then more (head_at bs) (head_at (bs ++ more)) _ _ (longer_head bs more) (λ h is.
     longer_inside limit (longer_item limit) bs h.0.«major» h.0.number h.1 more)
+
+abbrev told : Refusal → Result (Tree × List ℕ) Refusal
+told e = Err e
+
+longer_told : (more : List ℕ) (e : Refusal) (r longer : Result (Tree × List ℕ) Refusal) → r ≡ told e → Agrees more r longer
+    → (e.left ≡ 0) ⊎ (longer ≡ Err (later (length more) e))
+longer_told more e (Ok x) longer is agrees = absurd cc
+longer_told more e (Err d) longer is agrees =
+    let same : d ≡ e = cc in
+    subst (λ (u : Refusal). (u.left ≡ 0) ⊎ (longer ≡ Err (later (length more) u))) same agrees
+
+-- an item that was refused is refused as before, unless the bytes had ended
+pub longer_refusal : (limit : ℕ) (bs more : List ℕ) (e : Refusal) → item_at limit bs ≡ Err e → (e.left ≡ 0) ⊎ (item_at limit (bs ++ more) ≡ Err (later (length more) e))
+longer_refusal limit bs more e is = longer_told more e (item_at limit bs) (item_at limit (bs ++ more)) is (longer_item limit bs more)
 
 -- ---- whole
 

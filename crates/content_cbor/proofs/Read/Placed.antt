@@ -71,7 +71,7 @@ abbrev pub Placed : {A : Type 0} → (A → List ℕ → Type 0) → Reader A �
 Placed {A} Part read = (bs : List ℕ) (e : Refusal) → IsBytes bs → read bs ≡ Err e → 0 < e.left → (e.left ≡ length bs) ⊎ Before (Opens Part) bs e.left
 
 -- nothing is before
-at_start : (Begun : List ℕ → Type 0) (bs : List ℕ) (left : ℕ) → Begun [] → left ≡ length bs → Before Begun bs left
+pub at_start : (Begun : List ℕ → Type 0) (bs : List ℕ) (left : ℕ) → Begun [] → left ≡ length bs → Before Begun bs left
 at_start Begun bs left opens is = record { front = []; opens = opens; behind = bs; split = refl; last = sym is }
 
 -- the same of what stands before
@@ -584,7 +584,7 @@ inside_placed limit sound placed from major.Text o head bs e fits is e_is lt = l
 inside_placed limit sound placed from major.Tag o head bs e fits is e_is lt = leaf_placed (Codes limit) from major.Tag o head bs e fits is e_is lt
 inside_placed limit sound placed from major.Simple o head bs e fits is e_is lt = leaf_placed (Codes limit) from major.Simple o head bs e fits is e_is lt
 
-item_placed : (limit : ℕ) → Placed (Codes limit) (item_at limit)
+pub item_placed : (limit : ℕ) → Placed (Codes limit) (item_at limit)
 unfolding item_at
 item_placed zero [] e fits is lt = absurd (omega (arith, lt, same_left {A = Tree × List ℕ} (record { «fault» = fault.Ended; left = 0 }) e is))
 item_placed zero (b ∷ bs) e fits is lt = inl (same_left {A = Tree × List ℕ} (record { «fault» = fault.TooDeep; left = length (b ∷ bs) }) e is)
@@ -600,6 +600,11 @@ item_placed (suc limit) bs e fits is lt =
           ]
     ]
 
+-- nothing begins an item
+pub nothing_begun : (limit : ℕ) → 0 < limit → Opens (Codes limit) []
+nothing_begun zero deep = absurd (omega (arith, deep))
+nothing_begun (suc limit) deep = (tree.absent, 246 ∷ [], refl)
+
 -- ---- whole
 
 -- what stands before a fault that is not at the end begins an item
@@ -609,7 +614,7 @@ whole_placed zero bs e deep fits is lt = absurd (omega (arith, deep))
 whole_placed (suc limit) bs e deep fits is lt =
     elim (bind_err (item_at (suc limit) bs) (λ x. cond (eqb (length x.1) 0) (Ok x.0) (refused fault.Trailing x.1)) e is) [
       | inl w ↦ elim (item_placed (suc limit) bs e fits w lt) [
-        | inl at ↦ at_start (Opens (Codes (suc limit))) bs e.left (tree.absent, 246 ∷ [], refl) at
+        | inl at ↦ at_start (Opens (Codes (suc limit))) bs e.left (nothing_begun (suc limit) deep) at
         | inr b ↦ b
       ]
       | inr a ↦ elim (chosen (eqb (length a.0.1) 0) (Ok a.0.0) (refused fault.Trailing a.0.1) (Err e) a.2) [

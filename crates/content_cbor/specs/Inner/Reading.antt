@@ -12,6 +12,8 @@ use Rattle.content_tree.specs.Values.Tree.{Tree}
 use Rattle.content_tree.specs.Values.Value.{trees_of, pairs_of}
 use Rattle.content_tree.specs.declared.number.Number.{Number}
 use Rattle.content_cbor.specs.Codes.{number_of}
+use Rattle.content_cbor.specs.declared.decode_error.DecodeError.{DecodeError}
+use Rattle.content_cbor.specs.declared.decode_error.DecodeError.TheVariants as error
 use Rattle.content_cbor.specs.declared.decode_error.Fault.{Fault}
 use Rattle.content_cbor.specs.declared.decode_error.Fault.TheVariants as fault
 use Rattle.content_cbor.specs.declared.heads.Head.{Head}
@@ -35,6 +37,11 @@ Fails (stop.Refused r) read = read ≡ Err r
 abbrev pub Gives : {A B : Type 0} → (A → B) → Result A Stop → Result B Refusal → Type 0
 Gives view (Ok x) read = read ≡ Ok (view x)
 Gives view (Err e) read = Fails e read
+
+-- the error of a stop in these bytes
+abbrev pub error_in : List ℕ → Stop → DecodeError
+error_in bs stop.OutOfMemory = error.OutOfMemory
+error_in bs (stop.Refused r) = error.Refused (length bs - r.left) r.«fault»
 
 -- what reads a part: it, and the bytes behind it
 abbrev pub Reader : Type 0 → Type 0
