@@ -104,9 +104,6 @@ until_begins read count bs = gathered_all (until_at read (count - 0) bs) ∙ ap 
 
 -- ---- digits in chunks
 
-pub digits_begin : (negative : Bool) (from : List ℕ) (bs : List ℕ) → digits_until negative from 0 (length bs - 0) bs ≡ digits_until negative from 0 (length bs) bs
-digits_begin negative from bs = ap (λ k. digits_until negative from 0 k bs) (minus_none (length bs))
-
 pub digits_go_on : (negative : Bool) (from : List ℕ) (count i n : ℕ) (bs x after : List ℕ) (m : ℕ) (total : Result (ℕ × List ℕ) Refusal)
     → i < count → at_break bs ≡ false → chunk_at false bs ≡ Ok (x, after) → Some m ≡ magnitude negative (number_from_digits_after 256 n x)
     → digits_until negative from n (count - i) bs ≡ total → digits_until negative from m (count - (i + 1)) after ≡ total
