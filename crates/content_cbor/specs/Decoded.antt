@@ -1,5 +1,5 @@
 -- What decoding answers.
-use Rattle.std.specs.Prelude.{◌≡◌, ◌⊎◌, ◌<◌, true, false, ℕ, ◌-◌, List, ◌++◌, length, take, Result, Ok, Err}
+use Rattle.std.specs.Prelude.{◌≡◌, ◌⊎◌, ◌<◌, ◌≤◌, true, false, ℕ, suc, ◌-◌, List, ◌++◌, length, take, Result, Ok, Err}
 use Rattle.content_tree.specs.Errors.Kind.{IsOutOfMemory}
 use Rattle.content_tree.specs.Values.Tree.{Tree}
 use Rattle.content_tree.specs.Values.Value.{tree_of}
@@ -35,11 +35,12 @@ StopsAt bs (error.Refused at f) read = (left : ℕ)
 abbrev pub IsViable : ℕ → List ℕ → Type 0
 IsViable limit bs = (t : Tree) × (rest : List ℕ) × Codes limit t (bs ++ rest)
 
--- where the place isn't the end: what stands before it is viable, and all the bytes are not
+-- refused at the first byte with which nothing is viable any more, or at the end
 abbrev pub IsPlaced : ℕ → List ℕ → DecodeError → Type 0
 IsPlaced limit bs error.OutOfMemory = Unit {0}
-IsPlaced limit bs (error.Refused at f) = at < length bs
-    → (0 < limit → IsViable limit (take at bs)) × (IsViable limit bs → ⊥)
+IsPlaced limit bs (error.Refused at f) = (at ≤ length bs)
+    × (0 < limit → IsViable limit (take at bs))
+    × (at < length bs → IsViable limit (take (suc at) bs) → ⊥)
 
 -- a tree as typed data is read of it: for no people, with numbers coerced
 abbrev pub as_read : Tree → Subject

@@ -60,10 +60,8 @@ pub enum DecodeError {
     OutOfMemory,
     /// What is wrong with the bytes, and where.
     Refused {
-        /// The place, counted from 0: of the head, of the character that is none or of the tag whose
-        /// number has no room, or of the first byte behind the item; where bytes are missing, the
-        /// length. What stands before it can go on to an item within the limit, if that is not 0;
-        /// all the bytes can't, whatever follows, unless the place is the length.
+        /// The place, counted from 0: of the first byte after which none can follow that make an
+        /// item within the limit; the length, where they can follow, but are missing.
         at: usize,
         /// What is wrong.
         fault: Fault,

@@ -8,14 +8,14 @@ ghost use Rattle.content_tree.specs.Values.Tree.{Tree};
 ghost use Rattle.content_tree.specs.Values.Value.{tree_of, pair_tree};
 ghost use Rattle.content_cbor.specs.Codes.{Codes};
 ghost use Rattle.content_cbor.specs.Decoded.{IsPlaced, IsReadAs, IsReadFrom, StopsAt};
-ghost use Rattle.content_cbor.specs.Inner.Reading.{Gives, each_at, error_in, inside_at, item_at, leaf_at};
-ghost use Rattle.content_cbor.specs.Inner.Reading.{pair_at, parts_at, simple_at, until_at};
-ghost use Rattle.content_cbor.specs.Inner.Reading.{whole_at};
+ghost use Rattle.content_cbor.specs.Inner.Steps.{Gives, error_in};
+ghost use Rattle.content_cbor.specs.Inner.Reading.{each_at, item_at, leaf_at, pair_at, parts_at};
+ghost use Rattle.content_cbor.specs.Inner.Reading.{simple_at, until_at, whole_at};
 
 use crate::decode_error::{DecodeError, Fault};
 use crate::heads::{Head, Major, after_break, read_head};
 use crate::numbers::{from_negative, from_unsigned, read_tag};
-use crate::stop::{Refusal, Stop, stop_at};
+use crate::stop::{Refusal, Stop, stop_at, stop_before};
 use crate::strings::{read_byte_string, read_text_string};
 use content_tree::Value;
 use std::alloc::Global;
@@ -27,16 +27,15 @@ use std::alloc::Global;
 /// from the bytes, others are owned. Heads may be longer than they need be, lengths unknown.
 ///
 /// `depth_limit` bounds how deep items stand in one another, and so the stack that is taken; the
-/// item's own depth is 1, and a limit of 0 refuses everything. Memory is taken for what holds parts,
-/// as it is read, and for texts and bytes of unknown length; numbers under a tag take none, and a
-/// length alone reserves none.
+/// item's own depth is 1, and a limit of 0 refuses everything. Memory is taken for what holds
+/// parts, as it is read, and for texts and bytes of unknown length; numbers under a tag take none,
+/// and a length alone reserves none.
 ///
 /// # Errors
 ///
-/// `Refused` for bytes that code no value, with the fault at which reading from the left stops, and
-/// [its place](DecodeError::Refused): floats, simple values other than false, true and null, tags
-/// other than 2 and 3 and numbers past 128 bits are faults too. What is cut short is not looked at:
-/// it ends too early, whatever stands in it. `OutOfMemory`.
+/// `Refused` for bytes that code no value: at the first byte after which none can follow that make
+/// one, or at their end, with [what is wrong](Fault) there. Floats, simple values other than false,
+/// true and null, tags other than 2 and 3 and numbers past 128 bits are faults too. `OutOfMemory`.
 ///
 /// ```rust
 /// let value = decode(alloc, &[0x82, 0x01, 0x61, b'a'], 16)?;
@@ -64,7 +63,8 @@ pub fn decode<'de>(
 ///
 /// # Errors
 ///
-/// Those of `decode`, but that bytes behind the item are none.
+/// Those of `decode`, but that bytes behind the item are none. So where the place is the end, more
+/// bytes can make it an item, and elsewhere none can: a reader of a stream waits for no other.
 ///
 /// ```rust
 /// let (value, length) = decode_prefix(alloc, &[0x61, b'a', 0x01], 16)?;
@@ -114,32 +114,27 @@ fn read_whole<'de>(alloc: Global, bytes: &'de [u8], limit: usize) -> Result<Valu
     }
 }
 
-/// A simple value, whose head stands at `from`.
-fn read_simple<'de>(
-    number: u64,
-    from: &[u8],
-    bytes: &'de [u8],
-) -> Result<(Value<'de>, &'de [u8]), Stop>
-    ensures { Gives (λ x. (tree_of x.0, x.1.now)) result (simple_at number from.now bytes.now) }
+/// A simple value, behind its head.
+fn read_simple<'de>(number: u64, bytes: &'de [u8]) -> Result<(Value<'de>, &'de [u8]), Stop>
+    ensures { Gives (λ x. (tree_of x.0, x.1.now)) result (simple_at number bytes.now) }
 {
     match number {
         20 => Ok((Value::Bool(false), bytes)),
         21 => Ok((Value::Bool(true), bytes)),
         22 => Ok((Value::Option(None), bytes)),
-        _ => Err(stop_at(Fault::Simple, from)),
+        _ => Err(stop_before(Fault::Simple, bytes)),
     }
 }
 
-/// An item that holds no other, behind its head, which stands at `from`.
+/// An item that holds no other, behind its head.
 #[tactic(auto, unfolding(crate::specs::Inner::Reading::leaf_at))]
 fn read_leaf<'de>(
     alloc: Global,
-    from: &[u8],
     head: Head,
     bytes: &'de [u8],
 ) -> Result<(Value<'de>, &'de [u8]), Stop>
     ensures { Gives (λ x. (tree_of x.0, x.1.now)) result
-        (leaf_at from.now head.«major» head.number bytes.now) }
+        (leaf_at head.«major» head.number bytes.now) }
 {
     match (head.major, head.number) {
         (Major::Unsigned, Some(number)) => {
@@ -157,12 +152,12 @@ fn read_leaf<'de>(
             Ok((Value::String(content), rest))
         }
         (Major::Tag, Some(tag)) => {
-            let (number, rest) = read_tag(tag, from, bytes)?;
+            let (number, rest) = read_tag(tag, bytes)?;
             Ok((Value::Number(number), rest))
         }
-        (Major::Simple, Some(number)) => read_simple(number, from, bytes),
-        (Major::Simple, None) => Err(stop_at(Fault::Break, from)),
-        _ => Err(stop_at(Fault::Reserved, from)),
+        (Major::Simple, Some(number)) => read_simple(number, bytes),
+        (Major::Simple, None) => Err(stop_before(Fault::Break, bytes)),
+        _ => Err(stop_before(Fault::Reserved, bytes)),
     }
 }
 
@@ -185,69 +180,55 @@ fn read_item<'de>(
         };
         return Err(stop_at(fault, bytes));
     }
-    let (head, rest) = read_head(bytes)?;
+    let (head, rest) = read_head(limit - 1, bytes)?;
     match head.major {
         Major::Array => {
-            let (items, rest) = read_items(alloc, limit - 1, bytes, head.number, rest)?;
+            let (items, rest) = read_items(alloc, limit - 1, head.number, rest)?;
             Ok((Value::Seq(items), rest))
         }
         Major::Map => {
-            let (pairs, rest) = read_pairs(alloc, limit - 1, bytes, head.number, rest)?;
+            let (pairs, rest) = read_pairs(alloc, limit - 1, head.number, rest)?;
             Ok((Value::Map(pairs), rest))
         }
-        _ => read_leaf(alloc, bytes, head, rest),
+        _ => read_leaf(alloc, head, rest),
     }
 }
 
-/// The items of an array, whose head stands at `from`.
+/// The items of an array, behind its head.
 #[cycle(decode)]
 #[inline(always)]
 #[tactic(auto, unfolding(crate::specs::Inner::Reading::parts_at))]
 fn read_items<'de>(
     alloc: Global,
     limit: usize,
-    from: &[u8],
     count: Option<u64>,
     bytes: &'de [u8],
 ) -> Result<(Vec<Value<'de>>, &'de [u8]), Stop>
     ensures { Gives (λ x. (map tree_of x.0.items, x.1.now)) result
-        (parts_at (item_at limit) limit from.now count bytes.now) }
+        (parts_at (item_at limit) count bytes.now) }
 {
     match count {
         None => read_items_until_break(alloc, limit, bytes),
-        Some(count) => {
-            if limit == 0 && count > 0 {
-                Err(stop_at(Fault::TooDeep, from))
-            } else {
-                read_each_item(alloc, limit, count, bytes)
-            }
-        }
+        Some(count) => read_each_item(alloc, limit, count, bytes),
     }
 }
 
-/// The pairs of a map, whose head stands at `from`.
+/// The pairs of a map, behind its head.
 #[cycle(decode)]
 #[inline(always)]
 #[tactic(auto, unfolding(crate::specs::Inner::Reading::parts_at))]
 fn read_pairs<'de>(
     alloc: Global,
     limit: usize,
-    from: &[u8],
     count: Option<u64>,
     bytes: &'de [u8],
 ) -> Result<(Vec<(Value<'de>, Value<'de>)>, &'de [u8]), Stop>
     ensures { Gives (λ x. (map pair_tree x.0.items, x.1.now)) result
-        (parts_at (pair_at (item_at limit)) limit from.now count bytes.now) }
+        (parts_at (pair_at (item_at limit)) count bytes.now) }
 {
     match count {
         None => read_pairs_until_break(alloc, limit, bytes),
-        Some(count) => {
-            if limit == 0 && count > 0 {
-                Err(stop_at(Fault::TooDeep, from))
-            } else {
-                read_each_pair(alloc, limit, count, bytes)
-            }
-        }
+        Some(count) => read_each_pair(alloc, limit, count, bytes),
     }
 }
 

@@ -2,12 +2,16 @@
 
 ghost use Rattle.std.specs.Prelude.{◌≡◌, ◌≤◌, ◌++◌, ◌*◌, OnOk, IfSome, IfNone, drop, true, false};
 ghost use Rattle.content_cbor.specs.Heads.{code, head};
-ghost use Rattle.content_cbor.specs.Inner.Reading.{Gives, argument_at, at_break, head_at};
-ghost use Rattle.content_cbor.specs.Inner.Reading.{major_of, number_at};
-ghost use Rattle.std.specs.Int.{w8, w16, w32, w64};
+ghost use Rattle.std.specs.Prelude.{◌^◌, ◌<◌};
+ghost use Rattle.content_cbor.specs.Inner.Steps.{Gives};
+ghost use Rattle.content_cbor.specs.Inner.Numbers.{argument_at, between, bounds_in, digits_at};
+ghost use Rattle.content_cbor.specs.Inner.Numbers.{size_of, unbounded};
+ghost use Rattle.content_cbor.specs.Inner.Reading.{at_break, bounds_of, first_at, head_at};
+ghost use Rattle.content_cbor.specs.Inner.Reading.{head_behind, major_of};
 
 use crate::decode_error::Fault;
-use crate::stop::{Stop, stop_at};
+use crate::digits::{Range, read_digits};
+use crate::stop::{Stop, stop_at, stop_before};
 use std::alloc::AllocError;
 
 /// The major types of data items.
@@ -66,6 +70,13 @@ impl Major {
     }
 }
 
+/// The first byte of a head: its major type, and what it says of the number.
+#[derive(Clone, Copy, Debug, Drop)]
+pub(crate) struct First {
+    pub(crate) major: Major,
+    pub(crate) info: u8,
+}
+
 /// A head: its major type, and its number, if it has one.
 #[derive(Clone, Copy, Debug, Drop)]
 pub(crate) struct Head {
@@ -113,7 +124,7 @@ fn write_long_head(out: &mut Vec<u8>, major: Major, number: u64) -> Result<(), A
 
 /// The number of the byte at the front, and the bytes behind it.
 fn read_u8(bytes: &[u8]) -> Result<(u8, &[u8]), Stop>
-    ensures { Gives (λ x. (x.0, x.1.now)) result (number_at w8 bytes.now) }
+    ensures { Gives (λ x. (x.0, x.1.now)) result (digits_at unbounded 1 0 bytes.now) }
 {
     match bytes {
         [] => Err(stop_at(Fault::Ended, &[])),
@@ -123,7 +134,7 @@ fn read_u8(bytes: &[u8]) -> Result<(u8, &[u8]), Stop>
 
 /// The number of two bytes.
 fn read_u16(bytes: &[u8]) -> Result<(u16, &[u8]), Stop>
-    ensures { Gives (λ x. (x.0, x.1.now)) result (number_at w16 bytes.now) }
+    ensures { Gives (λ x. (x.0, x.1.now)) result (digits_at unbounded 2 0 bytes.now) }
 {
     if bytes.len() < 2 {
         return Err(stop_at(Fault::Ended, &[]));
@@ -134,7 +145,7 @@ fn read_u16(bytes: &[u8]) -> Result<(u16, &[u8]), Stop>
 
 /// The number of four bytes.
 fn read_u32(bytes: &[u8]) -> Result<(u32, &[u8]), Stop>
-    ensures { Gives (λ x. (x.0, x.1.now)) result (number_at w32 bytes.now) }
+    ensures { Gives (λ x. (x.0, x.1.now)) result (digits_at unbounded 4 0 bytes.now) }
 {
     if bytes.len() < 4 {
         return Err(stop_at(Fault::Ended, &[]));
@@ -146,7 +157,7 @@ fn read_u32(bytes: &[u8]) -> Result<(u32, &[u8]), Stop>
 
 /// The number of eight bytes.
 fn read_u64(bytes: &[u8]) -> Result<(u64, &[u8]), Stop>
-    ensures { Gives (λ x. (x.0, x.1.now)) result (number_at w64 bytes.now) }
+    ensures { Gives (λ x. (x.0, x.1.now)) result (digits_at unbounded 8 0 bytes.now) }
 {
     if bytes.len() < 8 {
         return Err(stop_at(Fault::Ended, &[]));
@@ -158,12 +169,41 @@ fn read_u64(bytes: &[u8]) -> Result<(u64, &[u8]), Stop>
     Ok((number, rest))
 }
 
-/// The number behind a first byte that says how many bytes it takes.
-#[tactic(auto, unfolding(crate::specs::Inner::Reading::argument_at))]
-fn read_argument(info: u8, bytes: &[u8]) -> Result<(u64, &[u8]), Stop>
-    ensures { Gives (λ x. (x.0, x.1.now)) result (argument_at info bytes.now) }
+/// The first byte of a head, and the bytes behind it.
+#[tactic(auto, unfolding(crate::specs::Inner::Reading::first_at))]
+pub(crate) fn read_first(bytes: &[u8]) -> Result<(First, &[u8]), Stop>
+    ensures { Gives (λ x. (x.0, x.1.now)) result (first_at bytes.now) }
 {
-    if info == 24 {
+    let [first, rest @ ..] = bytes else {
+        return Err(stop_at(Fault::Ended, bytes));
+    };
+    let info = *first % 32;
+    let major = Major::of(*first / 32);
+    if info < 24 || info == 31 {
+        return Ok((First { major, info }, rest));
+    }
+    if 27 < info {
+        return Err(stop_at(Fault::Reserved, bytes));
+    }
+    if matches!(major, Major::Simple) {
+        let fault = if info == 24 {
+            Fault::Simple
+        } else {
+            Fault::Float
+        };
+        return Err(stop_at(fault, bytes));
+    }
+    Ok((First { major, info }, rest))
+}
+
+/// The number of a head, in its first byte or behind it.
+#[tactic(auto, unfolding(crate::specs::Inner::Numbers::argument_at))]
+fn read_any_argument(info: u8, bytes: &[u8]) -> Result<(u64, &[u8]), Stop>
+    ensures { Gives (λ x. (x.0, x.1.now)) result (argument_at unbounded info bytes.now) }
+{
+    if info < 24 {
+        Ok((u64::from(info), bytes))
+    } else if info == 24 {
         let (number, rest) = read_u8(bytes)?;
         Ok((u64::from(number), rest))
     } else if info == 25 {
@@ -177,38 +217,99 @@ fn read_argument(info: u8, bytes: &[u8]) -> Result<(u64, &[u8]), Stop>
     }
 }
 
-/// The head at the front, in however many bytes, and the bytes behind it.
-#[tactic(auto, unfolding(crate::specs::Inner::Reading::head_at))]
-pub(crate) fn read_head(bytes: &[u8]) -> Result<(Head, &[u8]), Stop>
-    ensures { Gives (λ x. (x.0, x.1.now)) result (head_at bytes.now) }
+/// How many bytes stand behind a first byte that says so.
+fn size_of(info: u8) -> u64
+    ensures { result ≡ size_of info }
 {
-    let [first, rest @ ..] = bytes else {
-        return Err(stop_at(Fault::Ended, bytes));
-    };
-    let info = *first % 32;
-    let major = Major::of(*first / 32);
+    match info {
+        24 => 1,
+        25 => 2,
+        26 => 4,
+        _ => 8,
+    }
+}
+
+/// The same number, where it must be of a range.
+#[tactic(auto, unfolding(crate::specs::Inner::Numbers::argument_at))]
+fn read_argument_in(range: Range, info: u8, bytes: &[u8]) -> Result<(u64, &[u8]), Stop>
+    requires { range.most < 2 ^ 64 }
+    ensures { Gives (λ x. (x.0, x.1.now)) result
+        (argument_at (between range.least range.most range.«fault») info bytes.now) }
+{
     if info < 24 {
-        let number = Some(u64::from(info));
-        return Ok((Head { major, number }, rest));
-    }
-    if info == 31 {
-        let number = None;
-        return Ok((Head { major, number }, rest));
-    }
-    if 27 < info {
-        return Err(stop_at(Fault::Reserved, bytes));
-    }
-    if matches!(major, Major::Simple) {
-        let fault = if info == 24 {
-            Fault::Simple
+        let number = u128::from(info);
+        if number < range.least || range.most < number {
+            Err(stop_before(range.fault, bytes))
         } else {
-            Fault::Float
-        };
-        return Err(stop_at(fault, bytes));
+            Ok((u64::from(info), bytes))
+        }
+    } else {
+        let (number, rest) = read_digits(range, size_of(info), 0, bytes)?;
+        Ok((number as u64, rest))
     }
-    let (number, rest) = read_argument(info, rest)?;
+}
+
+/// The number of a head, of a range, if one is given.
+pub(crate) fn read_argument(
+    range: Option<Range>,
+    info: u8,
+    bytes: &[u8],
+) -> Result<(u64, &[u8]), Stop>
+    requires { IfSome range (λ r. r.most < 2 ^ 64) }
+    ensures { Gives (λ x. (x.0, x.1.now)) result (argument_at (bounds_in range) info bytes.now) }
+{
+    match range {
+        None => read_any_argument(info, bytes),
+        Some(range) => read_argument_in(range, info, bytes),
+    }
+}
+
+/// A head behind its first byte, with a number of a range, if one is given.
+pub(crate) fn read_head_behind(
+    range: Option<Range>,
+    first: First,
+    bytes: &[u8],
+) -> Result<(Head, &[u8]), Stop>
+    requires { IfSome range (λ r. r.most < 2 ^ 64) }
+    ensures { Gives (λ x. (x.0, x.1.now)) result (head_behind (bounds_in range) first bytes.now) }
+{
+    let major = first.major;
+    if first.info == 31 {
+        let number = None;
+        return Ok((Head { major, number }, bytes));
+    }
+    let (number, rest) = read_argument(range, first.info, bytes)?;
     let number = Some(number);
     Ok((Head { major, number }, rest))
+}
+
+/// What the number of a head must be, of an item in which items may stand so deep.
+fn range_of(limit: usize, major: Major) -> Option<Range>
+    ensures bounds { bounds_in result ≡ bounds_of limit major }
+    ensures small { IfSome result (λ r. r.most < 2 ^ 64) }
+{
+    match major {
+        Major::Tag => Some(Range {
+            least: 2,
+            most: 3,
+            fault: Fault::Tag,
+        }),
+        Major::Array | Major::Map if limit == 0 => Some(Range {
+            least: 0,
+            most: 0,
+            fault: Fault::TooDeep,
+        }),
+        _ => None,
+    }
+}
+
+/// The head of an item in which items may stand so deep, and the bytes behind it.
+#[tactic(auto, unfolding(crate::specs::Inner::Reading::head_at))]
+pub(crate) fn read_head(limit: usize, bytes: &[u8]) -> Result<(Head, &[u8]), Stop>
+    ensures { Gives (λ x. (x.0, x.1.now)) result (head_at limit bytes.now) }
+{
+    let (first, rest) = read_first(bytes)?;
+    read_head_behind(range_of(limit, first.major), first, rest)
 }
 
 /// The bytes behind a break, if one is at the front.

@@ -4,6 +4,7 @@
 
 mod decode_error;
 mod decoding;
+mod digits;
 mod encoder;
 mod encoding;
 mod heads;
@@ -14,6 +15,7 @@ mod round;
 mod stop;
 mod strings;
 mod typed;
+mod utf8;
 
 pub use decode_error::{DecodeError, Fault};
 pub use decoding::{decode, decode_prefix};

@@ -1,15 +1,18 @@
 //! Numbers that are read.
 
-ghost use Rattle.std.specs.Prelude.{◌≡◌, ◌^◌, ◌<◌, pos, negsuc, length, true, false, IfOk, IfSome};
-ghost use Rattle.std.specs.Int.Digits.{number_from_digits, number_from_digits_after};
+ghost use Rattle.std.specs.Prelude.{◌≡◌, ◌^◌, ◌<◌, ◌≤◌, pos, negsuc, length, IfOk, IfSome};
 ghost use Rattle.content_cbor.specs.Codes.{number_of};
-ghost use Rattle.content_cbor.specs.Inner.Reading.{Gives, below_128_bits, digits_until, magnitude};
-ghost use Rattle.content_cbor.specs.Inner.Reading.{magnitude_at, magnitude_behind, tag_at};
+ghost use Rattle.content_cbor.specs.declared.decode_error.Fault.TheVariants.{TooWide};
+ghost use Rattle.content_cbor.specs.Inner.Steps.{Gives};
+ghost use Rattle.content_cbor.specs.Inner.Numbers.{bounds_in};
+ghost use Rattle.content_cbor.specs.Inner.Reading.{chunk_bounds, digits_behind, digits_of};
+ghost use Rattle.content_cbor.specs.Inner.Reading.{digits_until, greatest, magnitude_at, tag_at};
 
 use crate::decode_error::Fault;
-use crate::heads::{Head, Major, after_break, read_head};
+use crate::digits::{Range, leading, read_digits};
+use crate::heads::{Major, after_break, read_first, read_head_behind};
 use crate::stop::{Stop, stop_at};
-use crate::strings::{read_bytes, read_chunk_of_bytes};
+use crate::strings::read_length;
 use content_tree::Number;
 
 /// A number from 0, of 64 bits if it has room there.
@@ -34,40 +37,59 @@ pub(crate) fn from_negative(number: u128) -> Number
     }
 }
 
-/// The number with more digits to the base 256 behind its own; none past 128 bits.
-fn append_digits(number: u128, digits: &[u8]) -> Option<u128>
-    ensures { result ≡ below_128_bits (number_from_digits_after 256 number digits.now) }
+/// The greatest number under tag 2 or 3.
+fn greatest(is_negative: bool) -> u128
+    ensures { result ≡ greatest is_negative }
 {
-    let mut number = number;
-    for digit in digits {
-        number = number.checked_mul(256)?.checked_add(u128::from(*digit))?;
-    }
-    Some(number)
-}
-
-/// The same, where it has room under its tag.
-fn append_digits_under_tag(is_negative: bool, number: u128, digits: &[u8]) -> Option<u128>
-    ensures value { result ≡ magnitude is_negative
-        (number_from_digits_after 256 number digits.now) }
-    ensures room { is_negative ≡ true → IfSome result (λ n. n < 2 ^ 127) }
-{
-    let number = append_digits(number, digits)?;
-    if is_negative && number > i128::MAX as u128 {
-        None
+    if is_negative {
+        i128::MAX as u128
     } else {
-        Some(number)
+        u128::MAX
     }
 }
 
-/// The number whose digits stand in chunks up to a break, under a tag that stands at `from`.
-fn read_chunks_of_digits<'de>(
-    is_negative: bool,
-    from: &[u8],
-    bytes: &'de [u8],
-) -> Result<(u128, &'de [u8]), Stop>
+/// The numbers that have room under tag 2 or 3.
+fn room(is_negative: bool) -> Range
+    ensures { result ≡ record { least = 0; most = greatest is_negative; «fault» = TooWide } }
+{
+    Range {
+        least: 0,
+        most: greatest(is_negative),
+        fault: Fault::TooWide,
+    }
+}
+
+/// How many digits, 15 at most, can go on from this number where it may grow to another.
+fn digits_behind(most: u128, number: u128) -> u64
+    ensures { result ≡ digits_behind 15 most number }
+{
+    let mut due = 15;
+    while due > 0 && leading(due, most) < number {
+        due -= 1;
+    }
+    due
+}
+
+/// How many digits the next chunk may have, behind this number; as many as it likes behind 0.
+fn lengths_behind(is_negative: bool, number: u128) -> Option<Range>
+    ensures bounds { bounds_in result ≡ chunk_bounds is_negative number }
+    ensures small { IfSome result (λ r. r.most < 2 ^ 64) }
+{
+    if number == 0 {
+        return None;
+    }
+    Some(Range {
+        least: 0,
+        most: u128::from(digits_behind(greatest(is_negative), number)),
+        fault: Fault::TooWide,
+    })
+}
+
+/// The number whose digits stand in chunks up to a break.
+fn read_chunks_of_digits(is_negative: bool, bytes: &[u8]) -> Result<(u128, &[u8]), Stop>
     ensures value { Gives (λ x. (x.0, x.1.now)) result
-        (digits_until is_negative from.now 0 (length bytes.now) bytes.now) }
-    ensures room { is_negative ≡ true → IfOk result (λ x. x.0 < 2 ^ 127) }
+        (digits_until is_negative 0 (length bytes.now) bytes.now) }
+    ensures room { IfOk result (λ x. x.0 ≤ greatest is_negative) }
 {
     let mut number = 0;
     let mut rest = bytes;
@@ -76,80 +98,53 @@ fn read_chunks_of_digits<'de>(
         if let Some(behind) = after_break(rest) {
             return Ok((number, behind));
         }
-        let (chunk, behind) = read_chunk_of_bytes(rest)?;
-        match append_digits_under_tag(is_negative, number, chunk) {
-            Some(longer) => number = longer,
-            None => return Err(stop_at(Fault::TooWide, from)),
-        }
+        let (due, behind) = read_length(false, lengths_behind(is_negative, number), rest)?;
+        let (longer, behind) = read_digits(room(is_negative), due, number, behind)?;
+        number = longer;
         rest = behind;
     }
     Err(stop_at(Fault::Ended, &[]))
 }
 
-/// The number whose digits stand behind the head of bytes, under a tag that stands at `from`.
-fn read_digits<'de>(
+/// The number whose digits stand behind the head of bytes.
+fn read_digits_behind(
     is_negative: bool,
-    from: &[u8],
     length: Option<u64>,
-    bytes: &'de [u8],
-) -> Result<(u128, &'de [u8]), Stop>
-    ensures value { Gives (λ x. (x.0, x.1.now)) result
-        (magnitude_behind is_negative from.now length bytes.now) }
-    ensures room { is_negative ≡ true → IfOk result (λ x. x.0 < 2 ^ 127) }
+    bytes: &[u8],
+) -> Result<(u128, &[u8]), Stop>
+    ensures value { Gives (λ x. (x.0, x.1.now)) result (digits_of is_negative length bytes.now) }
+    ensures room { IfOk result (λ x. x.0 ≤ greatest is_negative) }
 {
     match length {
-        Some(length) => {
-            let (digits, rest) = read_bytes(length, bytes)?;
-            match append_digits_under_tag(is_negative, 0, digits) {
-                Some(number) => Ok((number, rest)),
-                None => Err(stop_at(Fault::TooWide, from)),
-            }
-        }
-        None => read_chunks_of_digits(is_negative, from, bytes),
+        Some(length) => read_digits(room(is_negative), length, 0, bytes),
+        None => read_chunks_of_digits(is_negative, bytes),
     }
 }
 
-/// The number under tag 2 or 3, which stands at `from`: from its bytes.
+/// The number under tag 2 or 3, from its bytes.
 #[tactic(auto, unfolding(crate::specs::Inner::Reading::magnitude_at))]
-fn read_magnitude<'de>(
-    is_negative: bool,
-    from: &[u8],
-    bytes: &'de [u8],
-) -> Result<(u128, &'de [u8]), Stop>
-    ensures value { Gives (λ x. (x.0, x.1.now)) result
-        (magnitude_at is_negative from.now bytes.now) }
-    ensures room { is_negative ≡ true → IfOk result (λ x. x.0 < 2 ^ 127) }
+fn read_magnitude(is_negative: bool, bytes: &[u8]) -> Result<(u128, &[u8]), Stop>
+    ensures value { Gives (λ x. (x.0, x.1.now)) result (magnitude_at is_negative bytes.now) }
+    ensures room { IfOk result (λ x. x.0 ≤ greatest is_negative) }
 {
-    match read_head(bytes)? {
-        (
-            Head {
-                major: Major::Bytes,
-                number,
-            },
-            rest,
-        ) => read_digits(is_negative, from, number, rest),
-        _ => Err(stop_at(Fault::Misplaced, bytes)),
+    let (first, rest) = read_first(bytes)?;
+    if !matches!(first.major, Major::Bytes) {
+        return Err(stop_at(Fault::Misplaced, bytes));
     }
+    let (head, rest) = read_head_behind(None, first, rest)?;
+    read_digits_behind(is_negative, head.number, rest)
 }
 
-/// A number under a tag, which stands at `from`.
+/// A number under tag 2, and else under tag 3.
 #[tactic(auto, unfolding(crate::specs::Inner::Reading::tag_at))]
-pub(crate) fn read_tag<'de>(
-    tag: u64,
-    from: &[u8],
-    bytes: &'de [u8],
-) -> Result<(Number, &'de [u8]), Stop>
-    ensures { Gives (λ x. (x.0, x.1.now)) result (tag_at tag from.now bytes.now) }
+pub(crate) fn read_tag(tag: u64, bytes: &[u8]) -> Result<(Number, &[u8]), Stop>
+    ensures { Gives (λ x. (x.0, x.1.now)) result (tag_at tag bytes.now) }
 {
-    match tag {
-        2 => {
-            let (number, rest) = read_magnitude(false, from, bytes)?;
-            Ok((from_unsigned(number), rest))
-        }
-        3 => {
-            let (number, rest) = read_magnitude(true, from, bytes)?;
-            Ok((from_negative(number), rest))
-        }
-        _ => Err(stop_at(Fault::Tag, from)),
+    if tag == 2 {
+        let (number, rest) = read_magnitude(false, bytes)?;
+        Ok((from_unsigned(number), rest))
+    } else {
+        let (number, rest) = read_magnitude(true, bytes)?;
+        Ok((from_negative(number), rest))
     }
 }

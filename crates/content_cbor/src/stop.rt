@@ -1,6 +1,6 @@
 //! Where reading stops.
 
-ghost use Rattle.std.specs.Prelude.{◌≡◌, length};
+ghost use Rattle.std.specs.Prelude.{◌≡◌, length, suc};
 ghost use Rattle.content_cbor.specs.declared.stop.Stop.TheVariants.{OutOfMemory, Refused};
 
 use crate::decode_error::Fault;
@@ -43,5 +43,15 @@ pub(crate) fn stop_at(fault: Fault, left: &[u8]) -> Stop
     Stop::Refused(Refusal {
         fault,
         left: left.len(),
+    })
+}
+
+/// The stop for a fault at the byte before these.
+pub(crate) fn stop_before(fault: Fault, behind: &[u8]) -> Stop
+    ensures { result ≡ Refused (record { «fault» = fault; left = suc (length behind.now) }) }
+{
+    Stop::Refused(Refusal {
+        fault,
+        left: behind.len() + 1,
     })
 }

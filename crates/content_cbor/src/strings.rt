@@ -1,20 +1,23 @@
 //! Texts and bytes that are read.
 
-ghost use Rattle.std.specs.Prelude.{◌≡◌, ◌++◌, string_bytes, false, true};
+ghost use Rattle.std.specs.Prelude.{◌≡◌, ◌++◌, ◌^◌, ◌<◌, string_bytes, false, true, IfSome};
 ghost use Rattle.content_tree.specs.Values.Text.{text_of, bytes_of};
-ghost use Rattle.content_cbor.specs.Inner.Reading.{Gives, bytes_at, chunk_at, chunk_length};
-ghost use Rattle.content_cbor.specs.Inner.Reading.{chunks_at};
-ghost use Rattle.content_cbor.specs.Inner.Reading.{content_at, string_at};
+ghost use Rattle.content_cbor.specs.Inner.Steps.{Gives};
+ghost use Rattle.content_cbor.specs.Inner.Numbers.{bounds_in};
+ghost use Rattle.content_cbor.specs.Inner.Reading.{begins_chunk, bytes_at, chunk_at, chunks_at};
+ghost use Rattle.content_cbor.specs.Inner.Reading.{content_at, length_at, string_at};
 
 use crate::decode_error::Fault;
-use crate::heads::{Head, Major, after_break, read_head};
-use crate::stop::{Refusal, Stop, stop_at};
+use crate::digits::Range;
+use crate::heads::{First, Major, after_break, read_argument, read_first};
+use crate::stop::{Stop, stop_at};
+use crate::utf8::stop_in_text;
 use content_tree::{CowBytes, CowStr};
 use std::alloc::Global;
 use std::str;
 
 /// So many bytes, and those behind them.
-pub(crate) fn read_bytes(length: u64, bytes: &[u8]) -> Result<(&[u8], &[u8]), Stop>
+fn read_bytes(length: u64, bytes: &[u8]) -> Result<(&[u8], &[u8]), Stop>
     ensures { Gives (λ x. (x.0.now, x.1.now)) result (bytes_at length bytes.now) }
 {
     if (bytes.len() as u64) < length {
@@ -28,37 +31,53 @@ pub(crate) fn read_bytes(length: u64, bytes: &[u8]) -> Result<(&[u8], &[u8]), St
 fn read_text(length: u64, bytes: &[u8]) -> Result<(&str, &[u8]), Stop>
     ensures { Gives (λ x. (x.0.now, x.1.now)) result (content_at true length bytes.now) }
 {
-    let (content, rest) = read_bytes(length, bytes)?;
+    if (bytes.len() as u64) < length {
+        return Err(stop_in_text(length, bytes));
+    }
+    let (content, rest) = bytes.split_at(length as usize);
     match str::from_utf8(content) {
         Ok(text) => Ok((text, rest)),
-        Err(error) => Err(Stop::Refused(Refusal {
-            fault: Fault::NotUtf8,
-            left: bytes.len() - error.valid_up_to(),
-        })),
+        Err(_) => Err(stop_in_text(length, bytes)),
     }
 }
 
-/// The length of a chunk of a text or of bytes, if its head begins one.
-fn chunk_length(is_text: bool, head: Head) -> Option<u64>
-    ensures { result ≡ chunk_length is_text head.«major» head.number }
+/// Whether a chunk of a text or of bytes begins so: with its length.
+fn begins_chunk(is_text: bool, first: First) -> bool
+    ensures { result ≡ begins_chunk is_text first.«major» first.info }
 {
-    match head.major {
-        Major::Text if is_text => head.number,
-        Major::Bytes if !is_text => head.number,
-        _ => None,
+    match first.major {
+        Major::Text => is_text && first.info < 31,
+        Major::Bytes => !is_text && first.info < 31,
+        _ => false,
+    }
+}
+
+/// The length of a chunk of a text or of bytes, of a range, if one is given.
+#[tactic(auto, unfolding(crate::specs::Inner::Reading::length_at))]
+pub(crate) fn read_length(
+    is_text: bool,
+    range: Option<Range>,
+    bytes: &[u8],
+) -> Result<(u64, &[u8]), Stop>
+    requires { IfSome range (λ r. r.most < 2 ^ 64) }
+    ensures { Gives (λ x. (x.0, x.1.now)) result
+        (length_at is_text (bounds_in range) bytes.now) }
+{
+    let (first, rest) = read_first(bytes)?;
+    if begins_chunk(is_text, first) {
+        read_argument(range, first.info, rest)
+    } else {
+        Err(stop_at(Fault::Misplaced, bytes))
     }
 }
 
 /// A chunk of bytes.
 #[tactic(auto, unfolding(crate::specs::Inner::Reading::chunk_at, crate::specs::Inner::Reading::content_at))]
-pub(crate) fn read_chunk_of_bytes(bytes: &[u8]) -> Result<(&[u8], &[u8]), Stop>
+fn read_chunk_of_bytes(bytes: &[u8]) -> Result<(&[u8], &[u8]), Stop>
     ensures { Gives (λ x. (x.0.now, x.1.now)) result (chunk_at false bytes.now) }
 {
-    let (head, rest) = read_head(bytes)?;
-    match chunk_length(false, head) {
-        Some(length) => read_bytes(length, rest),
-        None => Err(stop_at(Fault::Misplaced, bytes)),
-    }
+    let (length, rest) = read_length(false, None, bytes)?;
+    read_bytes(length, rest)
 }
 
 /// A chunk of a text.
@@ -66,11 +85,8 @@ pub(crate) fn read_chunk_of_bytes(bytes: &[u8]) -> Result<(&[u8], &[u8]), Stop>
 fn read_chunk_of_text(bytes: &[u8]) -> Result<(&str, &[u8]), Stop>
     ensures { Gives (λ x. (x.0.now, x.1.now)) result (chunk_at true bytes.now) }
 {
-    let (head, rest) = read_head(bytes)?;
-    match chunk_length(true, head) {
-        Some(length) => read_text(length, rest),
-        None => Err(stop_at(Fault::Misplaced, bytes)),
-    }
+    let (length, rest) = read_length(true, None, bytes)?;
+    read_text(length, rest)
 }
 
 /// Bytes behind their head: borrowed with a length, and without one their chunks together.

@@ -1,20 +1,27 @@
 -- Heads that are read.
-use Rattle.std.proofs.Common.{◌≡◌, ℕ, ◌/◌, ◌%◌, ◌<◌, ◌≤◌, Bool, true, false, cond, eqb, ltb, List, [], ◌∷◌, ◌++◌, length, take, drop, Option, Some, None, Result, Ok, ◌⊎◌, refl, sym, ap, subst, ◌∙◌, arith, inl, inr}
-use Rattle.std.specs.Int.{Width, byte_len, from_be_bytes, to_be_bytes, w8, w16, w32, w64}
-use Rattle.std.proofs.lemmas.Bool.{ltb-false, ltb-true, le-ltb, lt-ltb, eqb-true, eqb-false}
-use Rattle.std.proofs.lemmas.List.{take_at, drop_at, take-append-drop, length-append, length-take}
+use Rattle.std.proofs.Common.{◌≡◌, ℕ, suc, zero, ◌+◌, ◌*◌, ◌-◌, ◌/◌, ◌%◌, ◌<◌, ◌≤◌, Bool, true, false, cond, eqb, ltb, List, [], ◌∷◌, ◌++◌, get_or, length, take, drop, Option, Some, None, Result, Ok, Err, ◌⊎◌, refl, sym, ap, subst, ◌∙◌, arith, inl, inr}
+use Rattle.std.specs.Int.{Width, byte_len, from_be_bytes, to_be_bytes, w8}
+use Rattle.std.specs.Int.Digits.{number_from_digits_after}
+use Rattle.std.proofs.lemmas.Bool.{ltb-false, ltb-true, le-ltb, lt-ltb, eqb-true, eqb-false, ne_eqb, cases_lt}
+use Rattle.std.proofs.lemmas.List.{length-take, take_all}
 use Rattle.std.proofs.lemmas.Nat.{be_bytes_2, be_bytes_4, be_bytes_8, from_be_bytes-to_be_bytes_2, from_be_bytes-to_be_bytes_4, from_be_bytes-to_be_bytes_8}
 use Rattle.content_cbor.specs.Heads.{code, first_byte}
 use Rattle.content_cbor.specs.Codes as size
 use Rattle.content_cbor.specs.Codes.{Size, IsHead, info_of, room, width_of}
+use Rattle.content_cbor.specs.declared.decode_error.Fault.{Fault}
 use Rattle.content_cbor.specs.declared.decode_error.Fault.TheVariants as fault
+use Rattle.content_cbor.specs.declared.heads.First.{First}
 use Rattle.content_cbor.specs.declared.heads.Head.{Head}
 use Rattle.content_cbor.specs.declared.heads.Major.{Major}
 use Rattle.content_cbor.specs.declared.heads.Major.TheVariants as major
 use Rattle.content_cbor.specs.declared.stop.Refusal.{Refusal}
-use Rattle.content_cbor.specs.Inner.Reading.{◌>>=◌, argument_at, head_at, is_simple, major_of, number_at, refused}
-use Rattle.content_cbor.proofs.Read.Steps.{ok_is, bind_ok, chosen, passed}
-use Rattle.content_cbor.proofs.Read.Took.{IsBytes, IsBytes-drop, IsBytes-rest, IsBytes-take, Took, Sound}
+use Rattle.content_cbor.specs.Inner.Steps.{◌>>=◌, refused, refused_before}
+use Rattle.content_cbor.specs.Inner.Numbers.{Bounds, argument_at, between, digits_at, leading, size_of, unbounded}
+use Rattle.content_cbor.specs.Inner.Reading.{bounds_of, first_at, head_at, head_behind, is_simple, major_of}
+use Rattle.content_cbor.proofs.Read.Steps.{ok_is, bind_err, bind_ok, chosen, failed, passed, same_left}
+use Rattle.content_cbor.proofs.Read.Took.{IsBytes, IsBytes-rest, Took, Sound, Complete, regrouped}
+use Rattle.content_cbor.proofs.Read.Begun.{Before, Opens, behind_a, instead}
+use Rattle.content_cbor.proofs.Read.Numbers.{All, Fair, IsByte, between_fair, unbounded_fair, in_range_from, leading_none, digits_admitted, digits_complete, digits_placed, digits_sound, reads_unbounded}
 
 -- ---- numbers of a width
 
@@ -23,6 +30,7 @@ pub record IsWide (w : Width) (limit : ℕ) : Type 0 where
   pub back : (bs : List ℕ) → length bs ≡ byte_len w → IsBytes bs → to_be_bytes w (from_be_bytes w bs) ≡ bs
   pub again : (n : ℕ) → n < limit → from_be_bytes w (to_be_bytes w n) ≡ n
   pub below : (bs : List ℕ) → IsBytes bs → from_be_bytes w bs < limit
+  pub small : (n : ℕ) → All IsByte (to_be_bytes w n)
 
 one_byte : (bs : List ℕ) → length bs ≡ 1 → IsBytes bs → to_be_bytes w8 (from_be_bytes w8 bs) ≡ bs
 one_byte [] len fits = absurd (omega (arith, len))
@@ -35,52 +43,73 @@ wide size.one = record {
   back = λ bs len fits. one_byte bs len fits;
   again = λ n lt. omega (arith, lt);
   below = λ bs fits. omega (arith, fits 0);
+  small = λ n. (omega arith, tt);
 }
 wide size.two = record {
   len = λ n. refl;
   back = λ bs len fits. be_bytes_2 bs _ len fits refl;
   again = λ n lt. from_be_bytes-to_be_bytes_2 n lt;
   below = λ bs fits. omega (arith, fits 0, fits 1);
+  small = λ n. (omega arith, (omega arith, tt));
 }
 wide size.four = record {
   len = λ n. refl;
   back = λ bs len fits. be_bytes_4 bs _ len fits refl;
   again = λ n lt. from_be_bytes-to_be_bytes_4 n lt;
   below = λ bs fits. omega (arith, fits 0, fits 1, fits 2, fits 3);
+  small = λ n. (omega arith, (omega arith, (omega arith, (omega arith, tt))));
 }
 wide size.eight = record {
   len = λ n. refl;
   back = λ bs len fits. be_bytes_8 bs _ len fits refl;
   again = λ n lt. from_be_bytes-to_be_bytes_8 n lt;
   below = λ bs fits. omega (arith, fits 0, fits 1, fits 2, fits 3, fits 4, fits 5, fits 6, fits 7);
+  small = λ n. (omega arith, (omega arith, (omega arith, (omega arith, (omega arith, (omega arith, (omega arith, (omega arith, tt))))))));
 }
+
+-- the number of so many digits
+pub same_number : (s : Size) (ds : List ℕ) → length ds ≡ byte_len (width_of s) → number_from_digits_after 256 0 ds ≡ from_be_bytes (width_of s) ds
+same_number size.one (a ∷ []) len = omega arith
+same_number size.one [] len = absurd (omega (arith, len))
+same_number size.one (a ∷ b ∷ ds) len = absurd (omega (arith, len))
+same_number size.two (a ∷ b ∷ []) len = omega arith
+same_number size.two [] len = absurd (omega (arith, len))
+same_number size.two (a ∷ []) len = absurd (omega (arith, len))
+same_number size.two (a ∷ b ∷ c ∷ ds) len = absurd (omega (arith, len))
+same_number size.four (a ∷ b ∷ c ∷ d ∷ []) len = omega arith
+same_number size.four [] len = absurd (omega (arith, len))
+same_number size.four (a ∷ []) len = absurd (omega (arith, len))
+same_number size.four (a ∷ b ∷ []) len = absurd (omega (arith, len))
+same_number size.four (a ∷ b ∷ c ∷ []) len = absurd (omega (arith, len))
+same_number size.four (a ∷ b ∷ c ∷ d ∷ e ∷ ds) len = absurd (omega (arith, len))
+same_number size.eight (a ∷ b ∷ c ∷ d ∷ e ∷ f ∷ g ∷ h ∷ []) len = omega arith
+same_number size.eight [] len = absurd (omega (arith, len))
+same_number size.eight (a ∷ []) len = absurd (omega (arith, len))
+same_number size.eight (a ∷ b ∷ []) len = absurd (omega (arith, len))
+same_number size.eight (a ∷ b ∷ c ∷ []) len = absurd (omega (arith, len))
+same_number size.eight (a ∷ b ∷ c ∷ d ∷ []) len = absurd (omega (arith, len))
+same_number size.eight (a ∷ b ∷ c ∷ d ∷ e ∷ []) len = absurd (omega (arith, len))
+same_number size.eight (a ∷ b ∷ c ∷ d ∷ e ∷ f ∷ []) len = absurd (omega (arith, len))
+same_number size.eight (a ∷ b ∷ c ∷ d ∷ e ∷ f ∷ g ∷ []) len = absurd (omega (arith, len))
+same_number size.eight (a ∷ b ∷ c ∷ d ∷ e ∷ f ∷ g ∷ h ∷ i ∷ ds) len = absurd (omega (arith, len))
 
 -- bytes that spell the number in a width
 abbrev pub Spelled : Size → ℕ → List ℕ → Type 0
 Spelled s n bs = (n < room s) × (bs ≡ to_be_bytes (width_of s) n)
 
-number_sound : (s : Size) → Sound (Spelled s) (number_at (width_of s))
-number_sound s bs n rest fits e =
-    let w = width_of s in
-    let k = byte_len w in
-    let g = passed (ltb (length bs) k) (record { «fault» = fault.Ended; left = 0 }) (Ok (from_be_bytes w (take k bs), drop k bs)) (n, rest) e in
-    let long : k ≤ length bs = ltb-false _ _ g.0 in
-    let is = ok_is (from_be_bytes w (take k bs), drop k bs) (n, rest) g.1 in
-    let len : length (take k bs) ≡ k = omega (arith, length-take k bs, long) in
-    subst (λ (p : ℕ × List ℕ). Took (Spelled s p.0) bs p.1) is (record {
-      front = take k bs;
-      part = ((wide s).below (take k bs) (IsBytes-take k bs fits), sym ((wide s).back (take k bs) len (IsBytes-take k bs fits)));
-      split = sym (take-append-drop k bs);
-      fits = IsBytes-drop k bs fits;
-    })
+spelled : (s : Size) (ds : List ℕ) → length ds ≡ byte_len (width_of s) → IsBytes ds → Spelled s (number_from_digits_after 256 0 ds) ds
+spelled s ds len fits =
+    let same = same_number s ds len in
+    subst (λ n. Spelled s n ds) (sym same) ((wide s).below ds fits, sym ((wide s).back ds len fits))
 
-number_complete : (s : Size) (n : ℕ) (rest : List ℕ) → n < room s → number_at (width_of s) (to_be_bytes (width_of s) n ++ rest) ≡ Ok (n, rest)
-number_complete s n rest lt =
-    let w = width_of s in
-    let k = byte_len w in
-    let len = (wide s).len n in
-    let long : ltb (length (to_be_bytes w n ++ rest)) k ≡ false = le-ltb _ _ (omega (arith, length-append (to_be_bytes w n) rest, len)) in
-    rw (long, take_at (to_be_bytes w n) rest k len, drop_at (to_be_bytes w n) rest k len, (wide s).again n lt) refl
+spelled_back : (s : Size) (n : ℕ) → n < room s → number_from_digits_after 256 0 (to_be_bytes (width_of s) n) ≡ n
+spelled_back s n lt = same_number s (to_be_bytes (width_of s) n) ((wide s).len n) ∙ (wide s).again n lt
+
+size_is : (s : Size) → size_of (info_of s) ≡ byte_len (width_of s)
+size_is size.one = refl
+size_is size.two = refl
+size_is size.four = refl
+size_is size.eight = refl
 
 -- ---- first bytes
 
@@ -94,46 +123,211 @@ bits_of major.Map = refl
 bits_of major.Tag = refl
 bits_of major.Simple = refl
 
-pub top_of : (m : Major) (info : ℕ) → info < 32 → first_byte m info / 32 ≡ code m
+top_of : (m : Major) (info : ℕ) → info < 32 → first_byte m info / 32 ≡ code m
 top_of m info lt = omega (arith, lt)
 
-pub low_of : (m : Major) (info : ℕ) → info < 32 → first_byte m info % 32 ≡ info
+low_of : (m : Major) (info : ℕ) → info < 32 → first_byte m info % 32 ≡ info
 low_of m info lt = omega (arith, lt)
 
-pub major_back : (m : Major) (info : ℕ) → info < 32 → major_of (first_byte m info / 32) ≡ m
+major_back : (m : Major) (info : ℕ) → info < 32 → major_of (first_byte m info / 32) ≡ m
 major_back m info lt = ap major_of (top_of m info lt) ∙ bits_of m
 
 code_back : (q : ℕ) → q < 8 → code (major_of q) ≡ q
 code_back q lt = grind arith
 
-pub byte_back : (b : ℕ) → b < 256 → b ≡ first_byte (major_of (b / 32)) (b % 32)
+byte_back : (b : ℕ) → b < 256 → b ≡ first_byte (major_of (b / 32)) (b % 32)
 byte_back b lt =
     let e : code (major_of (b / 32)) ≡ b / 32 = code_back (b / 32) (omega (arith, lt)) in
     rw e (omega arith)
 
+-- what a first byte can say: the number, that there is none, or where it stands
+abbrev pub Says : Major → ℕ → Type 0
+Says m info = (info < 24) ⊎ ((info ≡ 31) ⊎ ((is_simple m ≡ false) × (24 ≤ info) × (info ≤ 27)))
+
+abbrev pub IsFirst : First → List ℕ → Type 0
+IsFirst first bs = Says first.«major» first.info × (bs ≡ first_byte first.«major» first.info ∷ [])
+
+both_refused : (c : Bool) (bs : List ℕ) (p : First × List ℕ) → cond c (refused fault.Simple bs) (refused fault.Float bs) ≡ Ok p → ⊥
+both_refused true bs p e = absurd cc
+both_refused false bs p e = absurd cc
+
+abbrev made : Major → ℕ → First
+made m info = record { «major» = m; info = info }
+
+abbrev read_as : Major → ℕ → List ℕ → Result (First × List ℕ) Refusal
+read_as m info bs = Ok (made m info, bs)
+
+took_first : (b : ℕ) (bs : List ℕ) (h : First) (rest : List ℕ) → IsBytes (b ∷ bs) → Says (major_of (b / 32)) (b % 32)
+    → read_as (major_of (b / 32)) (b % 32) bs ≡ Ok (h, rest) → Took (IsFirst h) (b ∷ bs) rest
+took_first b bs h rest fits says is =
+    subst (λ (p : First × List ℕ). Took (IsFirst p.0) (b ∷ bs) p.1) (ok_is (made (major_of (b / 32)) (b % 32), bs) (h, rest) is)
+    (record { front = b ∷ []; part = (says, ap (λ x. x ∷ []) (byte_back b (fits 0))); split = refl; fits = IsBytes-rest b bs fits })
+
+pub first_sound : Sound IsFirst first_at
+unfolding first_at
+first_sound [] h rest fits e = absurd cc
+first_sound (b ∷ bs) h rest fits e =
+    let m = major_of (b / 32) in
+    let info = b % 32 in
+    elim (chosen (ltb info 24) (Ok (made m info, bs)) (cond (eqb info 31) (Ok (made m info, bs)) (cond (ltb 27 info) (refused fault.Reserved (b ∷ bs))
+    (cond (is_simple m) (cond (eqb info 24) (refused fault.Simple (b ∷ bs)) (refused fault.Float (b ∷ bs))) (Ok (made m info, bs))))) (Ok (h, rest)) e) [
+      | inl w ↦ took_first b bs h rest fits (inl (ltb-true info 24 w.0)) w.1
+      | inr v ↦ elim (chosen (eqb info 31) (Ok (made m info, bs)) (cond (ltb 27 info) (refused fault.Reserved (b ∷ bs))
+          (cond (is_simple m) (cond (eqb info 24) (refused fault.Simple (b ∷ bs)) (refused fault.Float (b ∷ bs))) (Ok (made m info, bs)))) (Ok (h, rest)) v.1) [
+            | inl w ↦ took_first b bs h rest fits (inr (inl (eqb-true info 31 w.0))) w.1
+            | inr u ↦
+                let g = passed (ltb 27 info) (record { «fault» = fault.Reserved; left = length (b ∷ bs) })
+                (cond (is_simple m) (cond (eqb info 24) (refused fault.Simple (b ∷ bs)) (refused fault.Float (b ∷ bs))) (Ok (made m info, bs))) (h, rest) u.1 in
+                elim (chosen (is_simple m) (cond (eqb info 24) (refused fault.Simple (b ∷ bs)) (refused fault.Float (b ∷ bs))) (Ok (made m info, bs)) (Ok (h, rest)) g.1) [
+                  | inl w ↦ absurd (both_refused (eqb info 24) (b ∷ bs) (h, rest) w.1)
+                  | inr w ↦ took_first b bs h rest fits (inr (inr (w.0, ltb-false info 24 v.0, ltb-false 27 info g.0))) w.1
+                ]
+          ]
+    ]
+
+pub first_again : (m : Major) (info : ℕ) (rest : List ℕ) → Says m info → first_at (first_byte m info ∷ rest) ≡ Ok (made m info, rest)
+unfolding first_at
+first_again m info rest (inl w) = rw (low_of m info (omega (arith, w)), major_back m info (omega (arith, w)), lt-ltb info 24 w) refl
+first_again m info rest (inr (inl w)) =
+    rw w (rw (low_of m 31 (omega arith), major_back m 31 (omega arith)) refl)
+first_again m info rest (inr (inr w)) =
+    let lt : info < 32 = omega (arith, w.2) in
+    rw (low_of m info lt, major_back m info lt, le-ltb info 24 w.1, ne_eqb info 31 (λ e. omega (arith, w.2, e)), le-ltb 27 info w.2, w.0) refl
+
+pub first_complete : Complete IsFirst first_at
+first_complete h front rest is = ap (λ f. first_at (f ++ rest)) is.1 ∙ first_again h.«major» h.info rest is.0
+
+both_at_start : (c : Bool) (bs : List ℕ) (e : Refusal) → cond c (refused {A = First × List ℕ} fault.Simple bs) (refused fault.Float bs) ≡ Err e → length bs ≡ e.left
+both_at_start true bs e is = same_left {A = First × List ℕ} (record { «fault» = fault.Simple; left = length bs }) e is
+both_at_start false bs e is = same_left {A = First × List ℕ} (record { «fault» = fault.Float; left = length bs }) e is
+
+pub first_placed : (bs : List ℕ) (e : Refusal) → first_at bs ≡ Err e → length bs ≡ e.left
+unfolding first_at
+first_placed [] e is = same_left {A = First × List ℕ} (record { «fault» = fault.Ended; left = 0 }) e is
+first_placed (b ∷ bs) e is =
+    let m = major_of (b / 32) in
+    let info = b % 32 in
+    elim (chosen (ltb info 24) (Ok (made m info, bs)) (cond (eqb info 31) (Ok (made m info, bs)) (cond (ltb 27 info) (refused fault.Reserved (b ∷ bs))
+    (cond (is_simple m) (cond (eqb info 24) (refused fault.Simple (b ∷ bs)) (refused fault.Float (b ∷ bs))) (Ok (made m info, bs))))) (Err e) is) [
+      | inl w ↦ absurd cc
+      | inr v ↦ elim (chosen (eqb info 31) (Ok (made m info, bs)) (cond (ltb 27 info) (refused fault.Reserved (b ∷ bs))
+          (cond (is_simple m) (cond (eqb info 24) (refused fault.Simple (b ∷ bs)) (refused fault.Float (b ∷ bs))) (Ok (made m info, bs)))) (Err e) v.1) [
+            | inl w ↦ absurd cc
+            | inr u ↦ elim (chosen (ltb 27 info) (refused fault.Reserved (b ∷ bs))
+                (cond (is_simple m) (cond (eqb info 24) (refused fault.Simple (b ∷ bs)) (refused fault.Float (b ∷ bs))) (Ok (made m info, bs))) (Err e) u.1) [
+                  | inl w ↦ same_left {A = First × List ℕ} (record { «fault» = fault.Reserved; left = length (b ∷ bs) }) e w.1
+                  | inr t ↦ elim (chosen (is_simple m) (cond (eqb info 24) (refused fault.Simple (b ∷ bs)) (refused fault.Float (b ∷ bs))) (Ok (made m info, bs)) (Err e) t.1) [
+                    | inl w ↦ both_at_start (eqb info 24) (b ∷ bs) e w.1
+                    | inr w ↦ absurd cc
+                  ]
+                ]
+          ]
+    ]
+
 -- ---- arguments
 
-argument_sound : (info : ℕ) (bs : List ℕ) (n : ℕ) (rest : List ℕ) → IsBytes bs → 24 ≤ info → info ≤ 27 → argument_at info bs ≡ Ok (n, rest)
-    → (s : Size) × (info ≡ info_of s) × Took (Spelled s n) bs rest
-unfolding argument_at
-argument_sound info bs n rest fits low high e =
-    elim (chosen (eqb info 24) (number_at w8 bs) (cond (eqb info 25) (number_at w16 bs) (cond (eqb info 26) (number_at w32 bs) (number_at w64 bs))) (Ok (n, rest)) e) [
-      | inl w ↦ (size.one, eqb-true info 24 w.0, number_sound size.one bs n rest fits w.1)
-      | inr v ↦ elim (chosen (eqb info 25) (number_at w16 bs) (cond (eqb info 26) (number_at w32 bs) (number_at w64 bs)) (Ok (n, rest)) v.1) [
-        | inl w ↦ (size.two, eqb-true info 25 w.0, number_sound size.two bs n rest fits w.1)
-        | inr u ↦ elim (chosen (eqb info 26) (number_at w32 bs) (number_at w64 bs) (Ok (n, rest)) u.1) [
-          | inl w ↦ (size.four, eqb-true info 26 w.0, number_sound size.four bs n rest fits w.1)
-          | inr w ↦ (size.eight, omega (arith, low, high, eqb-false info 24 v.0, eqb-false info 25 u.0, eqb-false info 26 w.0), number_sound size.eight bs n rest fits w.1)
+-- a number in its first byte or behind it
+abbrev pub Argument : ℕ → ℕ → List ℕ → Type 0
+Argument info n bs = ((info < 24) × (n ≡ info) × (bs ≡ [])) ⊎ ((s : Size) × (info ≡ info_of s) × Spelled s n bs)
+
+-- the same, where it is admitted
+abbrev pub Admitted : Bounds → ℕ → ℕ → List ℕ → Type 0
+Admitted bounds info n bs = Argument info n bs × (bounds.admits 0 n ≡ true)
+
+-- a number can begin in each width
+abbrev pub Starts : Bounds → Type 0
+Starts bounds = (s : Size) → bounds.admits (byte_len (width_of s)) 0 ≡ true
+
+which_size : (info : ℕ) → 24 ≤ info → info ≤ 27 → (s : Size) × (info ≡ info_of s)
+which_size info low high =
+    elim (cases_lt info 25) [
+      | inl a ↦ (size.one, omega (arith, low, a))
+      | inr a ↦ elim (cases_lt info 26) [
+        | inl b ↦ (size.two, omega (arith, a, b))
+        | inr b ↦ elim (cases_lt info 27) [
+          | inl c ↦ (size.four, omega (arith, b, c))
+          | inr c ↦ (size.eight, omega (arith, c, high))
         ]
       ]
     ]
 
-argument_complete : (s : Size) (n : ℕ) (rest : List ℕ) → n < room s → argument_at (info_of s) (to_be_bytes (width_of s) n ++ rest) ≡ Ok (n, rest)
+pub argument_sound : (bounds : Bounds) → Starts bounds → (info : ℕ) → info ≤ 27 → Sound (Admitted bounds info) (argument_at bounds info)
 unfolding argument_at
-argument_complete size.one n rest lt = number_complete size.one n rest lt
-argument_complete size.two n rest lt = number_complete size.two n rest lt
-argument_complete size.four n rest lt = number_complete size.four n rest lt
-argument_complete size.eight n rest lt = number_complete size.eight n rest lt
+argument_sound bounds starts info high bs n rest fits is =
+    elim (chosen (ltb info 24) (cond (bounds.admits 0 info) (Ok (info, bs)) (refused_before bounds.otherwise bs)) (digits_at bounds (size_of info) 0 bs) (Ok (n, rest)) is) [
+      | inl w ↦
+          let g = failed (bounds.admits 0 info) (record { «fault» = bounds.otherwise; left = suc (length bs) }) (Ok (info, bs)) (n, rest) w.1 in
+          subst (λ (p : ℕ × List ℕ). Took (Admitted bounds info p.0) bs p.1) (ok_is (info, bs) (n, rest) g.1)
+          (record { front = []; part = (inl (ltb-true info 24 w.0, refl, refl), g.0); split = refl; fits = fits })
+      | inr w ↦
+          let s = which_size info (ltb-false info 24 w.0) high in
+          let long : size_of info ≡ byte_len (width_of s.0) = ap size_of s.1 ∙ size_is s.0 in
+          let d = digits_sound bounds (size_of info) 0 bs n rest fits w.1 in
+          record {
+            front = d.front;
+            part = (
+              inr (s.0, s.1, subst (λ k. Spelled s.0 k d.front) d.part.1 (spelled s.0 d.front (d.part.0 ∙ long) d.part.2)),
+              d.part.3 (subst (λ k. bounds.admits k 0 ≡ true) (sym long) (starts s.0)),
+            );
+            split = d.split;
+            fits = d.fits;
+          }
+    ]
+
+pub argument_admitted : (bounds : Bounds) → ((due : ℕ) → bounds.admits due 0 ≡ true) → (info : ℕ) (bs : List ℕ) (n : ℕ) (rest : List ℕ) → argument_at bounds info bs ≡ Ok (n, rest)
+    → bounds.admits 0 n ≡ true
+unfolding argument_at
+argument_admitted bounds starts info bs n rest is =
+    elim (chosen (ltb info 24) (cond (bounds.admits 0 info) (Ok (info, bs)) (refused_before bounds.otherwise bs)) (digits_at bounds (size_of info) 0 bs) (Ok (n, rest)) is) [
+      | inl w ↦
+          let g = failed (bounds.admits 0 info) (record { «fault» = bounds.otherwise; left = suc (length bs) }) (Ok (info, bs)) (n, rest) w.1 in
+          subst (λ (p : ℕ × List ℕ). bounds.admits 0 p.0 ≡ true) (ok_is (info, bs) (n, rest) g.1) g.0
+      | inr w ↦ digits_admitted bounds (size_of info) 0 bs n rest (starts (size_of info)) w.1
+    ]
+
+long_info : (s : Size) → ltb (info_of s) 24 ≡ false
+long_info size.one = refl
+long_info size.two = refl
+long_info size.four = refl
+long_info size.eight = refl
+
+pub argument_complete : (bounds : Bounds) → Fair IsByte bounds → (info : ℕ) → Complete (Admitted bounds info) (argument_at bounds info)
+unfolding argument_at
+argument_complete bounds fair info n front rest (inl w, admitted) =
+    rw (lt-ltb info 24 w.0, ← w.1, admitted, w.2) refl
+argument_complete bounds fair info n front rest (inr w, admitted) =
+    let s = w.0 in
+    let ds = to_be_bytes (width_of s) n in
+    let back = spelled_back s n w.2.0 in
+    let read : digits_at bounds (length ds) 0 (ds ++ rest) ≡ Ok (number_from_digits_after 256 0 ds, rest) =
+    digits_complete IsByte bounds fair 0 ds rest ((wide s).small n) (ap (bounds.admits 0) back ∙ admitted) in
+    let long : size_of info ≡ length ds = ap size_of w.1 ∙ size_is s ∙ sym ((wide s).len n) in
+    rw (ap (λ k. ltb k 24) w.1 ∙ long_info s, long, w.2.1) (read ∙ ap (λ k. Ok (k, rest)) back)
+
+pub argument_placed : (bounds : Bounds) → Fair IsByte bounds → Starts bounds → (info : ℕ) → info ≤ 27 → (bs : List ℕ) (e : Refusal) → IsBytes bs → argument_at bounds info bs ≡ Err e
+    → (suc (length bs) ≡ e.left) ⊎ ((24 ≤ info) × Before (Opens (Admitted bounds info)) bs e.left)
+unfolding argument_at
+argument_placed bounds fair starts info high bs e fits is =
+    elim (chosen (ltb info 24) (cond (bounds.admits 0 info) (Ok (info, bs)) (refused_before bounds.otherwise bs)) (digits_at bounds (size_of info) 0 bs) (Err e) is) [
+      | inl w ↦ elim (chosen (bounds.admits 0 info) (Ok (info, bs)) (refused_before bounds.otherwise bs) (Err e) w.1) [
+        | inl v ↦ absurd cc
+        | inr v ↦ inl (same_left {A = ℕ × List ℕ} (record { «fault» = bounds.otherwise; left = suc (length bs) }) e v.1)
+      ]
+      | inr w ↦
+          let s = which_size info (ltb-false info 24 w.0) high in
+          let long : size_of info ≡ byte_len (width_of s.0) = ap size_of s.1 ∙ size_is s.0 in
+          let d = digits_placed IsByte bounds fair (size_of info) 0 bs e fits (subst (λ k. bounds.admits k 0 ≡ true) (sym long) (starts s.0)) w.1 in
+          inr (
+            ltb-false info 24 w.0,
+            record {
+              front = d.0;
+              opens = (number_from_digits_after 256 0 (d.0 ++ d.1), d.1, (inr (s.0, s.1, spelled s.0 (d.0 ++ d.1) (d.5 ∙ long) d.6), d.7));
+              behind = d.2;
+              split = d.3;
+              last = d.4;
+            },
+          )
+    ]
 
 -- ---- heads
 
@@ -146,98 +340,237 @@ abbrev pub HeadOf : Major → Option ℕ → List ℕ → Type 0
 HeadOf m None bs = bs ≡ first_byte m 31 ∷ []
 HeadOf m (Some n) bs = ((n < 24) × (bs ≡ first_byte m n ∷ [])) ⊎ IsLong m n bs
 
-abbrev pub HeadIs : Head → List ℕ → Type 0
-HeadIs h bs = HeadOf h.«major» h.number bs
+-- the same, with a number that is admitted
+abbrev pub HeadIn : Bounds → Major → Option ℕ → List ℕ → Type 0
+HeadIn bounds m None bs = HeadOf m None bs
+HeadIn bounds m (Some n) bs = HeadOf m (Some n) bs × (bounds.admits 0 n ≡ true)
 
-both_refused : (c : Bool) (bs : List ℕ) (p : Head × List ℕ) → cond c (refused fault.Simple bs) (refused fault.Float bs) ≡ Ok p → ⊥
-both_refused true bs p e = absurd cc
-both_refused false bs p e = absurd cc
+abbrev pub HeadIs : Bounds → Head → List ℕ → Type 0
+HeadIs bounds h bs = HeadIn bounds h.«major» h.number bs
 
-abbrev made : Major → Option ℕ → Head
-made m o = record { «major» = m; number = o }
+pub head_is : (bounds : Bounds) (m : Major) (o : Option ℕ) (bs : List ℕ) → HeadIn bounds m o bs → HeadOf m o bs
+head_is bounds m None bs is = is
+head_is bounds m (Some n) bs is = is.0
 
-pub head_sound : Sound HeadIs head_at
-unfolding head_at
-head_sound [] h rest fits e = absurd cc
-head_sound (b ∷ bs) h rest fits e =
-    let m = major_of (b / 32) in
-    let info = b % 32 in
-    let byte : b ≡ first_byte m info = byte_back b (fits 0) in
-    let long : Result (Head × List ℕ) Refusal = argument_at info bs >>= λ n. Ok (made m (Some n.0), n.1) in
-    let plain : Result (Head × List ℕ) Refusal = cond (is_simple m) (cond (eqb info 24) (refused fault.Simple (b ∷ bs)) (refused fault.Float (b ∷ bs))) long in
-    let behind = IsBytes-rest b bs fits in
-    elim (chosen (ltb info 24) (Ok (made m (Some info), bs))
-    (cond (eqb info 31) (Ok (made m None, bs)) (cond (ltb 27 info) (refused fault.Reserved (b ∷ bs)) plain)) (Ok (h, rest)) e) [
-      | inl w ↦ subst (λ (p : Head × List ℕ). Took (HeadIs p.0) (b ∷ bs) p.1) (ok_is (made m (Some info), bs) (h, rest) w.1)
-          (record { front = b ∷ []; part = inl (ltb-true info 24 w.0, ap (λ x. x ∷ []) byte); split = refl; fits = behind })
-      | inr v ↦ elim (chosen (eqb info 31) (Ok (made m None, bs)) (cond (ltb 27 info) (refused fault.Reserved (b ∷ bs)) plain) (Ok (h, rest)) v.1) [
-        | inl w ↦ subst (λ (p : Head × List ℕ). Took (HeadIs p.0) (b ∷ bs) p.1) (ok_is (made m None, bs) (h, rest) w.1)
-            (record { front = b ∷ []; part = ap (λ x. x ∷ []) (byte ∙ ap (first_byte m) (eqb-true info 31 w.0)); split = refl; fits = behind })
-        | inr u ↦
-            let g = passed (ltb 27 info) (record { «fault» = fault.Reserved; left = length (b ∷ bs) }) plain (h, rest) u.1 in
-            elim (chosen (is_simple m) (cond (eqb info 24) (refused fault.Simple (b ∷ bs)) (refused fault.Float (b ∷ bs))) long (Ok (h, rest)) g.1) [
-              | inl w ↦ absurd (both_refused (eqb info 24) (b ∷ bs) (h, rest) w.1)
-              | inr w ↦
-                  let a = bind_ok (argument_at info bs) (λ n. Ok (made m (Some n.0), n.1)) (h, rest) w.1 in
-                  let s = argument_sound info bs a.0.0 a.0.1 behind (ltb-false info 24 v.0) (ltb-false 27 info g.0) a.1 in
-                  subst (λ (p : Head × List ℕ). Took (HeadIs p.0) (b ∷ bs) p.1) (ok_is (made m (Some a.0.0), a.0.1) (h, rest) a.2)
-                  (record {
-                    front = b ∷ s.2.front;
-                    part = inr (w.0, s.0, s.2.part.0, ap (λ x. x ∷ s.2.front) (byte ∙ ap (first_byte m) s.1) ∙ ap (λ x. first_byte m (info_of s.0) ∷ x) s.2.part.1);
-                    split = ap (λ x. b ∷ x) s.2.split;
-                    fits = s.2.fits;
-                  })
-            ]
-      ]
+abbrev headed : Major → Option ℕ → Head
+headed m o = record { «major» = m; number = o }
+
+-- a first byte with the number behind it
+pub long_is : (s : Size) → 24 ≤ info_of s
+long_is size.one = omega arith
+long_is size.two = omega arith
+long_is size.four = omega arith
+long_is size.eight = omega arith
+
+pub first_and : (m : Major) (info n : ℕ) (bs : List ℕ) → Says m info → (info ≡ 31 → ⊥) → Argument info n bs → HeadOf m (Some n) (first_byte m info ∷ bs)
+first_and m info n bs says open_ (inl w) = inl (omega (arith, w.0, w.1), rw (w.1, w.2) refl)
+first_and m info n bs (inl low) open_ (inr w) = absurd (omega (arith, low, w.1, long_is w.0))
+first_and m info n bs (inr (inl is)) open_ (inr w) = absurd (open_ is)
+first_and m info n bs (inr (inr says)) open_ (inr w) = inr (says.0, w.0, w.2.0, rw (w.1, w.2.1) refl)
+
+pub below_28 : (m : Major) (info : ℕ) → Says m info → (info ≡ 31 → ⊥) → info ≤ 27
+below_28 m info (inl low) open_ = omega (arith, low)
+below_28 m info (inr (inl is)) open_ = absurd (open_ is)
+below_28 m info (inr (inr says)) open_ = says.2
+
+pub behind_sound : (bounds : Bounds) → Starts bounds → (first : First) → Says first.«major» first.info
+    → Sound (λ h bs. HeadIn bounds h.«major» h.number (first_byte first.«major» first.info ∷ bs) × (h.«major» ≡ first.«major»)) (head_behind bounds first)
+behind_sound bounds starts first says bs h rest fits is =
+    let m = first.«major» in
+    let info = first.info in
+    elim (chosen (eqb info 31) (Ok (headed m None, bs)) (argument_at bounds info bs >>= λ n. Ok (headed m (Some n.0), n.1)) (Ok (h, rest)) is) [
+      | inl w ↦ subst (λ (p : Head × List ℕ). Took (λ b. HeadIn bounds p.0.«major» p.0.number (first_byte m info ∷ b) × (p.0.«major» ≡ m)) bs p.1) (ok_is (headed m None, bs) (h, rest) w.1)
+          (record { front = []; part = (ap (λ k. first_byte m k ∷ []) (eqb-true info 31 w.0), refl); split = refl; fits = fits })
+      | inr w ↦
+          let open_ = eqb-false info 31 w.0 in
+          let a = bind_ok (argument_at bounds info bs) (λ n. Ok (headed m (Some n.0), n.1)) (h, rest) w.1 in
+          let t = argument_sound bounds starts info (below_28 m info says open_) bs a.0.0 a.0.1 fits a.1 in
+          subst (λ (p : Head × List ℕ). Took (λ b. HeadIn bounds p.0.«major» p.0.number (first_byte m info ∷ b) × (p.0.«major» ≡ m)) bs p.1) (ok_is (headed m (Some a.0.0), a.0.1) (h, rest) a.2)
+          (record { front = t.front; part = ((first_and m info a.0.0 t.front says open_ t.part.0, t.part.1), refl); split = t.split; fits = t.fits })
     ]
 
-head_short : (m : Major) (n : ℕ) (rest : List ℕ) → n < 24 → head_at (first_byte m n ∷ rest) ≡ Ok (record { «major» = m; number = Some n }, rest)
+-- the bytes of a head, apart
+pub record Apart (bounds : Bounds) (m : Major) (o : Option ℕ) (front : List ℕ) : Type 0 where
+  pub info : ℕ
+  pub says : Says m info
+  pub back : List ℕ
+  pub split : front ≡ first_byte m info ∷ back
+  pub read : (rest : List ℕ) → head_behind bounds (made m info) (back ++ rest) ≡ Ok (headed m o, rest)
+
+pub low_info : (s : Size) → (info_of s ≡ 31 → ⊥)
+low_info size.one is = omega (arith, is)
+low_info size.two is = omega (arith, is)
+low_info size.four is = omega (arith, is)
+low_info size.eight is = omega (arith, is)
+
+pub high_info : (s : Size) → info_of s ≤ 27
+high_info size.one = omega arith
+high_info size.two = omega arith
+high_info size.four = omega arith
+high_info size.eight = omega arith
+
+numbered_again : (bounds : Bounds) (m : Major) (info n : ℕ) (back rest : List ℕ) → (info ≡ 31 → ⊥) → argument_at bounds info (back ++ rest) ≡ Ok (n, rest)
+    → head_behind bounds (made m info) (back ++ rest) ≡ Ok (headed m (Some n), rest)
+numbered_again bounds m info n back rest other is = rw (ne_eqb info 31 other, is) refl
+
+pub head_apart : (bounds : Bounds) → Fair IsByte bounds → (m : Major) (o : Option ℕ) (front : List ℕ) → HeadIn bounds m o front → Apart bounds m o front
+head_apart bounds fair m None front is =
+    record { info = 31; says = inr (inl refl); back = []; split = is; read = λ rest. refl }
+head_apart bounds fair m (Some n) front (inl w, admitted) = record {
+  info = n;
+  says = inl w.0;
+  back = [];
+  split = w.1;
+  read = λ rest. numbered_again bounds m n n [] rest (λ e. omega (arith, w.0, e)) (argument_complete bounds fair n n [] rest (inl (w.0, refl, refl), admitted));
+}
+head_apart bounds fair m (Some n) front (inr w, admitted) = record {
+  info = info_of w.1;
+  says = inr (inr (w.0, long_is w.1, high_info w.1));
+  back = to_be_bytes (width_of w.1) n;
+  split = w.3;
+  read = λ rest. numbered_again bounds m (info_of w.1) n (to_be_bytes (width_of w.1) n) rest (low_info w.1)
+      (argument_complete bounds fair (info_of w.1) n (to_be_bytes (width_of w.1) n) rest (inr (w.1, refl, (w.2, refl)), admitted));
+}
+
+-- ---- bounds of heads
+
+pub bounds_fair : (limit : ℕ) (m : Major) → Fair IsByte (bounds_of limit m)
+bounds_fair limit major.Tag = between_fair 2 3 fault.Tag (omega arith)
+bounds_fair zero major.Array = between_fair 0 0 fault.TooDeep (omega arith)
+bounds_fair zero major.Map = between_fair 0 0 fault.TooDeep (omega arith)
+bounds_fair (suc limit) major.Array = unbounded_fair IsByte
+bounds_fair (suc limit) major.Map = unbounded_fair IsByte
+bounds_fair limit major.Unsigned = unbounded_fair IsByte
+bounds_fair limit major.Negative = unbounded_fair IsByte
+bounds_fair limit major.Bytes = unbounded_fair IsByte
+bounds_fair limit major.Text = unbounded_fair IsByte
+bounds_fair limit major.Simple = unbounded_fair IsByte
+
+tag_starts : Starts (between 2 3 fault.Tag)
+tag_starts size.one = refl
+tag_starts size.two = refl
+tag_starts size.four = refl
+tag_starts size.eight = refl
+
+pub up_to_starts : (most : ℕ) (f : Fault) → Starts (between 0 most f)
+up_to_starts most f s = in_range_from (leading (byte_len (width_of s)) 0) (leading (byte_len (width_of s)) most) 0 (omega (arith, leading_none (byte_len (width_of s)))) (omega arith)
+
+pub bounds_start : (limit : ℕ) (m : Major) → Starts (bounds_of limit m)
+bounds_start limit major.Tag = tag_starts
+bounds_start zero major.Array = up_to_starts 0 fault.TooDeep
+bounds_start zero major.Map = up_to_starts 0 fault.TooDeep
+bounds_start (suc limit) major.Array = λ s. refl
+bounds_start (suc limit) major.Map = λ s. refl
+bounds_start limit major.Unsigned = λ s. refl
+bounds_start limit major.Negative = λ s. refl
+bounds_start limit major.Bytes = λ s. refl
+bounds_start limit major.Text = λ s. refl
+bounds_start limit major.Simple = λ s. refl
+
+-- ---- heads of items
+
+abbrev pub ItemHead : ℕ → Head → List ℕ → Type 0
+ItemHead limit h bs = HeadIs (bounds_of limit h.«major») h bs
+
+same_bounds : (limit : ℕ) (h : Head) (m : Major) (bs : List ℕ) → h.«major» ≡ m → HeadIs (bounds_of limit m) h bs → ItemHead limit h bs
+same_bounds limit h m bs is head = subst (λ k. HeadIs (bounds_of limit k) h bs) (sym is) head
+
+pub head_sound : (limit : ℕ) → Sound (ItemHead limit) (head_at limit)
 unfolding head_at
-head_short m n rest lt = rw (low_of m n (omega (arith, lt)), major_back m n (omega (arith, lt)), lt-ltb n 24 lt) refl
+head_sound limit bs h rest fits is =
+    let a = bind_ok (first_at bs) (λ f. head_behind (bounds_of limit f.0.«major») f.0 f.1) (h, rest) is in
+    let f = first_sound bs a.0.0 a.0.1 fits a.1 in
+    let m = a.0.0.«major» in
+    let b = behind_sound (bounds_of limit m) (bounds_start limit m) a.0.0 f.part.0 a.0.1 h rest f.fits a.2 in
+    record {
+      front = first_byte m a.0.0.info ∷ b.front;
+      part = same_bounds limit h m (first_byte m a.0.0.info ∷ b.front) b.part.1 b.part.0;
+      split = regrouped bs f.front a.0.1 b.front rest f.split b.split ∙ ap (λ t. (t ++ b.front) ++ rest) f.part.1;
+      fits = b.fits;
+    }
 
-head_open : (m : Major) (rest : List ℕ) → head_at (first_byte m 31 ∷ rest) ≡ Ok (record { «major» = m; number = None }, rest)
+pub head_complete : (limit : ℕ) → Complete (ItemHead limit) (head_at limit)
 unfolding head_at
-head_open m rest = rw (low_of m 31 (omega arith), major_back m 31 (omega arith)) refl
+head_complete limit h front rest is =
+    let bounds = bounds_of limit h.«major» in
+    let a = head_apart bounds (bounds_fair limit h.«major») h.«major» h.number front is in
+    ap (λ t. head_at limit (t ++ rest)) a.split
+    ∙ rw (first_again h.«major» a.info (a.back ++ rest) a.says) (a.read rest)
 
--- what the first byte says of a size
-pub record IsInfo (info : ℕ) : Type 0 where
-  pub small : ltb info 24 ≡ false
-  pub endless : eqb info 31 ≡ false
-  pub known : ltb 27 info ≡ false
-  pub below : info < 32
-  pub low : info < 28
+-- where nothing is refused before its first byte
+not_so_simple : (m : Major) (info : ℕ) → Says m info → (info ≡ 31 → ⊥) → 24 ≤ info → is_simple m ≡ false
+not_so_simple m info (inl low) open_ long = absurd (omega (arith, low, long))
+not_so_simple m info (inr (inl is)) open_ long = absurd (open_ is)
+not_so_simple m info (inr (inr says)) open_ long = says.0
 
-pub infos : (s : Size) → IsInfo (info_of s)
-infos size.one = record { small = refl; endless = refl; known = refl; below = omega arith; low = omega arith }
-infos size.two = record { small = refl; endless = refl; known = refl; below = omega arith; low = omega arith }
-infos size.four = record { small = refl; endless = refl; known = refl; below = omega arith; low = omega arith }
-infos size.eight = record { small = refl; endless = refl; known = refl; below = omega arith; low = omega arith }
+pub head_behind_placed : (bounds : Bounds) → Fair IsByte bounds → Starts bounds → (first : First) → Says first.«major» first.info → (bs : List ℕ) (e : Refusal) → IsBytes bs
+    → head_behind bounds first bs ≡ Err e
+    → (suc (length bs) ≡ e.left) ⊎ ((is_simple first.«major» ≡ false) × Before (Opens (λ n back. HeadIn bounds first.«major» (Some n) (first_byte first.«major» first.info ∷ back))) bs e.left)
+head_behind_placed bounds fair starts first says bs e fits is =
+    let m = first.«major» in
+    let info = first.info in
+    elim (chosen (eqb info 31) (Ok (headed m None, bs)) (argument_at bounds info bs >>= λ n. Ok (headed m (Some n.0), n.1)) (Err e) is) [
+      | inl w ↦ absurd cc
+      | inr w ↦
+          let open_ = eqb-false info 31 w.0 in
+          elim (bind_err (argument_at bounds info bs) (λ n. Ok (headed m (Some n.0), n.1)) e w.1) [
+            | inl v ↦ elim (argument_placed bounds fair starts info (below_28 m info says open_) bs e fits v) [
+              | inl at ↦ inl at
+              | inr (long, b) ↦ inr (
+                not_so_simple m info says open_ long,
+                instead (Opens (Admitted bounds info)) (Opens (λ n back. HeadIn bounds m (Some n) (first_byte m info ∷ back))) bs e.left
+                    (λ front o. (o.0, o.1, (first_and m info o.0 (front ++ o.1) says open_ o.2.0, o.2.1))) b,
+              )
+            ]
+            | inr v ↦ absurd cc
+          ]
+    ]
 
-head_long : (m : Major) (s : Size) (n : ℕ) (rest : List ℕ) → is_simple m ≡ false → n < room s
-    → head_at (first_byte m (info_of s) ∷ (to_be_bytes (width_of s) n ++ rest)) ≡ Ok (record { «major» = m; number = Some n }, rest)
+-- heads with a number
+abbrev pub NumberedHead : ℕ → (Major × ℕ) → List ℕ → Type 0
+NumberedHead limit p bs = (is_simple p.0 ≡ false) × HeadIn (bounds_of limit p.0) p.0 (Some p.1) bs
+
+-- refused at its first byte, or behind what begins a head with a number
+pub head_placed : (limit : ℕ) (bs : List ℕ) (e : Refusal) → IsBytes bs → head_at limit bs ≡ Err e
+    → (length bs ≡ e.left) ⊎ Before (Opens (NumberedHead limit)) bs e.left
 unfolding head_at
-head_long m s n rest simple lt =
-    let i = infos s in
-    rw (low_of m (info_of s) i.below, major_back m (info_of s) i.below, i.small, i.endless, i.known, simple, argument_complete s n rest lt) refl
-
-head_of : (m : Major) (number : Option ℕ) (front rest : List ℕ) → HeadOf m number front → head_at (front ++ rest) ≡ Ok (record { «major» = m; number = number }, rest)
-head_of m None front rest is = ap (λ t. head_at (t ++ rest)) is ∙ head_open m rest
-head_of m (Some n) front rest (inl w) = ap (λ t. head_at (t ++ rest)) w.1 ∙ head_short m n rest w.0
-head_of m (Some n) front rest (inr w) = ap (λ t. head_at (t ++ rest)) w.3 ∙ head_long m w.1 n rest w.0 w.2
-
--- a head with a number
-pub head_again : (m : Major) (n : ℕ) (front rest : List ℕ) → is_simple m ≡ false → IsHead m n front → head_at (front ++ rest) ≡ Ok (record { «major» = m; number = Some n }, rest)
-head_again m n front rest simple (inl w) = head_of m (Some n) front rest (inl w)
-head_again m n front rest simple (inr w) = head_of m (Some n) front rest (inr (simple, w.0, w.1, w.2))
-
--- a head without one
-pub opening_again : (m : Major) (rest : List ℕ) → head_at (first_byte m 31 ∷ rest) ≡ Ok (record { «major» = m; number = None }, rest)
-opening_again m rest = head_open m rest
-
-pub simple_again : (n : ℕ) (rest : List ℕ) → n < 24 → head_at (first_byte major.Simple n ∷ rest) ≡ Ok (record { «major» = major.Simple; number = Some n }, rest)
-simple_again n rest lt = head_short major.Simple n rest lt
+head_placed limit bs e fits is =
+    elim (bind_err (first_at bs) (λ f. head_behind (bounds_of limit f.0.«major») f.0 f.1) e is) [
+      | inl w ↦ inl (first_placed bs e w)
+      | inr a ↦
+          let f = first_sound bs a.0.0 a.0.1 fits a.1 in
+          let m = a.0.0.«major» in
+          let byte = first_byte m a.0.0.info in
+          let split : bs ≡ (byte ∷ []) ++ a.0.1 = f.split ∙ ap (λ t. t ++ a.0.1) f.part.1 in
+          elim (head_behind_placed (bounds_of limit m) (bounds_fair limit m) (bounds_start limit m) a.0.0 f.part.0 a.0.1 e f.fits a.2) [
+            | inl at ↦ inl (omega (arith, ap length split, at))
+            | inr (simple, b) ↦ inr (behind_a (Opens (λ n back. HeadIn (bounds_of limit m) m (Some n) (byte ∷ back))) (Opens (NumberedHead limit)) (byte ∷ []) a.0.1 bs e.left split
+                (λ front o. ((m, o.0), o.1, (simple, o.2))) b)
+          ]
+    ]
 
 -- what is read as a head with a number is one
 pub numbered : (m : Major) (n : ℕ) (front : List ℕ) → HeadOf m (Some n) front → IsHead m n front
 numbered m n front (inl w) = inl w
 numbered m n front (inr w) = inr (w.1, w.2, w.3)
+
+pub of_head : (m : Major) → is_simple m ≡ false → (n : ℕ) (front : List ℕ) → IsHead m n front → HeadOf m (Some n) front
+of_head m simple n front (inl w) = inl w
+of_head m simple n front (inr w) = inr (simple, w.0, w.1, w.2)
+
+-- ---- as functions read them
+
+pub byte_is : (bs : List ℕ) → 1 ≤ length bs → digits_at unbounded 1 0 bs ≡ Ok (get_or bs 0 0, take (length bs - 1) (drop 1 bs))
+unfolding digits_at
+byte_is [] long = absurd (omega (arith, long))
+byte_is (b ∷ bs) long =
+    let same : 0 * 256 + b ≡ b = omega arith in
+    rw (take_all (suc (length bs) - 1) bs (omega arith)) (ap (λ n. Ok (n, bs)) same)
+
+pub wide_is : (s : Size) (bs : List ℕ) (n : ℕ) (rest : List ℕ) → byte_len (width_of s) ≤ length bs
+    → n ≡ from_be_bytes (width_of s) (take (byte_len (width_of s)) bs) → rest ≡ drop (byte_len (width_of s)) bs
+    → digits_at unbounded (byte_len (width_of s)) 0 bs ≡ Ok (n, rest)
+wide_is s bs n rest long number behind =
+    let k = byte_len (width_of s) in
+    reads_unbounded k 0 bs long
+    ∙ rw (same_number s (take k bs) (omega (arith, length-take k bs, long)), ← number, ← behind) refl

@@ -1,13 +1,13 @@
 -- Loops that gather parts.
-use Rattle.std.proofs.Common.{◌≡◌, ℕ, suc, ◌+◌, ◌-◌, ◌<◌, ◌≤◌, Bool, true, false, List, [], ◌∷◌, ◌++◌, map, length, drop, Some, None, Result, Ok, Err, refl, sym, ap, ◌∙◌, append_assoc, arith}
+use Rattle.std.proofs.Common.{◌≡◌, ℕ, suc, ◌+◌, ◌-◌, ◌<◌, ◌≤◌, Bool, true, false, List, [], ◌∷◌, ◌++◌, map, length, drop, Result, Ok, Err, refl, sym, ap, ◌∙◌, append_assoc, arith}
 use Rattle.std.proofs.lemmas.List.{map_push}
 use Rattle.std.specs.List.{concat}
-use Rattle.std.specs.Int.Digits.{number_from_digits_after}
 use Rattle.content_cbor.specs.declared.decode_error.Fault.TheVariants as fault
 use Rattle.content_cbor.specs.declared.stop.Refusal.{Refusal}
 use Rattle.content_cbor.specs.declared.stop.Stop.{Stop}
 use Rattle.content_cbor.specs.declared.stop.Stop.TheVariants as stop
-use Rattle.content_cbor.specs.Inner.Reading.{◌>>=◌, Reader, Fails, refused, at_break, each_at, until_at, chunk_at, chunks_at, digits_until, magnitude}
+use Rattle.content_cbor.specs.Inner.Steps.{◌>>=◌, Reader, Fails, refused}
+use Rattle.content_cbor.specs.Inner.Reading.{at_break, each_at, until_at, chunk_at, chunks_at}
 
 -- what is made of the parts that are read
 abbrev pub gathered : {A B : Type 0} → (List A → B) → Result (List A × List ℕ) Refusal → Result (B × List ℕ) Refusal
@@ -101,46 +101,6 @@ each_begins read count bs = gathered_all (each_at read (count - 0) bs) ∙ ap (�
 
 pub until_begins : {A : Type 0} (read : Reader A) (count : ℕ) (bs : List ℕ) → gathered (λ xs. xs) (until_at read (count - 0) bs) ≡ until_at read count bs
 until_begins read count bs = gathered_all (until_at read (count - 0) bs) ∙ ap (λ k. until_at read k bs) (minus_none count)
-
--- ---- digits in chunks
-
-pub digits_go_on : (negative : Bool) (from : List ℕ) (count i n : ℕ) (bs x after : List ℕ) (m : ℕ) (total : Result (ℕ × List ℕ) Refusal)
-    → i < count → at_break bs ≡ false → chunk_at false bs ≡ Ok (x, after) → Some m ≡ magnitude negative (number_from_digits_after 256 n x)
-    → digits_until negative from n (count - i) bs ≡ total → digits_until negative from m (count - (i + 1)) after ≡ total
-unfolding digits_until
-digits_go_on negative from count i n bs x after m total lt going is room so_far =
-    let one : digits_until negative from n (count - i) bs ≡ digits_until negative from m (count - (i + 1)) after = rw (left_over count i lt, going, is, ← room) refl in
-    sym one ∙ so_far
-
-pub digits_too_wide : (negative : Bool) (from : List ℕ) (count i n : ℕ) (bs x after : List ℕ) (total : Result (ℕ × List ℕ) Refusal)
-    → i < count → at_break bs ≡ false → chunk_at false bs ≡ Ok (x, after) → None ≡ magnitude negative (number_from_digits_after 256 n x)
-    → digits_until negative from n (count - i) bs ≡ total → total ≡ refused fault.TooWide from
-unfolding digits_until
-digits_too_wide negative from count i n bs x after total lt going is none so_far =
-    let one : digits_until negative from n (count - i) bs ≡ refused fault.TooWide from = rw (left_over count i lt, going, is, ← none) refl in
-    sym so_far ∙ one
-
-pub digits_fail : (negative : Bool) (from : List ℕ) (e : Stop) (count i n : ℕ) (bs : List ℕ) (total : Result (ℕ × List ℕ) Refusal)
-    → i < count → at_break bs ≡ false → Fails e (chunk_at false bs) → digits_until negative from n (count - i) bs ≡ total → Fails e total
-unfolding digits_until
-digits_fail negative from stop.OutOfMemory count i n bs total lt going is so_far = tt
-digits_fail negative from (stop.Refused r) count i n bs total lt going is so_far =
-    let one : digits_until negative from n (count - i) bs ≡ Err r = rw (left_over count i lt, going, is) refl in
-    sym so_far ∙ one
-
-pub digits_break : (negative : Bool) (from : List ℕ) (count i n : ℕ) (bs : List ℕ) (total : Result (ℕ × List ℕ) Refusal)
-    → i < count → at_break bs ≡ true → digits_until negative from n (count - i) bs ≡ total → total ≡ Ok (n, drop 1 bs)
-unfolding digits_until
-digits_break negative from count i n bs total lt broken so_far =
-    let one : digits_until negative from n (count - i) bs ≡ Ok (n, drop 1 bs) = rw (left_over count i lt, broken) refl in
-    sym so_far ∙ one
-
-pub digits_ended : (negative : Bool) (from : List ℕ) (count i n : ℕ) (bs : List ℕ) (total : Result (ℕ × List ℕ) Refusal)
-    → count ≤ i → digits_until negative from n (count - i) bs ≡ total → total ≡ refused fault.Ended []
-unfolding digits_until
-digits_ended negative from count i n bs total le so_far =
-    let one : digits_until negative from n (count - i) bs ≡ refused fault.Ended [] = rw (nothing_left count i le) refl in
-    sym so_far ∙ one
 
 -- one more value that is seen so
 pub one_more : {V A : Type 0} (view : V → A) (vs : List V) (v : V) (xs : List A) → map view vs ++ (view v ∷ xs) ≡ map view (vs ++ (v ∷ [])) ++ xs

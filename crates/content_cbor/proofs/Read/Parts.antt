@@ -1,10 +1,15 @@
 -- Parts one after another, so many or up to a break.
-use Rattle.std.proofs.Common.{◌≡◌, ℕ, suc, zero, ◌<◌, true, false, List, [], ◌∷◌, ◌++◌, length, drop, Ok, refl, sym, ap, subst, ◌∙◌, append_assoc, arith, length-append, inl, inr}
+use Rattle.std.proofs.Common.{◌≡◌, ℕ, suc, zero, ◌<◌, ◌≤◌, true, false, List, [], ◌∷◌, ◌++◌, length, drop, Ok, Err, refl, sym, ap, subst, ◌∙◌, append_assoc, append-nil, arith, length-append, inl, inr}
 use Rattle.std.proofs.lemmas.Bool.{eqb-true}
 use Rattle.content_cbor.specs.Codes.{Each}
-use Rattle.content_cbor.specs.Inner.Reading.{◌>>=◌, Reader, at_break, each_at, until_at}
-use Rattle.content_cbor.proofs.Read.Steps.{ok_is, bind_ok, chosen}
+use Rattle.content_cbor.specs.declared.decode_error.Fault.TheVariants as fault
+use Rattle.content_cbor.specs.declared.stop.Refusal.{Refusal}
+use Rattle.content_cbor.specs.Inner.Steps.{◌>>=◌, Reader}
+use Rattle.content_cbor.specs.Inner.Reading.{at_break, each_at, until_at}
+use Rattle.content_cbor.proofs.Read.Steps.{ok_is, bind_err, bind_ok, chosen, same_left}
 use Rattle.content_cbor.proofs.Read.Took.{IsBytes, IsBytes-rest, Took, Sound, Complete, regrouped}
+use Rattle.content_cbor.proofs.Read.Begun.{Before, Opens, Placed, PlacedBehind, at_start, behind_a, instead, opens_behind}
+use Rattle.content_cbor.proofs.Read.Shrinks.{Advances, shorter}
 
 -- parts up to a break
 abbrev pub Ends : {A : Type 0} → (A → List ℕ → Type 0) → List A → List ℕ → Type 0
@@ -94,3 +99,63 @@ until_complete Part read complete begins (x ∷ xs) body rest (suc k) is enough 
     let shorter : length back < k = omega (arith, enough, starts.0, length-append front back, ap length is.4) in
     ap (until_at read (suc k)) split
     ∙ rw (starts.1, complete x front more is.2, until_complete Part read complete begins xs back rest k is.3 shorter) refl
+
+-- ---- where they are refused
+
+-- so many of them
+abbrev pub Full : {A : Type 0} → (A → List ℕ → Type 0) → ℕ → List A → List ℕ → Type 0
+Full Part k xs body = (length xs ≡ k) × Each Part xs body
+
+pub copies : {A : Type 0} (Part : A → List ℕ → Type 0) (x : A) (b : List ℕ) → Part x b → (k : ℕ) → Opens (Full Part k) []
+copies Part x b is zero = ([], [], (refl, refl))
+copies Part x b is (suc k) = let c = copies Part x b is k in (x ∷ c.0, b ++ c.1, (ap suc c.2.0, (b, c.1, is, c.2.1, refl)))
+
+pub each_placed : {A : Type 0} (Part : A → List ℕ → Type 0) (read : Reader A) → Sound Part read → Placed Part read → (x : A) (b : List ℕ) → Part x b
+    → (k : ℕ) → PlacedBehind (Full Part k) (each_at read k)
+unfolding each_at
+each_placed Part read sound placed y c some zero bs e fits is = absurd cc
+each_placed Part read sound placed y c some (suc k) bs e fits is =
+    elim (bind_err (read bs) (λ x. each_at read k x.1 >>= λ xs. Ok (x.0 ∷ xs.0, xs.1)) e is) [
+      | inl w ↦ elim (placed bs e fits w) [
+        | inl at ↦ at_start (Opens (Full Part (suc k))) bs e.left (copies Part y c some (suc k)) at
+        | inr b ↦ instead (Opens Part) (Opens (Full Part (suc k))) bs e.left (λ front o.
+            let others = copies Part o.0 (front ++ o.1) o.2 k in
+            (o.0 ∷ others.0, o.1 ++ others.1, (ap suc others.2.0, (front ++ o.1, others.1, o.2, others.2.1, sym (append_assoc front o.1 others.1))))) b
+      ]
+      | inr a ↦ elim (bind_err (each_at read k a.0.1) (λ xs. Ok (a.0.0 ∷ xs.0, xs.1)) e a.2) [
+        | inl w ↦
+            let first = sound bs a.0.0 a.0.1 fits a.1 in
+            behind_a (Opens (Full Part k)) (Opens (Full Part (suc k))) first.front a.0.1 bs e.left first.split (λ front o.
+            opens_behind (Full Part (suc k)) first.front front o.1 (a.0.0 ∷ o.0) (ap suc o.2.0, (first.front, front ++ o.1, first.part, o.2.1, refl)))
+            (each_placed Part read sound placed y c some k a.0.1 e first.fits w)
+        | inr v ↦ absurd cc
+      ]
+    ]
+
+pub until_placed : {A : Type 0} (Part : A → List ℕ → Type 0) (read : Reader A) → Sound Part read → Placed Part read → Advances read
+    → (k : ℕ) (bs : List ℕ) (e : Refusal) → length bs ≤ k → IsBytes bs → until_at read k bs ≡ Err e → Before (Opens (Ends Part)) bs e.left
+unfolding until_at
+until_placed {A} Part read sound placed advances zero bs e room fits is =
+    let ended = same_left {A = List A × List ℕ} (record { «fault» = fault.Ended; left = 0 }) e is in
+    at_start (Opens (Ends Part)) bs e.left ([], 255 ∷ [], ([], refl, refl)) (omega (arith, room, ended))
+until_placed {A} Part read sound placed advances (suc k) bs e room fits is =
+    elim (chosen (at_break bs) (Ok ([], drop 1 bs)) (read bs >>= λ x. until_at read k x.1 >>= λ xs. Ok (x.0 ∷ xs.0, xs.1)) (Err e) is) [
+      | inl w ↦ absurd cc
+      | inr v ↦ elim (bind_err (read bs) (λ x. until_at read k x.1 >>= λ xs. Ok (x.0 ∷ xs.0, xs.1)) e v.1) [
+        | inl w ↦ elim (placed bs e fits w) [
+          | inl at ↦ at_start (Opens (Ends Part)) bs e.left ([], 255 ∷ [], ([], refl, refl)) at
+          | inr b ↦ instead (Opens Part) (Opens (Ends Part)) bs e.left (λ front o.
+              (o.0 ∷ [], o.1 ++ (255 ∷ []), (front ++ o.1, (front ++ o.1, [], o.2, refl, sym (append-nil (front ++ o.1))), sym (append_assoc front o.1 (255 ∷ []))))) b
+        ]
+        | inr a ↦ elim (bind_err (until_at read k a.0.1) (λ xs. Ok (a.0.0 ∷ xs.0, xs.1)) e a.2) [
+          | inl w ↦
+              let first = sound bs a.0.0 a.0.1 fits a.1 in
+              let less = shorter (length bs) (read bs) a.0 a.1 (advances bs) in
+              behind_a (Opens (Ends Part)) (Opens (Ends Part)) first.front a.0.1 bs e.left first.split (λ front o.
+              opens_behind (Ends Part) first.front front o.1 (a.0.0 ∷ o.0)
+              (first.front ++ o.2.0, (first.front, o.2.0, first.part, o.2.1, refl), ap (λ t. first.front ++ t) o.2.2 ∙ sym (append_assoc first.front o.2.0 (255 ∷ []))))
+              (until_placed Part read sound placed advances k a.0.1 e (omega (arith, room, less)) first.fits w)
+          | inr u ↦ absurd cc
+        ]
+      ]
+    ]

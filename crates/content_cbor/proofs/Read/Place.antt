@@ -1,66 +1,142 @@
 -- The place of a refusal.
-use Rattle.std.proofs.Common.{◌≡◌, ℕ, ◌-◌, ◌<◌, List, [], ◌++◌, length, take, Result, Ok, Err, refl, sym, ap, subst, ◌∙◌, append-nil, arith, length-append, inl, inr}
-use Rattle.std.proofs.lemmas.List.{take_at}
+use Rattle.std.proofs.Common.{◌≡◌, ℕ, suc, ◌-◌, ◌<◌, ◌≤◌, cond, eqb, List, [], ◌∷◌, ◌++◌, length, take, drop, Result, Ok, Err, refl, sym, ap, subst, ◌∙◌, append_assoc, append-nil, arith, length-append, length-drop, inl, inr}
+use Rattle.std.proofs.lemmas.List.{take_at, take-append-drop}
 use Rattle.content_tree.specs.Values.Tree.{Tree}
 use Rattle.content_cbor.specs.Codes.{Codes}
 use Rattle.content_cbor.specs.Decoded.{IsPlaced, IsViable, StopsAt}
 use Rattle.content_cbor.specs.declared.decode_error.DecodeError.TheVariants as error
+use Rattle.content_cbor.specs.declared.decode_error.Fault.TheVariants as fault
 use Rattle.content_cbor.specs.declared.stop.Refusal.{Refusal}
 use Rattle.content_cbor.specs.declared.stop.Stop.{Stop}
 use Rattle.content_cbor.specs.declared.stop.Stop.TheVariants as stop
-use Rattle.content_cbor.specs.Inner.Reading.{Fails, error_in, item_at, whole_at}
-use Rattle.content_cbor.proofs.Read.Longer.{later, longer_refusal, refusal_stays}
-use Rattle.content_cbor.proofs.Read.Placed.{Before, Opens, at_start, item_placed, nothing_begun, whole_placed}
-use Rattle.content_cbor.proofs.Read.Items.{item_sound}
-use Rattle.content_cbor.proofs.Read.Steps.{ok_is}
+use Rattle.content_cbor.specs.Inner.Steps.{Fails, error_in, refused}
+use Rattle.content_cbor.specs.Inner.Reading.{item_at, whole_at}
+use Rattle.content_cbor.proofs.Read.Begun.{Before, Opens, at_start}
+use Rattle.content_cbor.proofs.Read.Items.{item_placed, item_sound, nothing_begun}
+use Rattle.content_cbor.proofs.Read.Longer.{Agrees, later, longer_item}
+use Rattle.content_cbor.proofs.Read.Shrinks.{Leaves, advances_item, no_more}
+use Rattle.content_cbor.proofs.Read.Steps.{bind_err, chosen, ok_is, same_refusal}
 use Rattle.content_cbor.proofs.Read.Took.{IsBytes}
-use Rattle.content_cbor.proofs.Read.Whole.{item_complete, not_both, refused_all, whole_complete}
+use Rattle.content_cbor.proofs.Read.Whole.{item_complete, refused_all}
 
--- what stands before so many last bytes is viable
-before_viable : (limit : ℕ) (bs : List ℕ) (left at : ℕ) → Before (Opens (Codes limit)) bs left → at ≡ length bs - left → at < length bs → IsViable limit (take at bs)
-before_viable limit bs left at b place before =
+-- ---- viable before
+
+before_viable : (limit : ℕ) (bs : List ℕ) (left at : ℕ) → Before (Opens (Codes limit)) bs left → at ≡ length bs - left → IsViable limit (take at bs)
+before_viable limit bs left at b place =
     let front : length b.front ≡ at = omega (arith, place, b.last, ap length b.split, length-append b.front b.behind) in
     let same : take at bs ≡ b.front = ap (take at) b.split ∙ take_at b.front b.behind at front in
     subst (Opens (Codes limit)) (sym same) b.opens
 
--- so of what is refused before the end, where the bytes are not viable
-placed : (limit : ℕ) (bs : List ℕ) (e : Refusal) → (0 < limit → 0 < e.left → Before (Opens (Codes limit)) bs e.left) → (0 < e.left → IsViable limit bs → ⊥)
-    → IsPlaced limit bs (error.Refused (length bs - e.left) e.«fault»)
-placed limit bs e begins none before =
-    let some : 0 < e.left = omega (arith, before) in
-    (λ deep. before_viable limit bs e.left (length bs - e.left) (begins deep some) refl before, none some)
-
--- no whole item begins so
-none_whole : (limit : ℕ) (bs : List ℕ) (e : Refusal) → whole_at limit bs ≡ Err e → 0 < e.left → IsViable limit bs → ⊥
-none_whole limit bs e is some g =
-    not_both g.0 (later (length g.1) e) (sym (whole_complete limit (bs ++ g.1) g.0 g.2) ∙ refusal_stays limit bs g.1 e is some)
-
-pub whole_is_placed : (limit : ℕ) (bs : List ℕ) (s : Stop) → IsBytes bs → Fails s (whole_at limit bs) → IsPlaced limit bs (error_in bs s)
-whole_is_placed limit bs stop.OutOfMemory fits is = tt
-whole_is_placed limit bs (stop.Refused e) fits is = placed limit bs e (λ deep some. whole_placed limit bs e deep fits is some) (none_whole limit bs e is)
-
--- the same of an item at the front
-read_both : (x : Tree × List ℕ) (e : Refusal) (r : Result (Tree × List ℕ) Refusal) → r ≡ Ok x → r ≡ Err e → ⊥
-read_both x e r is fails = absurd cc
-
-none_begun : (limit : ℕ) (bs : List ℕ) (e : Refusal) → item_at limit bs ≡ Err e → 0 < e.left → IsViable limit bs → ⊥
-none_begun limit bs e is some g =
-    let read : item_at limit (bs ++ g.1) ≡ Ok (g.0, []) = ap (item_at limit) (sym (append-nil (bs ++ g.1))) ∙ item_complete limit g.0 (bs ++ g.1) [] g.2 in
-    elim (longer_refusal limit bs g.1 e is) [
-      | inl none ↦ omega (arith, none, some)
-      | inr still ↦ read_both (g.0, []) (later (length g.1) e) (item_at limit (bs ++ g.1)) read still
-    ]
-
-begun_before : (limit : ℕ) (bs : List ℕ) (e : Refusal) → IsBytes bs → item_at limit bs ≡ Err e → 0 < limit → 0 < e.left → Before (Opens (Codes limit)) bs e.left
-begun_before limit bs e fits is deep some =
-    elim (item_placed limit bs e fits is some) [
+begun_before : (limit : ℕ) (bs : List ℕ) (e : Refusal) → IsBytes bs → item_at limit bs ≡ Err e → 0 < limit → Before (Opens (Codes limit)) bs e.left
+begun_before limit bs e fits is deep =
+    elim (item_placed limit bs e fits is) [
       | inl at ↦ at_start (Opens (Codes limit)) bs e.left (nothing_begun limit deep) at
       | inr b ↦ b
     ]
 
+-- ---- not viable with one byte more
+
+read_both : (x : Tree × List ℕ) (e : Refusal) (r : Result (Tree × List ℕ) Refusal) → r ≡ Ok x → r ≡ Err e → ⊥
+read_both x e r is fails = absurd cc
+
+-- what is refused before its end stays so, whatever follows
+still_refused : (more : List ℕ) (e : Refusal) (r longer : Result (Tree × List ℕ) Refusal) → Agrees more r longer → r ≡ Err e → 0 < e.left → longer ≡ Err (later (length more) e)
+still_refused more e (Ok x) longer agrees is some = absurd cc
+still_refused more e (Err d) longer (inl w) is some =
+    let same : d ≡ e = same_refusal {A = Tree × List ℕ} d e is in absurd (omega (arith, w.0, ap (λ (u : Refusal). u.left) same, some))
+still_refused more e (Err d) longer (inr w) is some =
+    let same : d ≡ e = same_refusal {A = Tree × List ℕ} d e is in w ∙ ap (λ u. Err (later (length more) u)) same
+
+-- and what is refused was refused there already, without the bytes behind the place
+caught : (more : List ℕ) (e : Refusal) (r longer : Result (Tree × List ℕ) Refusal) → Agrees more r longer → longer ≡ Err e → length more < e.left
+    → (d : Refusal) × (r ≡ Err d) × (0 < d.left)
+caught more e (Ok x) longer agrees is past = absurd (read_both (x.0, x.1 ++ more) e longer agrees is)
+caught more e (Err d) longer (inl w) is past =
+    let le : Leaves (length more) longer = no_more (length more) longer w.1 in
+    absurd (omega (arith, past, subst (Leaves (length more)) is le))
+caught more e (Err d) longer (inr w) is past =
+    let same : later (length more) d ≡ e = same_refusal {A = Tree × List ℕ} (later (length more) d) e (sym w ∙ is) in
+    (d, refl, omega (arith, past, ap (λ (u : Refusal). u.left) same))
+
+none_begun : (limit : ℕ) (bs : List ℕ) (e : Refusal) → item_at limit bs ≡ Err e → 0 < e.left → IsViable limit bs → ⊥
+none_begun limit bs e is some g =
+    let read : item_at limit (bs ++ g.1) ≡ Ok (g.0, []) = ap (item_at limit) (sym (append-nil (bs ++ g.1))) ∙ item_complete limit g.0 (bs ++ g.1) [] g.2 in
+    read_both (g.0, []) (later (length g.1) e) (item_at limit (bs ++ g.1)) read
+    (still_refused g.1 e (item_at limit bs) (item_at limit (bs ++ g.1)) (longer_item limit bs g.1) is some)
+
+leaves_error : {A : Type 0} (n : ℕ) (r : Result (A × List ℕ) Refusal) (e : Refusal) → Leaves n r → r ≡ Err e → e.left ≤ n
+leaves_error n r e le is = subst (Leaves n) is le
+
+left_within : (limit : ℕ) (bs : List ℕ) (e : Refusal) → item_at limit bs ≡ Err e → e.left ≤ length bs
+left_within limit bs e is = leaves_error (length bs) (item_at limit bs) e (no_more (length bs) (item_at limit bs) (advances_item limit bs)) is
+
+dead : (limit : ℕ) (bs : List ℕ) (e : Refusal) (at : ℕ) → item_at limit bs ≡ Err e → at ≡ length bs - e.left → at < length bs → IsViable limit (take (suc at) bs) → ⊥
+dead limit bs e at is place before viable =
+    let front : List ℕ = take (suc at) bs in
+    let more : List ℕ = drop (suc at) bs in
+    let whole : front ++ more ≡ bs = take-append-drop (suc at) bs in
+    let past : length more < e.left = omega (arith, length-drop (suc at) bs, place, before, left_within limit bs e is) in
+    let c = caught more e (item_at limit front) (item_at limit (front ++ more)) (longer_item limit front more) (ap (item_at limit) whole ∙ is) past in
+    none_begun limit front c.0 c.1 c.2 viable
+
+placed : (limit : ℕ) (bs : List ℕ) (e : Refusal) → IsBytes bs → item_at limit bs ≡ Err e → IsPlaced limit bs (error.Refused (length bs - e.left) e.«fault»)
+placed limit bs e fits is = (
+  omega arith,
+  λ deep. before_viable limit bs e.left (length bs - e.left) (begun_before limit bs e fits is deep) refl,
+  λ before viable. dead limit bs e (length bs - e.left) is refl before viable,
+)
+
 pub item_is_placed : (limit : ℕ) (bs : List ℕ) (s : Stop) → IsBytes bs → Fails s (item_at limit bs) → IsPlaced limit bs (error_in bs s)
 item_is_placed limit bs stop.OutOfMemory fits is = tt
-item_is_placed limit bs (stop.Refused e) fits is = placed limit bs e (begun_before limit bs e fits is) (none_begun limit bs e is)
+item_is_placed limit bs (stop.Refused e) fits is = placed limit bs e fits is
+
+-- ---- bytes behind an item
+
+two_rests : (t u : Tree) (b : ℕ) (rest : List ℕ) (r : Result (Tree × List ℕ) Refusal) → r ≡ Ok (t, b ∷ rest) → r ≡ Ok (u, []) → ⊥
+two_rests t u b rest r long short =
+    let same : (t, b ∷ rest) ≡ (u, []) = ok_is (t, b ∷ rest) (u, []) (sym long ∙ short) in
+    absurd (omega (arith, ap (λ (x : Tree × List ℕ). length x.1) same))
+
+trailing : (limit : ℕ) (bs : List ℕ) (t : Tree) (front rest : List ℕ) (at : ℕ) → Codes limit t front → bs ≡ front ++ rest → at ≡ length bs - length rest
+    → (IsViable limit (take at bs)) × (at < length bs → IsViable limit (take (suc at) bs) → ⊥)
+trailing limit bs t front [] at codes split place =
+    let all : at ≡ length front = omega (arith, place, ap length split, length-append front []) in (
+      (t, [], subst (Codes limit t) (sym (ap (λ x. x ++ []) (ap (take at) split ∙ take_at front [] at (sym all)) ∙ append-nil front)) codes),
+      λ before viable. absurd (omega (arith, before, place)),
+    )
+trailing limit bs t front (b ∷ rest) at codes split place =
+    let all : at ≡ length front = omega (arith, place, ap length split, length-append front (b ∷ rest)) in
+    let one : bs ≡ (front ++ (b ∷ [])) ++ rest = split ∙ sym (append_assoc front (b ∷ []) rest) in
+    let long : length (front ++ (b ∷ [])) ≡ suc at = omega (arith, all, length-append front (b ∷ [])) in
+    let next : take (suc at) bs ≡ front ++ (b ∷ []) = ap (take (suc at)) one ∙ take_at (front ++ (b ∷ [])) rest (suc at) long in (
+      (t, [], subst (Codes limit t) (sym (ap (λ x. x ++ []) (ap (take at) split ∙ take_at front (b ∷ rest) at (sym all)) ∙ append-nil front)) codes),
+      λ before viable.
+          let u = viable.0 in
+          let more = viable.1 in
+          let same : take (suc at) bs ++ more ≡ front ++ (b ∷ more) = ap (λ x. x ++ more) next ∙ append_assoc front (b ∷ []) more in
+          let short : item_at limit (take (suc at) bs ++ more) ≡ Ok (u, []) =
+          ap (item_at limit) (sym (append-nil (take (suc at) bs ++ more))) ∙ item_complete limit u (take (suc at) bs ++ more) [] viable.2 in
+          two_rests t u b more (item_at limit (take (suc at) bs ++ more)) (ap (item_at limit) same ∙ item_complete limit t front (b ∷ more) codes) short,
+    )
+
+whole_placed : (limit : ℕ) (bs : List ℕ) (e : Refusal) → IsBytes bs → whole_at limit bs ≡ Err e → IsPlaced limit bs (error.Refused (length bs - e.left) e.«fault»)
+unfolding whole_at
+whole_placed limit bs e fits is =
+    elim (bind_err (item_at limit bs) (λ x. cond (eqb (length x.1) 0) (Ok x.0) (refused fault.Trailing x.1)) e is) [
+      | inl w ↦ placed limit bs e fits w
+      | inr a ↦ elim (chosen (eqb (length a.0.1) 0) (Ok a.0.0) (refused fault.Trailing a.0.1) (Err e) a.2) [
+        | inl w ↦ absurd cc
+        | inr w ↦
+            let i = item_sound limit bs a.0.0 a.0.1 fits a.1 in
+            let same = same_refusal {A = Tree} (record { «fault» = fault.Trailing; left = length a.0.1 }) e w.1 in
+            let t = trailing limit bs a.0.0 i.front a.0.1 (length bs - e.left) i.part i.split (ap (λ (u : Refusal). length bs - u.left) (sym same)) in
+            (omega arith, λ deep. t.0, t.1)
+      ]
+    ]
+
+pub whole_is_placed : (limit : ℕ) (bs : List ℕ) (s : Stop) → IsBytes bs → Fails s (whole_at limit bs) → IsPlaced limit bs (error_in bs s)
+whole_is_placed limit bs stop.OutOfMemory fits is = tt
+whole_is_placed limit bs (stop.Refused e) fits is = whole_placed limit bs e fits is
 
 -- the fault with which reading ends
 pub stops : {A : Type 0} (bs : List ℕ) (s : Stop) (read : Result A Refusal) → Fails s read → StopsAt bs (error_in bs s) read

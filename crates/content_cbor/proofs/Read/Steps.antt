@@ -1,8 +1,8 @@
 -- Steps of reading that did not fail.
-use Rattle.std.proofs.Common.{◌≡◌, ℕ, Bool, true, false, cond, Option, Some, None, Result, Ok, Err, List, ◌⊎◌, refl, inl, inr}
+use Rattle.std.proofs.Common.{◌≡◌, ℕ, Bool, true, false, cond, Option, Some, None, Result, Ok, Err, List, length, ◌⊎◌, refl, ap, inl, inr}
 use Rattle.content_cbor.specs.declared.decode_error.Fault.{Fault}
 use Rattle.content_cbor.specs.declared.stop.Refusal.{Refusal}
-use Rattle.content_cbor.specs.Inner.Reading.{◌>>=◌, or_refused}
+use Rattle.content_cbor.specs.Inner.Steps.{◌>>=◌, or_refused}
 
 abbrev done : {A : Type 0} → A → Result A Refusal
 done x = Ok x
@@ -33,3 +33,24 @@ failed false d r y e = absurd cc
 pub there : {A : Type 0} (f : Fault) (left : List ℕ) (o : Option A) (x : A) → or_refused f left o ≡ Ok x → o ≡ Some x
 there f left None x e = absurd cc
 there f left (Some y) x e = cc
+
+-- ---- steps that failed
+
+abbrev pub told : {A : Type 0} → Refusal → Result A Refusal
+told e = Err e
+
+pub same_refusal : {A : Type 0} (d e : Refusal) → told {A = A} d ≡ told e → d ≡ e
+same_refusal d e is = cc
+
+pub same_left : {A : Type 0} (d e : Refusal) → told {A = A} d ≡ told e → d.left ≡ e.left
+same_left d e is = ap (λ (u : Refusal). u.left) (same_refusal d e is)
+
+pub bind_err : {A B : Type 0} (r : Result A Refusal) (f : A → Result B Refusal) (e : Refusal) → (r >>= f) ≡ Err e
+    → (r ≡ Err e) ⊎ ((x : A) × (r ≡ Ok x) × (f x ≡ Err e))
+bind_err (Ok x) f e is = inr (x, refl, is)
+bind_err (Err d) f e is = inl (ap told (same_refusal d e is))
+
+-- where nothing was there
+pub not_there : {A : Type 0} (f : Fault) (left : List ℕ) (o : Option A) (e : Refusal) → or_refused f left o ≡ Err e → length left ≡ e.left
+not_there {A} f left None e is = same_left {A = A} (record { «fault» = f; left = length left }) e is
+not_there f left (Some x) e is = absurd cc

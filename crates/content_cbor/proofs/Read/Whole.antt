@@ -5,21 +5,22 @@ use Rattle.std.proofs.lemmas.List.{nil_from_length}
 use Rattle.content_tree.specs.Values.Tree as tree
 use Rattle.content_tree.specs.Values.Tree.{Tree}
 use Rattle.content_cbor.specs.Heads.{first_byte}
-use Rattle.content_cbor.specs.Codes.{Codes, Each, IsInteger, IsPair, Parts, number_of}
+use Rattle.content_cbor.specs.Codes.{Codes, IsInteger, IsPair, Parts, number_of}
 use Rattle.content_cbor.specs.declared.decode_error.Fault.TheVariants as fault
 use Rattle.content_cbor.specs.declared.heads.Major.{Major}
 use Rattle.content_cbor.specs.declared.heads.Major.TheVariants as major
 use Rattle.content_cbor.specs.declared.stop.Refusal.{Refusal}
 use Rattle.content_cbor.specs.declared.stop.Stop.{Stop}
 use Rattle.content_cbor.specs.declared.stop.Stop.TheVariants as stop
-use Rattle.content_cbor.specs.Inner.Reading.{Reader, Fails, at_break, head_at, inside_at, is_simple, item_at, leaf_at, pair_at, parts_at, refused, whole_at}
+use Rattle.content_cbor.specs.Inner.Steps.{Reader, Fails, refused}
+use Rattle.content_cbor.specs.Inner.Reading.{at_break, bounds_of, inside_at, is_simple, each_at, item_at, leaf_at, pair_at, parts_at, until_at, whole_at}
 use Rattle.content_cbor.proofs.Read.Steps.{ok_is, bind_ok, failed}
 use Rattle.content_cbor.proofs.Read.Took.{IsBytes, Complete}
 use Rattle.content_cbor.proofs.Read.Parts.{Begins, each_complete, until_complete}
-use Rattle.content_cbor.proofs.Read.Heads.{head_again, opening_again, simple_again}
+use Rattle.content_cbor.proofs.Read.Heads.{HeadIn, HeadOf, head_complete, of_head}
 use Rattle.content_cbor.proofs.Read.Strings.{string_complete, string_apart, string_begins, head_begins, opening_begins}
 use Rattle.content_cbor.proofs.Read.Tags.{unsigned_again, negative_again}
-use Rattle.content_cbor.proofs.Read.Items.{item_sound, pair_complete, pair_begins}
+use Rattle.content_cbor.proofs.Read.Items.{PartsBody, item_sound, pair_complete, pair_begins}
 
 -- ---- no item begins as a break does
 
@@ -79,59 +80,75 @@ room (suc limit) t bs none is = absurd cc
 pair_room : (limit : ℕ) → Room (IsPair (Codes limit)) limit
 pair_room limit p bs none is = room limit p.0 is.0 none is.2
 
-each_again : {A : Type 0} (Part : A → List ℕ → Type 0) (read : Reader A) → Complete Part read → (limit : ℕ) → Room Part limit
-    → (from : List ℕ) (xs : List A) (body rest : List ℕ) → Each Part xs body → parts_at read limit from (Some (length xs)) (body ++ rest) ≡ Ok (xs, rest)
+-- parts behind a head
+parts_again : {A : Type 0} (Part : A → List ℕ → Type 0) (read : Reader A) → Complete Part read → Begins Part → (o : Option ℕ) (xs : List A) (body rest : List ℕ)
+    → PartsBody Part o xs body → parts_at read o (body ++ rest) ≡ Ok (xs, rest)
 unfolding parts_at
-each_again Part read complete zero none from [] body rest is = each_complete Part read complete [] body rest is
-each_again Part read complete zero none from (x ∷ xs) body rest is = absurd (none x is.0 refl is.2)
-each_again Part read complete (suc limit) none from xs body rest is = each_complete Part read complete xs body rest is
+parts_again Part read complete begins (Some n) xs body rest is =
+    ap (λ k. each_at read k (body ++ rest)) (sym is.0) ∙ each_complete Part read complete xs body rest is.1
+parts_again Part read complete begins None xs body rest is =
+    let whole : body ++ rest ≡ is.0 ++ (255 ∷ rest) = ap (λ f. f ++ rest) is.2 ∙ append_assoc is.0 (255 ∷ []) rest in
+    let enough : length is.0 < length (body ++ rest) = omega (arith, ap length whole, length-append is.0 (255 ∷ rest)) in
+    ap (until_at read (length (body ++ rest))) whole ∙ until_complete Part read complete begins xs is.0 rest (length (body ++ rest)) is.1 enough
 
-until_again : {A : Type 0} (Part : A → List ℕ → Type 0) (read : Reader A) → Complete Part read → Begins Part → (limit : ℕ) (from : List ℕ)
-    (xs : List A) (body rest : List ℕ) → Each Part xs body → parts_at read limit from None (body ++ (255 ∷ rest)) ≡ Ok (xs, rest)
-unfolding parts_at
-until_again Part read complete begins limit from xs body rest is =
-    until_complete Part read complete begins xs body rest (length (body ++ (255 ∷ rest))) is (omega (arith, length-append body (255 ∷ rest)))
+-- the head of parts, and the parts
+parts_apart : {A : Type 0} (Part : A → List ℕ → Type 0) (m : Major) → is_simple m ≡ false → (xs : List A) (bs : List ℕ) → Parts m Part xs bs
+    → (o : Option ℕ) × (head body : List ℕ) × (bs ≡ head ++ body) × HeadOf m o head × PartsBody Part o xs body
+parts_apart Part m simple xs bs (inl w) = (Some (length xs), w.0, w.1, w.4, of_head m simple (length xs) w.0 w.2, (refl, w.3))
+parts_apart Part m simple xs bs (inr w) = (None, first_byte m 31 ∷ [], w.0 ++ (255 ∷ []), w.2, refl, (w.0, w.1, refl))
 
--- a head, and behind it parts
-abbrev Apart : {A : Type 0} → (A → List ℕ → Type 0) → Reader A → ℕ → Major → List A → List ℕ → List ℕ → Type 0
-Apart Part read limit m xs bs rest = (o : Option ℕ) × (after : List ℕ) × (head_at (bs ++ rest) ≡ Ok (record { «major» = m; number = o }, after))
-    × (parts_at read limit (bs ++ rest) o after ≡ Ok (xs, rest))
+-- where no part can stand, none does
+array_admits : (limit : ℕ) (ts : List Tree) (o : Option ℕ) (head body : List ℕ) → HeadOf major.Array o head → PartsBody (Codes limit) o ts body → HeadIn (bounds_of limit major.Array) major.Array o head
+array_admits limit ts None head body is parts = is
+array_admits (suc limit) ts (Some n) head body is parts = (is, refl)
+array_admits zero [] (Some n) head body is parts = (is, subst (λ k. (bounds_of 0 major.Array).admits 0 k ≡ true) parts.0 refl)
+array_admits zero (t ∷ ts) (Some n) head body is parts = absurd (room zero t parts.1.0 refl parts.1.2)
 
-parts_apart : {A : Type 0} (Part : A → List ℕ → Type 0) (read : Reader A) → Complete Part read → Begins Part → (limit : ℕ) → Room Part limit
-    → (m : Major) → is_simple m ≡ false → (xs : List A) (bs rest : List ℕ) → Parts m Part xs bs → Apart Part read limit m xs bs rest
-parts_apart Part read complete begins limit none m simple xs bs rest (inl w) =
-    let split : bs ++ rest ≡ w.0 ++ (w.1 ++ rest) = ap (λ f. f ++ rest) w.4 ∙ append_assoc w.0 w.1 rest in
-    (Some (length xs), w.1 ++ rest, ap head_at split ∙ head_again m (length xs) w.0 (w.1 ++ rest) simple w.2, each_again Part read complete limit none (bs ++ rest) xs w.1 rest w.3)
-parts_apart Part read complete begins limit none m simple xs bs rest (inr w) =
-    let split : bs ++ rest ≡ first_byte m 31 ∷ (w.0 ++ (255 ∷ rest)) = ap (λ f. f ++ rest) w.2 ∙ ap (λ f. first_byte m 31 ∷ f) (append_assoc w.0 (255 ∷ []) rest) in
-    (None, w.0 ++ (255 ∷ rest), ap head_at split ∙ opening_again m (w.0 ++ (255 ∷ rest)), until_again Part read complete begins limit (bs ++ rest) xs w.0 rest w.1)
+map_admits : (limit : ℕ) (ps : List (Tree × Tree)) (o : Option ℕ) (head body : List ℕ) → HeadOf major.Map o head → PartsBody (IsPair (Codes limit)) o ps body
+    → HeadIn (bounds_of limit major.Map) major.Map o head
+map_admits limit ps None head body is parts = is
+map_admits (suc limit) ps (Some n) head body is parts = (is, refl)
+map_admits zero [] (Some n) head body is parts = (is, subst (λ k. (bounds_of 0 major.Map).admits 0 k ≡ true) parts.0 refl)
+map_admits zero (p ∷ ps) (Some n) head body is parts = absurd (pair_room zero p parts.1.0 refl parts.1.2)
 
 -- ---- items
 
 -- behind its head, what stands there is read
-behind : (limit : ℕ) (m : Major) (o : Option ℕ) (bs after : List ℕ) → head_at bs ≡ Ok (record { «major» = m; number = o }, after)
-    → item_at (suc limit) bs ≡ inside_at (item_at limit) limit bs m o after
+behind : (limit : ℕ) (m : Major) (o : Option ℕ) (bs head body rest : List ℕ) → bs ≡ head ++ body → HeadIn (bounds_of limit m) m o head
+    → item_at (suc limit) (bs ++ rest) ≡ inside_at (item_at limit) m o (body ++ rest)
 unfolding item_at
-behind limit m o bs after is = rw is refl
+behind limit m o bs head body rest split is =
+    ap (item_at (suc limit)) (ap (λ f. f ++ rest) split ∙ append_assoc head body rest)
+    ∙ rw (head_complete limit (record { «major» = m; number = o }) head (body ++ rest) is) refl
+
+-- with nothing behind the head
+alone : (limit : ℕ) (m : Major) (o : Option ℕ) (head rest : List ℕ) → HeadIn (bounds_of limit m) m o head → item_at (suc limit) (head ++ rest) ≡ inside_at (item_at limit) m o rest
+alone limit m o head rest is = behind limit m o head head [] rest (sym (append-nil head)) is
 
 integer_again : (limit : ℕ) (z : ℤ) (bs rest : List ℕ) → IsInteger z bs → item_at (suc limit) (bs ++ rest) ≡ Ok (tree.number (number_of z), rest)
 unfolding leaf_at
-integer_again limit (pos n) bs rest (inl w) = behind limit major.Unsigned (Some n) (bs ++ rest) rest (head_again major.Unsigned n bs rest refl w)
-integer_again limit (negsuc n) bs rest (inl w) = behind limit major.Negative (Some n) (bs ++ rest) rest (head_again major.Negative n bs rest refl w)
+integer_again limit (pos n) bs rest (inl w) = alone limit major.Unsigned (Some n) bs rest (of_head major.Unsigned refl n bs w, refl)
+integer_again limit (negsuc n) bs rest (inl w) = alone limit major.Negative (Some n) bs rest (of_head major.Negative refl n bs w, refl)
 integer_again limit (pos n) bs rest (inr w) =
     let u = w.1 in
-    let split : bs ++ rest ≡ u.0 ++ (u.1 ++ rest) = ap (λ f. f ++ rest) u.6 ∙ append_assoc u.0 u.1 rest in
-    behind limit major.Tag (Some 2) (bs ++ rest) (u.1 ++ rest) (ap head_at split ∙ head_again major.Tag 2 u.0 (u.1 ++ rest) refl u.3)
-    ∙ rw (unsigned_again n (bs ++ rest) u.1 rest u.2 w.0 u.4 u.5) refl
+    behind limit major.Tag (Some 2) bs u.0 u.1 rest u.6 (of_head major.Tag refl 2 u.0 u.3, refl)
+    ∙ rw (unsigned_again n u.1 rest u.2 w.0 u.4 u.5) refl
 integer_again limit (negsuc n) bs rest (inr w) =
     let u = w.1 in
-    let split : bs ++ rest ≡ u.0 ++ (u.1 ++ rest) = ap (λ f. f ++ rest) u.6 ∙ append_assoc u.0 u.1 rest in
-    behind limit major.Tag (Some 3) (bs ++ rest) (u.1 ++ rest) (ap head_at split ∙ head_again major.Tag 3 u.0 (u.1 ++ rest) refl u.3)
-    ∙ rw (negative_again n (bs ++ rest) u.1 rest u.2 w.0 u.4 u.5) refl
+    behind limit major.Tag (Some 3) bs u.0 u.1 rest u.6 (of_head major.Tag refl 3 u.0 u.3, refl)
+    ∙ rw (negative_again n u.1 rest u.2 w.0 u.4 u.5) refl
 
-simple_item : (limit n : ℕ) (t : Tree) (bs rest : List ℕ) → n < 24 → bs ≡ first_byte major.Simple n ∷ [] → leaf_at (bs ++ rest) major.Simple (Some n) rest ≡ Ok (t, rest)
+simple_item : (limit n : ℕ) (t : Tree) (bs rest : List ℕ) → n < 24 → bs ≡ first_byte major.Simple n ∷ [] → leaf_at major.Simple (Some n) rest ≡ Ok (t, rest)
     → item_at (suc limit) (bs ++ rest) ≡ Ok (t, rest)
-simple_item limit n t bs rest lt is leaf = behind limit major.Simple (Some n) (bs ++ rest) rest (ap (λ f. head_at (f ++ rest)) is ∙ simple_again n rest lt) ∙ leaf
+simple_item limit n t bs rest lt is leaf = alone limit major.Simple (Some n) bs rest (inl (lt, is), refl) ∙ leaf
+
+any_text : (limit : ℕ) (o : Option ℕ) (head : List ℕ) → HeadOf major.Text o head → HeadIn (bounds_of limit major.Text) major.Text o head
+any_text limit None head is = is
+any_text limit (Some n) head is = (is, refl)
+
+any_bytes : (limit : ℕ) (o : Option ℕ) (head : List ℕ) → HeadOf major.Bytes o head → HeadIn (bounds_of limit major.Bytes) major.Bytes o head
+any_bytes limit None head is = is
+any_bytes limit (Some n) head is = (is, refl)
 
 pub item_complete : (limit : ℕ) → Complete (Codes limit) (item_at limit)
 unfolding leaf_at
@@ -141,18 +158,20 @@ item_complete (suc limit) (tree.boolean true) bs rest is = simple_item limit 21 
 item_complete (suc limit) (tree.boolean false) bs rest is = simple_item limit 20 (tree.boolean false) bs rest (omega arith) is refl
 item_complete (suc limit) (tree.number n) bs rest is = integer_again limit is.0 bs rest is.2 ∙ ap (λ k. Ok (tree.number k, rest)) (sym is.1)
 item_complete (suc limit) (tree.text x) bs rest is =
-    let p = string_apart true x bs rest is in
-    behind limit major.Text p.0 (bs ++ rest) (p.1 ++ rest) p.2 ∙ rw (string_complete true p.0 x p.1 rest p.3) refl
+    let p = string_apart true x bs is in
+    behind limit major.Text p.0 bs p.1 p.2 rest p.3 (any_text limit p.0 p.1 p.4) ∙ rw (string_complete true p.0 x p.2 rest p.5) refl
 item_complete (suc limit) (tree.octets x) bs rest is =
-    let p = string_apart false x bs rest is in
-    behind limit major.Bytes p.0 (bs ++ rest) (p.1 ++ rest) p.2 ∙ rw (string_complete false p.0 x p.1 rest p.3) refl
+    let p = string_apart false x bs is in
+    behind limit major.Bytes p.0 bs p.1 p.2 rest p.3 (any_bytes limit p.0 p.1 p.4) ∙ rw (string_complete false p.0 x p.2 rest p.5) refl
 item_complete (suc limit) (tree.seq ts) bs rest is =
-    let p = parts_apart (Codes limit) (item_at limit) (item_complete limit) (item_begins limit) limit (room limit) major.Array refl is.0 bs rest is.2 in
-    behind limit major.Array p.0 (bs ++ rest) p.1 p.2 ∙ rw p.3 (ap (λ u. Ok (tree.seq u, rest)) (sym is.1))
+    let p = parts_apart (Codes limit) major.Array refl is.0 bs is.2 in
+    behind limit major.Array p.0 bs p.1 p.2 rest p.3 (array_admits limit is.0 p.0 p.1 p.2 p.4 p.5)
+    ∙ rw (parts_again (Codes limit) (item_at limit) (item_complete limit) (item_begins limit) p.0 is.0 p.2 rest p.5) (ap (λ u. Ok (tree.seq u, rest)) (sym is.1))
 item_complete (suc limit) (tree.map ps) bs rest is =
-    let p = parts_apart (IsPair (Codes limit)) (pair_at (item_at limit)) (pair_complete (Codes limit) (item_at limit) (item_complete limit)) (pair_begins (Codes limit) (item_begins limit))
-    limit (pair_room limit) major.Map refl is.0 bs rest is.2 in
-    behind limit major.Map p.0 (bs ++ rest) p.1 p.2 ∙ rw p.3 (ap (λ u. Ok (tree.map u, rest)) (sym is.1))
+    let p = parts_apart (IsPair (Codes limit)) major.Map refl is.0 bs is.2 in
+    behind limit major.Map p.0 bs p.1 p.2 rest p.3 (map_admits limit is.0 p.0 p.1 p.2 p.4 p.5)
+    ∙ rw (parts_again (IsPair (Codes limit)) (pair_at (item_at limit)) (pair_complete (Codes limit) (item_at limit) (item_complete limit)) (pair_begins (Codes limit) (item_begins limit)) p.0 is.0 p.2 rest p.5)
+    (ap (λ u. Ok (tree.map u, rest)) (sym is.1))
 item_complete (suc limit) tree.unit bs rest is = absurd is
 item_complete (suc limit) (tree.character c) bs rest is = absurd is
 item_complete (suc limit) (tree.present t) bs rest is = absurd is

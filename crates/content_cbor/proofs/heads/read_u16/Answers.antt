@@ -1,0 +1,11 @@
+use Rattle.std.proofs.Common.{rules}
+use Rattle.content_cbor.specs.Codes as size
+use Rattle.content_cbor.proofs.Read.Heads.{wide_is}
+use Rattle.content_cbor.proofs.Read.Numbers.{ends_unbounded}
+use Rattle.content_cbor.proofs.heads.read_u16.Goals as goal
+
+pub returns-then-bytes-lt2 : goal.returns-then-bytes-lt2
+returns-then-bytes-lt2 c = rw c.stop_at.ensures (ends_unbounded 2 0 c.args.bytes.now c.if-bytes-lt2.true)
+
+pub returns : goal.returns
+returns c = wide_is size.two c.args.bytes.now c.from_be_bytes.result c.split_at.result.1.now c.if-bytes-lt2.false (search rules) (search rules)

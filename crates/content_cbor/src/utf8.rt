@@ -1,0 +1,88 @@
+//! Texts byte by byte, up to the first that is wrong.
+
+ghost use Rattle.std.specs.Prelude.{◌≡◌, Ok, List, ℕ};
+ghost use Rattle.content_cbor.specs.Inner.Steps.{Fails};
+ghost use Rattle.content_cbor.specs.Inner.Texts.{after_byte, after_first, tail, text_at};
+
+use crate::decode_error::Fault;
+use crate::stop::{Stop, stop_at};
+
+/// The bytes that a character lacks: how many, and the range of the next.
+#[derive(Clone, Copy, Drop)]
+pub(crate) struct Lack {
+    pub(crate) count: u8,
+    pub(crate) least: u8,
+    pub(crate) most: u8,
+}
+
+/// So many bytes, each in the range of all but a character's first two.
+fn tail(count: u8) -> Lack
+    ensures { result ≡ tail count }
+{
+    Lack {
+        count,
+        least: 0x80,
+        most: 0xbf,
+    }
+}
+
+/// What a character lacks behind its first byte, where a character begins so.
+fn after_first(byte: u8) -> Option<Lack>
+    ensures { result ≡ after_first byte }
+{
+    match byte {
+        0x00..=0x7f => Some(tail(0)),
+        0xc2..=0xdf => Some(tail(1)),
+        0xe0 => Some(Lack {
+            least: 0xa0,
+            ..tail(2)
+        }),
+        0xed => Some(Lack {
+            most: 0x9f,
+            ..tail(2)
+        }),
+        0xe1..=0xef => Some(tail(2)),
+        0xf0 => Some(Lack {
+            least: 0x90,
+            ..tail(3)
+        }),
+        0xf1..=0xf3 => Some(tail(3)),
+        0xf4 => Some(Lack {
+            most: 0x8f,
+            ..tail(3)
+        }),
+        _ => None,
+    }
+}
+
+/// What is lacking behind one more byte, where it can stand there.
+fn after_byte(lack: Lack, byte: u8) -> Option<Lack>
+    ensures { result ≡ after_byte lack byte }
+{
+    if lack.count == 0 {
+        after_first(byte)
+    } else if lack.least <= byte && byte <= lack.most {
+        Some(tail(lack.count - 1))
+    } else {
+        None
+    }
+}
+
+/// Where so many bytes stop being a text: at the first with which no text begins, or at their end.
+pub(crate) fn stop_in_text(length: u64, bytes: &[u8]) -> Stop
+    requires { (x : List ℕ × List ℕ) → text_at (tail 0) length bytes.now ≡ Ok x → ⊥ }
+    ensures { Fails result (text_at (tail 0) length bytes.now) }
+{
+    let mut lack = tail(0);
+    let mut due = length;
+    let mut rest = bytes;
+    while let [byte, behind @ ..] = rest {
+        due -= 1;
+        match after_byte(lack, *byte) {
+            Some(next) if u64::from(next.count) <= due => lack = next,
+            _ => return stop_at(Fault::NotUtf8, rest),
+        }
+        rest = behind;
+    }
+    stop_at(Fault::Ended, rest)
+}
