@@ -170,6 +170,7 @@ fn read_u64(bytes: &[u8]) -> Result<(u64, &[u8]), Stop>
 }
 
 /// The first byte of a head, and the bytes behind it.
+#[inline(always)]
 #[tactic(auto, unfolding(crate::specs::Inner::Reading::first_at))]
 pub(crate) fn read_first(bytes: &[u8]) -> Result<(First, &[u8]), Stop>
     ensures { Gives (λ x. (x.0, x.1.now)) result (first_at bytes.now) }
@@ -179,24 +180,24 @@ pub(crate) fn read_first(bytes: &[u8]) -> Result<(First, &[u8]), Stop>
     };
     let info = *first % 32;
     let major = Major::of(*first / 32);
-    if info < 24 || info == 31 {
-        return Ok((First { major, info }, rest));
-    }
-    if 27 < info {
-        return Err(stop_at(Fault::Reserved, bytes));
-    }
-    if matches!(major, Major::Simple) {
-        let fault = if info == 24 {
-            Fault::Simple
-        } else {
-            Fault::Float
-        };
-        return Err(stop_at(fault, bytes));
+    if 24 <= info && info < 31 {
+        if 27 < info {
+            return Err(stop_at(Fault::Reserved, bytes));
+        }
+        if matches!(major, Major::Simple) {
+            let fault = if info == 24 {
+                Fault::Simple
+            } else {
+                Fault::Float
+            };
+            return Err(stop_at(fault, bytes));
+        }
     }
     Ok((First { major, info }, rest))
 }
 
 /// The number of a head, in its first byte or behind it.
+#[inline(always)]
 #[tactic(auto, unfolding(crate::specs::Inner::Numbers::argument_at))]
 fn read_any_argument(info: u8, bytes: &[u8]) -> Result<(u64, &[u8]), Stop>
     ensures { Gives (λ x. (x.0, x.1.now)) result (argument_at unbounded info bytes.now) }
@@ -250,6 +251,7 @@ fn read_argument_in(range: Range, info: u8, bytes: &[u8]) -> Result<(u64, &[u8])
 }
 
 /// The number of a head, of a range, if one is given.
+#[inline(always)]
 pub(crate) fn read_argument(
     range: Option<Range>,
     info: u8,
@@ -264,52 +266,78 @@ pub(crate) fn read_argument(
     }
 }
 
-/// A head behind its first byte, with a number of a range, if one is given.
-pub(crate) fn read_head_behind(
-    range: Option<Range>,
-    first: First,
-    bytes: &[u8],
-) -> Result<(Head, &[u8]), Stop>
-    requires { IfSome range (λ r. r.most < 2 ^ 64) }
-    ensures { Gives (λ x. (x.0, x.1.now)) result (head_behind (bounds_in range) first bytes.now) }
+/// A head behind its first byte.
+#[inline(always)]
+pub(crate) fn read_head_behind(first: First, bytes: &[u8]) -> Result<(Head, &[u8]), Stop>
+    ensures { Gives (λ x. (x.0, x.1.now)) result (head_behind unbounded first bytes.now) }
 {
     let major = first.major;
     if first.info == 31 {
         let number = None;
         return Ok((Head { major, number }, bytes));
     }
-    let (number, rest) = read_argument(range, first.info, bytes)?;
+    let (number, rest) = read_any_argument(first.info, bytes)?;
     let number = Some(number);
     Ok((Head { major, number }, rest))
 }
 
-/// What the number of a head must be, of an item in which items may stand so deep.
-fn range_of(limit: usize, major: Major) -> Option<Range>
-    ensures bounds { bounds_in result ≡ bounds_of limit major }
-    ensures small { IfSome result (λ r. r.most < 2 ^ 64) }
+/// The same, with a number of a range, if it has one.
+fn read_head_in(range: Range, first: First, bytes: &[u8]) -> Result<(Head, &[u8]), Stop>
+    requires { range.most < 2 ^ 64 }
+    ensures { Gives (λ x. (x.0, x.1.now)) result
+        (head_behind (between range.least range.most range.«fault») first bytes.now) }
 {
-    match major {
-        Major::Tag => Some(Range {
-            least: 2,
-            most: 3,
-            fault: Fault::Tag,
-        }),
-        Major::Array | Major::Map if limit == 0 => Some(Range {
-            least: 0,
-            most: 0,
-            fault: Fault::TooDeep,
-        }),
-        _ => None,
+    if first.info == 31 {
+        return read_head_behind(first, bytes);
+    }
+    let (number, rest) = read_argument_in(range, first.info, bytes)?;
+    let head = Head {
+        major: first.major,
+        number: Some(number),
+    };
+    Ok((head, rest))
+}
+
+/// The same, with what its number must be where items may stand so deep. Few heads need it, so it
+/// isn't inlined.
+#[inline(never)]
+fn read_bounded_head(limit: usize, first: First, bytes: &[u8]) -> Result<(Head, &[u8]), Stop>
+    ensures { Gives (λ x. (x.0, x.1.now)) result
+        (head_behind (bounds_of limit first.«major») first bytes.now) }
+{
+    match first.major {
+        Major::Tag => {
+            let tags = Range {
+                least: 2,
+                most: 3,
+                fault: Fault::Tag,
+            };
+            read_head_in(tags, first, bytes)
+        }
+        Major::Array | Major::Map if limit == 0 => {
+            let none = Range {
+                least: 0,
+                most: 0,
+                fault: Fault::TooDeep,
+            };
+            read_head_in(none, first, bytes)
+        }
+        _ => read_head_behind(first, bytes),
     }
 }
 
 /// The head of an item in which items may stand so deep, and the bytes behind it.
+#[inline(always)]
 #[tactic(auto, unfolding(crate::specs::Inner::Reading::head_at))]
 pub(crate) fn read_head(limit: usize, bytes: &[u8]) -> Result<(Head, &[u8]), Stop>
     ensures { Gives (λ x. (x.0, x.1.now)) result (head_at limit bytes.now) }
 {
     let (first, rest) = read_first(bytes)?;
-    read_head_behind(range_of(limit, first.major), first, rest)
+    if limit == 0 || matches!(first.major, Major::Tag) {
+        read_bounded_head(limit, first, rest)
+    } else {
+        read_head_behind(first, rest)
+    }
 }
 
 /// The bytes behind a break, if one is at the front.

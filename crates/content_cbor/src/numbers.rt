@@ -131,7 +131,7 @@ fn read_magnitude(is_negative: bool, bytes: &[u8]) -> Result<(u128, &[u8]), Stop
     if !matches!(first.major, Major::Bytes) {
         return Err(stop_at(Fault::Misplaced, bytes));
     }
-    let (head, rest) = read_head_behind(None, first, rest)?;
+    let (head, rest) = read_head_behind(first, rest)?;
     read_digits_behind(is_negative, head.number, rest)
 }
 

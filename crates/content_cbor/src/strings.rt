@@ -27,6 +27,7 @@ fn read_bytes(length: u64, bytes: &[u8]) -> Result<(&[u8], &[u8]), Stop>
 }
 
 /// So many bytes as a text, and those behind them.
+#[inline(always)]
 #[tactic(auto, unfolding(crate::specs::Inner::Reading::content_at))]
 fn read_text(length: u64, bytes: &[u8]) -> Result<(&str, &[u8]), Stop>
     ensures { Gives (λ x. (x.0.now, x.1.now)) result (content_at true length bytes.now) }
