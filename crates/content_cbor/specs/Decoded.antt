@@ -1,5 +1,5 @@
 -- What decoding answers.
-use Rattle.std.specs.Prelude.{◌≡◌, ◌⊎◌, ◌<◌, ◌≤◌, true, false, ℕ, suc, ◌-◌, List, ◌++◌, length, take, Result, Ok, Err}
+use Rattle.std.specs.Prelude.{◌≡◌, ◌⊎◌, ◌<◌, ◌≤◌, ◌+◌, true, false, ℕ, ◌-◌, List, ◌++◌, length, take, Result, Ok, Err}
 use Rattle.content_tree.specs.Errors.Kind.{IsOutOfMemory}
 use Rattle.content_tree.specs.Values.Tree.{Tree}
 use Rattle.content_tree.specs.Values.Value.{tree_of}
@@ -40,7 +40,7 @@ abbrev pub IsPlaced : ℕ → List ℕ → DecodeError → Type 0
 IsPlaced limit bs error.OutOfMemory = Unit {0}
 IsPlaced limit bs (error.Refused at f) = (at ≤ length bs)
     × (0 < limit → IsViable limit (take at bs))
-    × (at < length bs → IsViable limit (take (suc at) bs) → ⊥)
+    × (at < length bs → ¬ IsViable limit (take (at + 1) bs))
 
 -- a tree as typed data is read of it: for no people, with numbers coerced
 abbrev pub as_read : Tree → Subject

@@ -1,5 +1,5 @@
 -- The place of a refusal.
-use Rattle.std.proofs.Common.{◌≡◌, ℕ, suc, ◌-◌, ◌<◌, ◌≤◌, cond, eqb, List, [], ◌∷◌, ◌++◌, length, take, drop, Result, Ok, Err, refl, sym, ap, subst, ◌∙◌, append_assoc, append-nil, arith, length-append, length-drop, inl, inr}
+use Rattle.std.proofs.Common.{◌≡◌, ℕ, suc, ◌+◌, ◌-◌, ◌<◌, ◌≤◌, cond, eqb, List, [], ◌∷◌, ◌++◌, length, take, drop, Result, Ok, Err, refl, sym, ap, subst, ◌∙◌, append_assoc, append-nil, arith, length-append, length-drop, inl, inr}
 use Rattle.std.proofs.lemmas.List.{take_at, take-append-drop}
 use Rattle.content_tree.specs.Values.Tree.{Tree}
 use Rattle.content_cbor.specs.Codes.{Codes}
@@ -70,6 +70,9 @@ leaves_error n r e le is = subst (Leaves n) is le
 left_within : (limit : ℕ) (bs : List ℕ) (e : Refusal) → item_at limit bs ≡ Err e → e.left ≤ length bs
 left_within limit bs e is = leaves_error (length bs) (item_at limit bs) e (no_more (length bs) (item_at limit bs) (advances_item limit bs)) is
 
+one_more : (limit at : ℕ) (bs : List ℕ) → IsViable limit (take (at + 1) bs) → IsViable limit (take (suc at) bs)
+one_more limit at bs viable = let same : at + 1 ≡ suc at = omega arith in subst (λ k. IsViable limit (take k bs)) same viable
+
 dead : (limit : ℕ) (bs : List ℕ) (e : Refusal) (at : ℕ) → item_at limit bs ≡ Err e → at ≡ length bs - e.left → at < length bs → IsViable limit (take (suc at) bs) → ⊥
 dead limit bs e at is place before viable =
     let front : List ℕ = take (suc at) bs in
@@ -83,7 +86,7 @@ placed : (limit : ℕ) (bs : List ℕ) (e : Refusal) → IsBytes bs → item_at 
 placed limit bs e fits is = (
   omega arith,
   λ deep. before_viable limit bs e.left (length bs - e.left) (begun_before limit bs e fits is deep) refl,
-  λ before viable. dead limit bs e (length bs - e.left) is refl before viable,
+  λ before viable. dead limit bs e (length bs - e.left) is refl before (one_more limit (length bs - e.left) bs viable),
 )
 
 pub item_is_placed : (limit : ℕ) (bs : List ℕ) (s : Stop) → IsBytes bs → Fails s (item_at limit bs) → IsPlaced limit bs (error_in bs s)
@@ -130,7 +133,7 @@ whole_placed limit bs e fits is =
             let i = item_sound limit bs a.0.0 a.0.1 fits a.1 in
             let same = same_refusal {A = Tree} (record { «fault» = fault.Trailing; left = length a.0.1 }) e w.1 in
             let t = trailing limit bs a.0.0 i.front a.0.1 (length bs - e.left) i.part i.split (ap (λ (u : Refusal). length bs - u.left) (sym same)) in
-            (omega arith, λ deep. t.0, t.1)
+            (omega arith, λ deep. t.0, λ before viable. t.1 before (one_more limit (length bs - e.left) bs viable))
       ]
     ]
 
