@@ -85,10 +85,6 @@ pub behind_now : (due most n : ℕ) → n ≤ leading due most → digits_behind
 behind_now zero most n le = refl
 behind_now (suc due) most n le = rw (le-leb _ _ le) refl
 
-pub behind_none : (due most n : ℕ) → due ≤ 0 → digits_behind due most n ≡ due
-behind_none zero most n none = refl
-behind_none (suc due) most n none = absurd (omega (arith, none))
-
 -- ---- texts
 
 -- a byte that can stand next

@@ -194,9 +194,6 @@ first_again m info rest (inr (inr w)) =
     let lt : info < 32 = omega (arith, w.2) in
     rw (low_of m info lt, major_back m info lt, le-ltb info 24 w.1, ne_eqb info 31 (λ e. omega (arith, w.2, e)), le-ltb 27 info w.2, w.0) refl
 
-pub first_complete : Complete IsFirst first_at
-first_complete h front rest is = ap (λ f. first_at (f ++ rest)) is.1 ∙ first_again h.«major» h.info rest is.0
-
 both_at_start : (c : Bool) (bs : List ℕ) (e : Refusal) → cond c (refused {A = First × List ℕ} fault.Simple bs) (refused fault.Float bs) ≡ Err e → length bs ≡ e.left
 both_at_start true bs e is = same_left {A = First × List ℕ} (record { «fault» = fault.Simple; left = length bs }) e is
 both_at_start false bs e is = same_left {A = First × List ℕ} (record { «fault» = fault.Float; left = length bs }) e is

@@ -1,7 +1,6 @@
 -- What readers take from the front of bytes.
-use Rattle.std.proofs.Common.{◌≡◌, ℕ, suc, ◌+◌, ◌<◌, List, ◌∷◌, ◌++◌, get_or, take, drop, Ok, sym, ap, ◌∙◌, append_assoc, arith, inl, inr}
-use Rattle.std.proofs.lemmas.Bool.{cases_lt}
-use Rattle.std.proofs.lemmas.List.{length-take, get_or-drop, get_or-take, get_or_past}
+use Rattle.std.proofs.Common.{◌≡◌, ℕ, suc, ◌+◌, ◌<◌, List, ◌∷◌, ◌++◌, get_or, drop, Ok, sym, ap, ◌∙◌, append_assoc}
+use Rattle.std.proofs.lemmas.List.{get_or-drop}
 use Rattle.content_cbor.specs.Inner.Steps.{Reader}
 
 abbrev pub IsBytes : List ℕ → Type 0
@@ -9,13 +8,6 @@ IsBytes bs = (i : ℕ) → get_or bs i 0 < 256
 
 pub IsBytes-drop : (n : ℕ) (bs : List ℕ) → IsBytes bs → IsBytes (drop n bs)
 IsBytes-drop n bs h i = rw get_or-drop (h (n + i))
-
-pub IsBytes-take : (n : ℕ) (bs : List ℕ) → IsBytes bs → IsBytes (take n bs)
-IsBytes-take n bs h i =
-    elim (cases_lt i n) [
-      | inl lt ↦ rw (get_or-take n bs i 0 lt) (h i)
-      | inr le ↦ rw (get_or_past (take n bs) i 0 (omega (arith, length-take n bs))) (omega arith)
-    ]
 
 pub IsBytes-rest : (b : ℕ) (bs : List ℕ) → IsBytes (b ∷ bs) → IsBytes bs
 IsBytes-rest b bs h i = h (suc i)
