@@ -21,7 +21,8 @@ use Rattle.content_cbor.proofs.Read.Parts.{Begins, Ends, copies, each_placed, ea
 use Rattle.content_cbor.proofs.Read.Numbers.{in_range_is}
 use Rattle.content_cbor.proofs.Read.Shrinks.{Advances, advances_item, advances_pair}
 use Rattle.content_cbor.proofs.Read.Heads.{HeadIn, HeadOf, NumberedHead, head_is, head_placed, head_sound, numbered}
-use Rattle.content_cbor.proofs.Read.Strings.{StringBody, some_string, spaces, string_placed, string_sound, string_whole}
+use Rattle.content_cbor.proofs.Read.Strings.{StringBody, some_string, string_placed, string_sound, string_whole}
+use Rattle.content_cbor.proofs.Read.Utf8.{spaces}
 use Rattle.content_cbor.proofs.Read.Tags.{IsTag, Numbered, nothing_under, tag_placed, tag_sound}
 
 -- a tree, by what stands behind a head

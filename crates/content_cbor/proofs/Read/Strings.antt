@@ -1,11 +1,10 @@
 -- Texts and bytes that are read.
-use Rattle.std.proofs.Common.{◌≡◌, ℕ, suc, zero, ◌-◌, ◌<◌, ◌≤◌, Bool, true, false, cond, eqb, ltb, List, [], ◌∷◌, ◌++◌, get_or, length, take, drop, Option, Some, None, Ok, Err, ◌⊎◌, refl, sym, ap, subst, ◌∙◌, append_assoc, append-nil, arith, length-append, inl, inr}
+use Rattle.std.proofs.Common.{◌≡◌, ℕ, ◌-◌, ◌<◌, ◌≤◌, Bool, true, false, cond, eqb, ltb, List, [], ◌∷◌, ◌++◌, length, take, drop, Option, Some, None, Ok, Err, ◌⊎◌, refl, sym, ap, subst, ◌∙◌, append_assoc, append-nil, arith, length-append, inl, inr}
 use Rattle.std.specs.List.{concat}
-use Rattle.std.specs.Str.{IsAscii, IsUtf8}
+use Rattle.std.specs.Str.{IsUtf8}
 use Rattle.std.specs.Int.{to_be_bytes}
 use Rattle.std.proofs.lemmas.Bool.{ltb-false, ltb-true, le-ltb, lt-ltb, ne_eqb}
-use Rattle.std.proofs.lemmas.List.{take_at, drop_at, take-append-drop, length-take, get_or_past}
-use Rattle.std.proofs.lemmas.Str.{IsUtf8-from_ascii}
+use Rattle.std.proofs.lemmas.List.{take_at, drop_at, take-append-drop, length-take}
 use Rattle.content_tree.specs.Values.Text.{Text, owned_text, static_name}
 use Rattle.content_cbor.specs.Heads.{code, first_byte}
 use Rattle.content_cbor.specs.Codes.{IsContent, IsHead, IsPiece, IsString, info_of, width_of}
@@ -24,7 +23,7 @@ use Rattle.content_cbor.proofs.Read.Begun.{Before, Opens, PlacedBehind, at_start
 use Rattle.content_cbor.proofs.Read.Numbers.{Fair, IsByte, unbounded_fair}
 use Rattle.content_cbor.proofs.Read.Shrinks.{advances_chunk}
 use Rattle.content_cbor.proofs.Read.Heads.{Admitted, Argument, HeadOf, Says, Starts, argument_admitted, argument_complete, argument_placed, argument_sound, below_28, first_again, first_and, first_placed, first_sound, high_info, long_is, numbered, of_head}
-use Rattle.content_cbor.proofs.Read.Utf8.{text_complete, text_placed, text_sound}
+use Rattle.content_cbor.proofs.Read.Utf8.{so_many, spaces, spaces_text, text_complete, text_placed, text_sound}
 
 pub not_simple : (t : Bool) → is_simple (string_major t) ≡ false
 not_simple true = refl
@@ -94,21 +93,8 @@ unfolding content_at
 content_complete false x rest is = bytes_complete x rest
 content_complete true x rest is = text_complete x rest is
 
-abbrev pub spaces : ℕ → List ℕ
-spaces zero = []
-spaces (suc n) = 32 ∷ spaces n
-
-so_many : (n : ℕ) → length (spaces n) ≡ n
-so_many zero = refl
-so_many (suc n) = ap suc (so_many n)
-
-spaces_ascii : (n : ℕ) → IsAscii (spaces n)
-spaces_ascii zero i = let none : get_or [] i 0 ≡ 0 = get_or_past {X = ℕ} [] i 0 (omega arith) in omega (arith, none)
-spaces_ascii (suc n) zero = omega arith
-spaces_ascii (suc n) (suc i) = spaces_ascii n i
-
 spaces_content : (t : Bool) (n : ℕ) → IsContent (string_major t) (spaces n)
-spaces_content true n = IsUtf8-from_ascii (spaces n) (spaces_ascii n)
+spaces_content true n = spaces_text n
 spaces_content false n = tt
 
 -- content of this length

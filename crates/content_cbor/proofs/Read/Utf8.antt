@@ -1,18 +1,17 @@
 -- Texts byte by byte.
-use Rattle.std.proofs.Common.{◌≡◌, ℕ, zero, suc, ◌+◌, ◌-◌, ◌*◌, ◌/◌, ◌%◌, ◌<◌, ◌≤◌, Bool, true, false, cond, eqb, ltb, leb, ◌&&◌, List, [], ◌∷◌, ◌++◌, length, Option, Some, None, Result, Ok, Err, ◌⊎◌, refl, inl, inr, sym, ap, subst, ◌∙◌, arith, append_assoc, append-nil, length-append}
+use Rattle.std.proofs.Common.{◌≡◌, ℕ, zero, suc, ◌+◌, ◌-◌, ◌*◌, ◌/◌, ◌%◌, ◌<◌, ◌≤◌, Bool, true, false, cond, eqb, ltb, leb, ◌&&◌, List, [], ◌∷◌, ◌++◌, length, Option, Some, None, Ok, Err, ◌⊎◌, refl, inl, inr, sym, ap, subst, ◌∙◌, arith, append_assoc, append-nil, length-append}
 use Rattle.std.specs.Char.{IsScalar, encode_utf8}
 use Rattle.std.specs.Str.{IsUtf8, all_scalars, encode_utf8_all, continuation_len}
 use Rattle.std.specs.Str.Lossy.{second_byte_min, second_byte_max}
 use Rattle.std.proofs.lemmas.Bool.{cases_lt, and_parts, lt-ltb, le-ltb, le-leb, ne_eqb, ltb-true, ltb-false, leb-true, eqb-true, eqb-false}
 use Rattle.std.proofs.Math.Utf8.{scalar, scalar_cases}
 use Rattle.std.proofs.lemmas.Str.{IsUtf8-append, IsUtf8-encode, IsUtf8-nil, encode_ascii}
-use Rattle.content_cbor.specs.declared.decode_error.Fault.{Fault}
 use Rattle.content_cbor.specs.declared.decode_error.Fault.TheVariants as fault
 use Rattle.content_cbor.specs.declared.stop.Refusal.{Refusal}
 use Rattle.content_cbor.specs.Inner.Steps.{◌>>=◌, or_refused}
 use Rattle.content_cbor.specs.declared.utf8.Lack.{Lack}
 use Rattle.content_cbor.specs.Inner.Texts.{after_byte, after_first, tail, text_at, within}
-use Rattle.content_cbor.proofs.Read.Steps.{ok_is, bind_ok, chosen, there}
+use Rattle.content_cbor.proofs.Read.Steps.{ok_is, bind_err, bind_ok, chosen, not_there, same_left, there}
 
 -- ---- the bytes of a character
 
@@ -225,21 +224,6 @@ begun_next pre l b next begun e = by l.count refl e
 
 -- ---- what was read
 
-abbrev not_done : (A : Type 0) → Refusal → Result A Refusal
-not_done A e = Err e
-
-err_is : {A : Type 0} (d e : Refusal) → not_done A d ≡ not_done A e → d ≡ e
-err_is d e is = cc
-
-bind_err : {A B : Type 0} (r : Result A Refusal) (f : A → Result B Refusal) (e : Refusal) → (r >>= f) ≡ Err e
-    → (r ≡ Err e) ⊎ ((x : A) × (r ≡ Ok x) × (f x ≡ Err e))
-bind_err (Ok x) f e is = inr (x, refl, is)
-bind_err {A} {B} (Err d) f e is = inl (ap (not_done A) (err_is {A = B} d e is))
-
-not_there : {A : Type 0} (f : Fault) (left : List ℕ) (o : Option A) (e : Refusal) → or_refused f left o ≡ Err e → e.left ≡ length left
-not_there {A} f left None e is = ap (λ r. r.left) (sym (err_is {A = A} (record { «fault» = f; left = length left }) e is))
-not_there f left (Some y) e is = absurd cc
-
 within_said : (n : ℕ) (o : Option Lack) (next : Lack) → within n o ≡ Some next → (o ≡ Some next) × (next.count ≤ n)
 within_said n None next e = absurd cc
 within_said n (Some l) next e = elim (chosen (ltb n l.count) None (Some l) (Some next) e) [
@@ -366,15 +350,15 @@ text_complete x rest is = subst (Reads rest) is.1.1 (complete_from is.0 rest is.
 
 -- ---- what stands before a refusal, and what makes a text of it
 
-abbrev spaces : ℕ → List ℕ
+abbrev pub spaces : ℕ → List ℕ
 spaces zero = []
 spaces (suc n) = 32 ∷ spaces n
 
-so_many : (n : ℕ) → length (spaces n) ≡ n
+pub so_many : (n : ℕ) → length (spaces n) ≡ n
 so_many zero = refl
 so_many (suc n) = ap suc (so_many n)
 
-spaces_text : (n : ℕ) → IsUtf8 (spaces n)
+pub spaces_text : (n : ℕ) → IsUtf8 (spaces n)
 spaces_text zero = IsUtf8-nil
 spaces_text (suc n) = IsUtf8-append (32 ∷ []) (spaces n) (char_one 32 (omega arith)) (spaces_text n)
 
@@ -413,10 +397,10 @@ placed_from : (l : Lack) (n : ℕ) (bs : List ℕ) (e : Refusal) (pre : List ℕ
 unfolding text_at
 placed_from l zero bs e pre begun le is = absurd cc
 placed_from l (suc n) [] e pre begun le is =
-    before_none l (suc n) [] pre e.left begun le (ap (λ r. r.left) (sym (err_is {A = List ℕ × List ℕ} (record { «fault» = fault.Ended; left = 0 }) e is)))
+    before_none l (suc n) [] pre e.left begun le (sym (same_left {A = List ℕ × List ℕ} (record { «fault» = fault.Ended; left = 0 }) e is))
 placed_from l (suc n) (b ∷ bs) e pre begun le is =
     elim (bind_err (or_refused fault.NotUtf8 (b ∷ bs) (within n (after_byte l b))) (λ next. text_at next n bs >>= λ y. Ok (b ∷ y.0, y.1)) e is) [
-      | inl w ↦ before_none l (suc n) (b ∷ bs) pre e.left begun le (not_there fault.NotUtf8 (b ∷ bs) (within n (after_byte l b)) e w)
+      | inl w ↦ before_none l (suc n) (b ∷ bs) pre e.left begun le (sym (not_there fault.NotUtf8 (b ∷ bs) (within n (after_byte l b)) e w))
       | inr a ↦ elim (bind_err (text_at a.0 n bs) (λ y. Ok (b ∷ y.0, y.1)) e a.2) [
         | inl w ↦
             let next = within_said n (after_byte l b) a.0 (there fault.NotUtf8 (b ∷ bs) (within n (after_byte l b)) a.0 a.1) in
