@@ -1,9 +1,9 @@
 #!/usr/bin/env bash
 # checks/cbor.sh [SEED]: makes 10,000 random values with Debian's python3-cbor2, half of them in its own coding and half
 # with longer heads, chunks and lengths that aren't said, and compares what cbor_cli prints of each, the value and its
-# shortest coding, with what cbor2 says. Then it damages them, and compares where cbor_cli refuses each of 20,000 with
-# what a scanner in Python says. It stands outside the gate, on what `rt ci` leaves in crates/cbor_cli/out, and takes
-# seconds.
+# shortest coding, with what cbor2 says. Then it makes 20,000 lines, half of them such values damaged and half random
+# bytes, and compares whether and where cbor_cli refuses each with what a scanner in Python says. It stands outside the
+# gate, on what `rt ci` leaves in crates/cbor_cli/out, and takes seconds.
 set -eu
 top=$(cd "$(dirname "$0")/.." && pwd)
 room=$(mktemp -d)

@@ -1,4 +1,4 @@
-"""Damaged bytes of CBOR, where cbor_cli must refuse them, and how its answers differ.
+"""Damaged values and random bytes, where cbor_cli must refuse them, and how its answers differ.
 
 places.py make SEED COUNT FOLDER: writes FOLDER/damaged, as many lines of hexadecimal digits: lines of FOLDER/input
 with bytes cut, changed or put in between, and bytes of which many begin something.
@@ -182,7 +182,7 @@ def compare(folder):
         if not same:
             differ += 1
             print(f"{data.hex()}: {answer[:80]}, not {begins or 'accepted'}")
-    print(f"{len(inputs)} damaged values, {refused} of them refused: {differ} places differ")
+    print(f"{len(inputs)} damaged or random, {refused} of them refused: {differ} differ")
     sys.exit(differ > 0)
 
 
