@@ -8,7 +8,7 @@ use std::alloc::{AllocError, Global};
 /// How deep items may stand in one another.
 const DEPTH_LIMIT: usize = 128;
 
-/// The value as it prints and, behind a tab, its bytes in as few as can be.
+/// The value as it prints and, behind a tab, the bytes that are written of it.
 pub fn written(alloc: Global, value: &Value<'_>) -> Result<String, AllocError> {
     let mut text = format!(in alloc; "{}\t", value.display())?;
     // Only out of memory keeps them back.

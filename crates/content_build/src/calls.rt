@@ -62,7 +62,7 @@ pub fn from_calls<'v>(alloc: Global, calls: &[Call<'_>]) -> Result<Value<'v>, Ca
     ensures answer { IsAnswer (events_of calls.now) result }
     // what spells a tree is taken
     ensures whole { (t : Tree) → SpellsWhole (events_of calls.now) t → IfTaken result t }
-    // the first call after which no whole list can follow is out of place
+    // the first call with which they begin no whole list is out of place
     ensures misplaced { (at : ℕ) → IsRefusal (events_of calls.now) at Misplaced
         → IfRefused result Misplaced at }
     // what could go on to spell a tree, and spells none, is unfinished
@@ -100,7 +100,7 @@ pub fn from_calls_within<'v>(
     // what spells a tree within the limit is taken
     ensures whole { (t : Tree) → SpellsWithin (Some limit) (events_of calls.now) t
         → IfTaken result t }
-    // the first call after which no list that is whole within the limit can follow is out of place
+    // the first call with which they begin no list that is whole within the limit is out of place
     ensures misplaced { (at : ℕ) → IsRefusalWithin (Some limit) (events_of calls.now) at Misplaced
         → IfRefused result Misplaced at }
     // what could go on to spell a tree within the limit, and spells none, is unfinished

@@ -64,7 +64,7 @@ pub fn from_calls_prefix<'v>(
     // a beginning that spells a tree is taken
     ensures whole { (n : ℕ) (t : Tree) → SpellsFirst (events_of calls.now) n t
         → IfCut result n t }
-    // where none spells one, the first call after which no whole list can follow is out of place
+    // where none spells one, the first call with which they begin no whole list is out of place
     ensures misplaced { (at : ℕ) → NoCut (events_of calls.now)
         → IsRefusal (events_of calls.now) at Misplaced → IfRefused result Misplaced at }
     // where none spells one, what could go on to spell one is unfinished

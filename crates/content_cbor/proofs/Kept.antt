@@ -4,8 +4,8 @@ use Rattle.content_tree.specs.Values.Tree as tree
 use Rattle.content_tree.specs.Values.Tree.{Tree}
 use Rattle.content_tree.specs.Values.Value.{trees_of, pairs_of}
 use Rattle.content_cbor.specs.Codes.{Codes, Each, IsItem, IsPair, Parts}
-use Rattle.content_cbor.specs.Form.{depth, each_depth, pair_depths}
-use Rattle.content_cbor.specs.Laws.{LimitsAreKept, LimitsWiden}
+use Rattle.content_cbor.specs.Form.{depth, each_depth, each_form, form, pair_depths, pair_forms}
+use Rattle.content_cbor.specs.Laws.{FormsKeepLimits, LimitsAreKept, LimitsWiden}
 use Rattle.content_cbor.specs.declared.heads.Major.{Major}
 use Rattle.content_cbor.specs.declared.heads.Major.TheVariants as major
 use Rattle.content_cbor.proofs.Read.Whole.{one_tree}
@@ -53,6 +53,48 @@ kept_by limit kept bs (tree.tuple ts) w = absurd w
 pub limits_kept : LimitsAreKept
 limits_kept zero bs t w = absurd w
 limits_kept (suc limit) bs t w = kept_by limit (limits_kept limit) bs t w
+
+-- ---- forms
+
+-- the form of what is coded within a limit keeps it
+abbrev FormKept : ℕ → Type 0
+FormKept limit = (bs : List ℕ) (t : Tree) → Codes limit t bs → depth (form t) ≤ limit
+
+each_form_kept : (limit : ℕ) → FormKept limit → (xs : List Tree) (bs : List ℕ) → Each (Codes limit) xs bs → each_depth (each_form (trees_of xs)) ≤ limit
+each_form_kept limit kept [] bs w = omega arith
+each_form_kept limit kept (x ∷ xs) bs w = omega (arith, kept w.0 x w.2, each_form_kept limit kept xs w.1 w.3)
+
+pair_forms_kept : (limit : ℕ) → FormKept limit → (xs : List (Tree × Tree)) (bs : List ℕ) → Each (IsPair (Codes limit)) xs bs
+    → pair_depths (pair_forms (pairs_of xs)) ≤ limit
+pair_forms_kept limit kept [] bs w = omega arith
+pair_forms_kept limit kept (x ∷ xs) bs w =
+    let pair : IsPair (Codes limit) x w.0 = w.2 in
+    omega (arith, kept pair.0 x.0 pair.2, kept pair.1 x.1 pair.3, pair_forms_kept limit kept xs w.1 w.3)
+
+form_kept_by : (limit : ℕ) → FormKept limit → FormKept (suc limit)
+form_kept_by limit kept bs tree.absent w = omega arith
+form_kept_by limit kept bs (tree.boolean b) w = omega arith
+form_kept_by limit kept bs (tree.number n) w = omega arith
+form_kept_by limit kept bs (tree.text x) w = omega arith
+form_kept_by limit kept bs (tree.octets x) w = omega arith
+form_kept_by limit kept bs (tree.seq ts) w =
+    let body = body_of major.Array (Codes limit) w.0 bs w.2 in
+    let le : each_depth (each_form (trees_of w.0)) ≤ limit = each_form_kept limit kept w.0 body.0 body.1 in
+    subst (λ us. suc (each_depth (each_form us)) ≤ suc limit) (sym w.1) (omega (arith, le))
+form_kept_by limit kept bs (tree.map ps) w =
+    let body = body_of major.Map (IsPair (Codes limit)) w.0 bs w.2 in
+    let le : pair_depths (pair_forms (pairs_of w.0)) ≤ limit = pair_forms_kept limit kept w.0 body.0 body.1 in
+    subst (λ us. suc (pair_depths (pair_forms us)) ≤ suc limit) (sym w.1) (omega (arith, le))
+form_kept_by limit kept bs tree.unit w = absurd w
+form_kept_by limit kept bs (tree.character c) w = absurd w
+form_kept_by limit kept bs (tree.present t) w = absurd w
+form_kept_by limit kept bs (tree.structure n d) w = absurd w
+form_kept_by limit kept bs (tree.enumeration n i v d) w = absurd w
+form_kept_by limit kept bs (tree.tuple ts) w = absurd w
+
+pub forms_kept : FormsKeepLimits
+forms_kept zero bs t w = absurd w
+forms_kept (suc limit) bs t w = form_kept_by limit (forms_kept limit) bs t w
 
 -- ---- greater limits
 

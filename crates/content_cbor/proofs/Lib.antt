@@ -5,5 +5,6 @@ pub mod Read
 pub mod Coded
 pub mod Forms
 pub mod Kept
+pub mod Shortest
 pub mod Streamed
 pub mod Texts

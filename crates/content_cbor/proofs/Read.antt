@@ -15,4 +15,5 @@ pub mod Items
 pub mod Whole
 pub mod Inside
 pub mod Bytewise
+pub mod Ends
 pub mod Place

@@ -1,5 +1,5 @@
 -- What decoding answers.
-use Rattle.std.specs.Prelude.{◌≡◌, ◌⊎◌, ◌<◌, ◌≤◌, ◌+◌, true, false, ℕ, ◌-◌, List, ◌++◌, length, take, Result, Ok, Err}
+use Rattle.std.specs.Prelude.{◌≡◌, ◌⊎◌, ◌↔◌, ◌<◌, ◌≤◌, ◌+◌, true, false, ℕ, ◌-◌, List, ◌++◌, length, take, Result, Ok, Err}
 use Rattle.content_tree.specs.Errors.Kind.{IsOutOfMemory}
 use Rattle.content_tree.specs.Values.Tree.{Tree}
 use Rattle.content_tree.specs.Values.Value.{tree_of}
@@ -11,6 +11,7 @@ use Rattle.content_cbor.specs.Codes.{Codes}
 use Rattle.content_cbor.specs.Inner.Reading.{whole_at}
 use Rattle.content_cbor.specs.PrintedFault.{error_text}
 use Rattle.content_cbor.specs.declared.decode_error.Fault.{Fault}
+use Rattle.content_cbor.specs.declared.decode_error.Fault.TheVariants as fault
 use Rattle.content_cbor.specs.declared.decode_error.DecodeError.{DecodeError}
 use Rattle.content_cbor.specs.declared.decode_error.DecodeError.TheVariants as error
 use Rattle.content_cbor.specs.declared.stop.Refusal.{Refusal}
@@ -35,12 +36,13 @@ StopsAt bs (error.Refused at f) read = (left : ℕ)
 abbrev pub IsViable : ℕ → List ℕ → Type 0
 IsViable limit bs = (t : Tree) × (rest : List ℕ) × Codes limit t (bs ++ rest)
 
--- refused at the first byte with which nothing is viable any more, or at the end
+-- refused at the first byte with which nothing is viable any more, or at the end, where it ended
 abbrev pub IsPlaced : ℕ → List ℕ → DecodeError → Type 0
 IsPlaced limit bs error.OutOfMemory = Unit {0}
 IsPlaced limit bs (error.Refused at f) = (at ≤ length bs)
     × (0 < limit → IsViable limit (take at bs))
     × (at < length bs → ¬ IsViable limit (take (at + 1) bs))
+    × ((f ≡ fault.Ended) ↔ (at ≡ length bs))
 
 -- a tree as typed data is read of it: for no people, with numbers coerced
 abbrev pub as_read : Tree → Subject

@@ -1,13 +1,15 @@
 -- What holds of all items.
-use Rattle.std.specs.Prelude.{◌≡◌, ◌≤◌, ℕ, List, [], Some}
+use Rattle.std.specs.Prelude.{◌≡◌, ◌≤◌, ℕ, List, [], length, Some}
 use Rattle.content_tree.specs.Values.Tree.{Tree}
 use Rattle.content_ser.specs.Calls.Event.{Event}
 use Rattle.content_ser.specs.Grammar.Spells.{SpellsWhole}
 use Rattle.content_ser.specs.Serializers.Step.{run}
-use Rattle.content_cbor.specs.Codes.{Codes}
+use Rattle.content_cbor.specs.Codes.{Codes, IsHead}
 use Rattle.content_cbor.specs.Encoder.{Written, nothing, step}
 use Rattle.content_cbor.specs.Form.{form, depth, CodesForm, Fits}
+use Rattle.content_cbor.specs.Heads.{head}
 use Rattle.content_cbor.specs.Item.{item}
+use Rattle.content_cbor.specs.declared.heads.Major.{Major}
 
 -- no bytes code two trees
 abbrev pub OneTree : Type 0
@@ -25,6 +27,14 @@ LimitsAreKept = (limit : ℕ) (bytes : List ℕ) (t : Tree) → Codes limit t by
 abbrev pub LimitsWiden : Type 0
 LimitsWiden = (limit greater : ℕ) (bytes : List ℕ) (t : Tree) → limit ≤ greater
     → Codes limit t bytes → Codes greater t bytes
+
+-- the form of what bytes code within a limit keeps the limit too
+abbrev pub FormsKeepLimits : Type 0
+FormsKeepLimits = (limit : ℕ) (bytes : List ℕ) (t : Tree) → Codes limit t bytes → depth (form t) ≤ limit
+
+-- no head is shorter than the one that is written
+abbrev pub HeadsAreShort : Type 0
+HeadsAreShort = (m : Major) (n : ℕ) (bytes : List ℕ) → IsHead m n bytes → length (head m n) ≤ length bytes
 
 -- a form is its own form
 abbrev pub FormsStay : Type 0

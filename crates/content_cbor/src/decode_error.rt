@@ -26,8 +26,8 @@ pub enum Fault {
     Tag,
     /// A number past 128 bits.
     TooWide,
-    /// What can't stand under a tag, or as a chunk of a text or of bytes of unknown length; a break
-    /// under a tag too.
+    /// What can't stand under a tag, or as a chunk of a text or of bytes of indefinite length; a
+    /// break under a tag too.
     Misplaced,
     /// A text that is no UTF-8.
     NotUtf8,
@@ -60,8 +60,8 @@ pub enum DecodeError {
     OutOfMemory,
     /// What is wrong with the bytes, and where.
     Refused {
-        /// The place, counted from 0: of the first byte after which none can follow that make an
-        /// item within the limit; the length, where they can follow, but are missing.
+        /// The place, counted from 0: of the first byte with which they begin no item within the
+        /// limit; the length, where they begin one, but end inside it.
         at: usize,
         /// What is wrong.
         fault: Fault,

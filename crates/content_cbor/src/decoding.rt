@@ -23,19 +23,21 @@ use std::alloc::Global;
 /// The value that bytes of CBOR code: one data item, and nothing behind it.
 ///
 /// A number is of 64 bits where it has room there, and else of 128; null is `None`; an array is a
-/// sequence, a map a map, with every pair in order. Texts and bytes of a known length are borrowed
-/// from the bytes, others are owned. Heads may be longer than they need be, lengths unknown.
+/// sequence, a map a map, with every pair in order. Texts and bytes of a definite length are
+/// borrowed from the bytes, others are owned. Heads may be longer than they need be, lengths
+/// indefinite.
 ///
 /// `depth_limit` bounds how deep items stand in one another, and so the stack that is taken; the
 /// item's own depth is 1, and a limit of 0 refuses everything. Memory is taken for what holds
-/// parts, as it is read, and for texts and bytes of unknown length; numbers under a tag take none,
-/// and a length alone reserves none.
+/// parts, as it is read, and for texts and bytes of indefinite length; numbers under a tag take
+/// none, and a length alone reserves none.
 ///
 /// # Errors
 ///
-/// `Refused` for bytes that code no value: at the first byte after which none can follow that make
-/// one, or at their end, with [what is wrong](Fault) there. Floats, simple values other than false,
-/// true and null, tags other than 2 and 3 and numbers past 128 bits are faults too. `OutOfMemory`.
+/// `Refused` for bytes that code no value: at the first byte with which they begin no item within
+/// the limit, or at their end, with [what is wrong](Fault) there. Floats, simple values other than
+/// false, true and null, tags other than 2 and 3 and numbers past 128 bits are faults too.
+/// `OutOfMemory`.
 ///
 /// ```rust
 /// let value = decode(alloc, &[0x82, 0x01, 0x61, b'a'], 16)?;
@@ -63,8 +65,8 @@ pub fn decode<'de>(
 ///
 /// # Errors
 ///
-/// Those of `decode`, but that bytes behind the item are none. So where the place is the end, more
-/// bytes can make it an item, and elsewhere none can: a reader of a stream waits for no other.
+/// Those of `decode`, but that bytes behind the item are none. So a reader of a stream waits for
+/// more bytes at `Ended` alone, where they can make an item within a limit from 1 on.
 ///
 /// ```rust
 /// let (value, length) = decode_prefix(alloc, &[0x61, b'a', 0x01], 16)?;

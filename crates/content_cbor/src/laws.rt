@@ -1,8 +1,8 @@
 //! What holds of all data items, for those who prove something of what they encode and decode.
 
-ghost use Rattle.content_cbor.specs.Laws.{FormsHaveItems, FormsStay, ItemsCodeForms};
-ghost use Rattle.content_cbor.specs.Laws.{LimitsAreKept, LimitsWiden, OneTree};
-ghost use Rattle.content_cbor.specs.Laws.{WholeTreesAreEncoded};
+ghost use Rattle.content_cbor.specs.Laws.{FormsHaveItems, FormsKeepLimits, FormsStay};
+ghost use Rattle.content_cbor.specs.Laws.{HeadsAreShort, ItemsCodeForms, LimitsAreKept};
+ghost use Rattle.content_cbor.specs.Laws.{LimitsWiden, OneTree, WholeTreesAreEncoded};
 
 /// No bytes code two trees.
 pub fn one_tree()
@@ -17,10 +17,17 @@ pub fn items_code_forms()
 {}
 
 /// Bytes code a tree only within limits that it keeps, so what is deeper is refused; and what they
-/// code within a limit they code within each greater one.
+/// code within a limit they code within each greater one. The form of what they code keeps the
+/// limit too: so what was decoded and is encoded again is decoded within the same limit.
 pub fn limits_are_kept()
     ensures kept { LimitsAreKept }
+    ensures form { FormsKeepLimits }
     ensures widened { LimitsWiden }
+{}
+
+/// No head is shorter than the one that is written.
+pub fn heads_are_short()
+    ensures { HeadsAreShort }
 {}
 
 /// A form is its own form, and has the item of its tree: so what was decoded and is encoded again

@@ -16,7 +16,7 @@ use std::alloc::Global;
 /// value owned.
 ///
 /// The depth of an array or a map is one more than that of the deepest item in it, of any other
-/// item 1. Memory is taken for the bytes, for the value, and for its texts once more.
+/// item 1. Memory is taken for the bytes, for the value, and for its copy that owns all.
 ///
 /// # Errors
 ///

@@ -2,14 +2,14 @@
 -- maps between maps.
 use Rattle.std.proofs.Common.{◌≡◌, Bool, true, false, List, [], ◌∷◌, Option, Some, None, is_some}
 use Rattle.std.proofs.Common.{option_map, refl, ap, sym, subst, ◌∙◌}
-use Rattle.std.specs.Prelude.{IfSome, IsSome, ⊤}
+use Rattle.std.specs.Prelude.{IfSome, IsSome, IsSomeAnd, ⊤}
 use Rattle.serde_content.proofs.Names.{tree_equiv}
 use Rattle.serde_content.specs.Names.Words.{same_tree, pairs_in, Tree}
 use Rattle.serde_content.specs.Names.Tree as tree
 use Rattle.serde_content.specs.Names.Tree.{Pairs, no_pairs, pair_then}
 use Rattle.content_uses.specs.Merged.{has_key, put, merged}
 use Rattle.content_uses.specs.MergingLaws.{behind, IsMap, MapsBetween, KeysOnce, PairsOnce}
-use Rattle.content_uses.specs.MergingLaws.{one_pair, EitherWay, TwiceMatters}
+use Rattle.content_uses.specs.MergingLaws.{one_pair, EitherWay, TwiceBetweenMatters, TwiceMatters}
 use Rattle.content_uses.proofs.Changes.{none_at, put_other}
 use Rattle.content_uses.proofs.InTurn.{both_at, MapBetween, PairsBetween, map_of, in_turn}
 use Rattle.content_uses.proofs.MergingLaws.{at}
@@ -157,4 +157,12 @@ nested (k ∷ path) = by (same_tree tree.unit k) refl
     by false e = rw e tt
 
 pub twice_matters : TwiceMatters
-twice_matters = (λ path above below. nested path, λ e. absurd (cc e))
+twice_matters = ((refl, tt, tt), λ path above below. nested path, λ e. absurd (cc e))
+
+-- an empty map has a map behind no key
+only_root : (path : List Tree) (t : Tree) → IsSome (pairs_in t) → IsSomeAnd (behind path (tree.map no_pairs)) IsMap → IfSome (behind path t) IsMap
+only_root [] t is below = is
+only_root (k ∷ path) t is below = absurd below
+
+pub twice_between_matters : TwiceBetweenMatters
+twice_between_matters = ((refl, tt, tt), λ path above below. only_root path _ refl below, λ e. absurd (cc e))

@@ -74,12 +74,21 @@ EitherWay = (over middle base : Tree) → KeysOnce over → KeysOnce middle
     → MapsBetween over middle base
     → merged (merged over middle) base ≡ merged over (merged middle base)
 
--- where a key stands twice in what is put over, it matters even with maps between maps
+-- where a key stands twice in what is put over, it matters, though the other premises hold
 abbrev pub TwiceMatters : Type 0
 TwiceMatters =
     let empty : Tree = map no_pairs in
     let over : Tree = map (pair_then unit unit (pair_then unit empty no_pairs)) in
     let middle : Tree = one_pair unit empty in
     let base : Tree = one_pair unit (one_pair unit unit) in
-    MapsBetween over middle base
+    KeysOnce middle × MapsBetween over middle base
     × (merged (merged over middle) base ≡ merged over (merged middle base) → ⊥)
+
+-- and so it does where one stands twice in the middle
+abbrev pub TwiceBetweenMatters : Type 0
+TwiceBetweenMatters =
+    let empty : Tree = map no_pairs in
+    let over : Tree = one_pair unit empty in
+    let middle : Tree = map (pair_then unit (one_pair unit unit) (pair_then unit unit no_pairs)) in
+    KeysOnce over × MapsBetween over middle empty
+    × (merged (merged over middle) empty ≡ merged over (merged middle empty) → ⊥)

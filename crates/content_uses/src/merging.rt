@@ -4,7 +4,8 @@ ghost use Rattle.std.specs.Prelude.{◌≡◌, ◌<◌, Some, None, IfOk, IfErr,
 ghost use Rattle.serde_content.specs.Names.Words.{IsOutOfMemory, pairs_in, tree_of, pairs_view};
 ghost use Rattle.content_uses.specs.Merged.{merged, merged_pairs};
 ghost use Rattle.content_uses.specs.MergingLaws.{EmptyChangesNothing, NoMapWins, OverNoMapWins};
-ghost use Rattle.content_uses.specs.MergingLaws.{EitherWay, KeysFind, OrderMatters, TwiceMatters};
+ghost use Rattle.content_uses.specs.MergingLaws.{EitherWay, KeysFind, OrderMatters};
+ghost use Rattle.content_uses.specs.MergingLaws.{TwiceBetweenMatters, TwiceMatters};
 ghost use Rattle.content_uses.specs.Places.{places as places_of, value_at, with_value};
 
 use serde_content::{NamedValue, Result};
@@ -135,13 +136,15 @@ fn set_value<'a, 'n>(
     pair.1 = value;
 }
 
-/// The laws of merging: an empty map changes nothing; what is no map wins whole, and so does what
-/// is put over no map; each key finds what its values, put over one another, come to.
+/// The laws of merging: an empty map changes no map that it is put over; what is no map wins whole,
+/// and so does what is put over no map; each key finds what its values, put over one another, come
+/// to.
 ///
 /// Of three values it doesn't matter which two are merged first, under two premises: no key stands
 /// twice in the two that are put over, and where both outer ones have a map behind a path of keys,
-/// the middle one has a map there or nothing. Otherwise it may matter, as two examples show: one
-/// has something that is no map between two maps, the other a key that stands twice.
+/// the middle one has a map there or nothing. Otherwise it may matter, as an example of each shows:
+/// one has something that is no map between two maps, the others a key that stands twice, in what is
+/// put over or in the middle.
 pub fn merging_laws()
     ensures empty { EmptyChangesNothing }
     ensures whole { NoMapWins }
@@ -150,4 +153,5 @@ pub fn merging_laws()
     ensures either_way { EitherWay }
     ensures order { OrderMatters }
     ensures twice { TwiceMatters }
+    ensures twice_between { TwiceBetweenMatters }
 {}

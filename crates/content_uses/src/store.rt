@@ -25,7 +25,8 @@ use std::result::Result as StdResult;
 /// ```
 ///
 /// They are saved as CBOR, which doesn't keep the kinds of numbers:
-/// [`view_coerced`](Store::view_coerced) reads what was loaded.
+/// [`view_coerced`](Store::view_coerced) reads what was loaded. A character, the unit and a unit
+/// struct are refused then, since they are texts and null by then, and `Some` of null is `None`.
 ///
 /// ```rust
 /// let bytes = store.save(alloc)?;
@@ -77,12 +78,12 @@ impl<'v, 'n: 'v> Store<'v, 'n> {
         Ok(number)
     }
 
-    /// The record of this number, read as a type: one of another type is refused with what was
-    /// found and what was expected.
+    /// The record of this number, of which a copy is read as a type: one of another type is refused
+    /// with what was found and what was expected.
     ///
     /// # Errors
     ///
-    /// The type's refusal; `no such record`; out of memory in the place of either.
+    /// The type's refusal; `no such record`; out of memory.
     pub fn view<T: Deserialize<'v>>(&self, alloc: Global, number: usize) -> Result<T>
         ensures value { (t : Tree) → slice_get (records_of self.now) number ≡ Some t
             → Reads (T.refusal (tree_under no_flags t)) (T.gives (tree_under no_flags t))

@@ -7,6 +7,7 @@ ghost use Rattle.content_ser.specs.Laws.Lists.{OneTree, UniqueCut};
 ghost use Rattle.content_ser.specs.Sending.Canonical.{EqualCalls};
 ghost use Rattle.serde_content.specs.Laws.Lookups.{EqualKeys, JoinedPairs, LastPair, MissingKey};
 
+pub use crate::choosing::tried_in_order;
 pub use content_build::laws::{
     compare_serializers, equal_refusals, equal_serializers, sent_is_listed, steps_are_exact,
 };

@@ -41,7 +41,7 @@ pub fn to_value<'v, 'n, T: Serialize>(
 ///
 /// # Errors
 ///
-/// That of the type's first refusal, which what was sent of it hasn't; out of memory in its place.
+/// That of the type's first refusal, which what was sent of it hasn't; out of memory.
 ///
 /// ```rust
 /// let value = to_value(alloc, &Some(7u8), false)?;

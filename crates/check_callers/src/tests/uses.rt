@@ -4,7 +4,7 @@ use content_uses::merging::merge;
 use content_uses::saving::save_twice;
 use content_uses::store::{Store, put_and_get};
 use serde_content::samples::Point;
-use serde_content::{Result as Answer, Value, value};
+use serde_content::{Deserializer, Result as Answer, Serializer, Value, value};
 use std::test::Fail;
 
 #[test]
@@ -87,6 +87,13 @@ fn configurations_are_merged(rt: HostRuntime) -> Result<(), Fail> {
     let wanted =
         r#"{ "name": "serve", "limits": { "depth": 8u8, "size": 200u8 }, "colour": true }"#;
     assert!(rt; text.as_str() == wanted);
+
+    // A user's settings over typed defaults.
+    let defaults = Serializer::new().serialize(alloc, &Point { x: 1, y: 2 })?;
+    let defaults: Value = Deserializer::new(defaults).deserialize(alloc)?;
+    let merged = merge(alloc, value!(in alloc; { "y": 7i32 })?, defaults)?;
+    let point: Point = Deserializer::new(merged).deserialize(alloc)?;
+    assert!(rt; point == Point { x: 1, y: 7 });
     Ok(())
 }
 

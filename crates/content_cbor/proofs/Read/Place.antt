@@ -1,10 +1,12 @@
 -- The place of a refusal.
 use Rattle.std.proofs.Common.{◌≡◌, ℕ, suc, ◌+◌, ◌-◌, ◌<◌, ◌≤◌, cond, eqb, List, [], ◌∷◌, ◌++◌, length, take, drop, Result, Ok, Err, refl, sym, ap, subst, ◌∙◌, append_assoc, append-nil, arith, length-append, length-drop, inl, inr}
+use Rattle.std.specs.Prelude.{◌↔◌}
 use Rattle.std.proofs.lemmas.List.{take_at, take-append-drop}
 use Rattle.content_tree.specs.Values.Tree.{Tree}
 use Rattle.content_cbor.specs.Codes.{Codes}
 use Rattle.content_cbor.specs.Decoded.{IsPlaced, IsViable, StopsAt}
 use Rattle.content_cbor.specs.declared.decode_error.DecodeError.TheVariants as error
+use Rattle.content_cbor.specs.declared.decode_error.Fault.{Fault}
 use Rattle.content_cbor.specs.declared.decode_error.Fault.TheVariants as fault
 use Rattle.content_cbor.specs.declared.stop.Refusal.{Refusal}
 use Rattle.content_cbor.specs.declared.stop.Stop.{Stop}
@@ -12,6 +14,7 @@ use Rattle.content_cbor.specs.declared.stop.Stop.TheVariants as stop
 use Rattle.content_cbor.specs.Inner.Steps.{Fails, error_in, refused}
 use Rattle.content_cbor.specs.Inner.Reading.{item_at, whole_at}
 use Rattle.content_cbor.proofs.Read.Begun.{Before, Opens, at_start}
+use Rattle.content_cbor.proofs.Read.Ends.{Ends, IsEnd, ends_item, ends_whole}
 use Rattle.content_cbor.proofs.Read.Items.{item_placed, item_sound, nothing_begun}
 use Rattle.content_cbor.proofs.Read.Longer.{Agrees, later, longer_item}
 use Rattle.content_cbor.proofs.Read.Shrinks.{Leaves, advances_item, no_more}
@@ -82,11 +85,19 @@ dead limit bs e at is place before viable =
     let c = caught more e (item_at limit front) (item_at limit (front ++ more)) (longer_item limit front more) (ap (item_at limit) whole ∙ is) past in
     none_begun limit front c.0 c.1 c.2 viable
 
+-- what has ended has its place at the end
+ends_with : {A : Type 0} (r : Result A Refusal) (e : Refusal) → Ends r → r ≡ Err e → IsEnd e
+ends_with r e ends is = subst Ends is ends
+
+at_end : (n : ℕ) (e : Refusal) → e.left ≤ n → IsEnd e → (e.«fault» ≡ fault.Ended) ↔ (n - e.left ≡ n)
+at_end n e le end = (λ is. omega (arith, end.0 is), λ all. end.1 (omega (arith, all, le)))
+
 placed : (limit : ℕ) (bs : List ℕ) (e : Refusal) → IsBytes bs → item_at limit bs ≡ Err e → IsPlaced limit bs (error.Refused (length bs - e.left) e.«fault»)
 placed limit bs e fits is = (
   omega arith,
   λ deep. before_viable limit bs e.left (length bs - e.left) (begun_before limit bs e fits is deep) refl,
   λ before viable. dead limit bs e (length bs - e.left) is refl before (one_more limit (length bs - e.left) bs viable),
+  at_end (length bs) e (left_within limit bs e is) (ends_with (item_at limit bs) e (ends_item limit bs) is),
 )
 
 pub item_is_placed : (limit : ℕ) (bs : List ℕ) (s : Stop) → IsBytes bs → Fails s (item_at limit bs) → IsPlaced limit bs (error_in bs s)
@@ -133,7 +144,9 @@ whole_placed limit bs e fits is =
             let i = item_sound limit bs a.0.0 a.0.1 fits a.1 in
             let same = same_refusal {A = Tree} (record { «fault» = fault.Trailing; left = length a.0.1 }) e w.1 in
             let t = trailing limit bs a.0.0 i.front a.0.1 (length bs - e.left) i.part i.split (ap (λ (u : Refusal). length bs - u.left) (sym same)) in
-            (omega arith, λ deep. t.0, λ before viable. t.1 before (one_more limit (length bs - e.left) bs viable))
+            let le : e.left ≤ length bs = omega (arith, ap length i.split, length-append i.front a.0.1, ap (λ (u : Refusal). u.left) same) in
+            let end : IsEnd e = ends_with (whole_at limit bs) e (ends_whole limit bs) is in
+            (omega arith, λ deep. t.0, λ before viable. t.1 before (one_more limit (length bs - e.left) bs viable), at_end (length bs) e le end)
       ]
     ]
 

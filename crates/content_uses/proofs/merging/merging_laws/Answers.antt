@@ -1,5 +1,5 @@
 use Rattle.std.proofs.Common.{refl}
-use Rattle.content_uses.proofs.EitherWay.{either_way, twice_matters}
+use Rattle.content_uses.proofs.EitherWay.{either_way, twice_between_matters, twice_matters}
 use Rattle.content_uses.proofs.MergingLaws.{keys_find, no_map_wins, over_no_map_wins}
 use Rattle.content_uses.proofs.merging.merging_laws.Goals as goal
 
@@ -12,4 +12,5 @@ returns c = record {
   either_way = either_way;
   order = λ e. absurd (cc e);
   twice = twice_matters;
+  twice_between = twice_between_matters;
 }
