@@ -14,12 +14,13 @@ room=$(cd "$1" && pwd)
 # shellcheck source=bench/common.sh
 . "$here/common.sh"
 
-place_ours content_deep "$here/depth/content_deep" 'content_deep: content_build content_ser content_tree'
+place_ours content_deep "$here/depth/content_deep" \
+    'content_deep: content_build content_cbor content_de content_ser content_tree content_uses'
 deep=$room/ours/crates/content_deep
 (cd "$deep" && rt run --jobs 1 -- drop some 1) > "$room/ours.log" 2>&1 \
     || { tail -n 5 "$room/ours.log"; exit 1; }
 echo ours
-python3 "$here/depth/bisect.py" "$deep/out/content_deep"
+python3 "$here/depth/bisect.py" "$deep/out/content_deep" ours
 
 [ $# -gt 1 ] || exit 0
 place_original "$2" "$here/depth/driver"

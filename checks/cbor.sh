@@ -1,9 +1,10 @@
 #!/usr/bin/env bash
 # checks/cbor.sh [SEED]: makes 10,000 random values with Debian's python3-cbor2, half of them in its own coding and half
-# with longer heads, chunks and lengths that aren't said, and compares what cbor_cli prints of each, the value and its
-# shortest coding, with what cbor2 says. Then it makes 20,000 lines, half of them such values damaged and half random
-# bytes, and compares whether and where cbor_cli refuses each with what a scanner in Python says. It stands outside the
-# gate, on what `rt ci` leaves in crates/cbor_cli/out, and takes seconds.
+# with longer heads, chunks and indefinite lengths, and compares what cbor_cli prints of each, the value and its
+# shortest coding, with what cbor2 says. Then it makes 10,000 random trees as lines of calls, and compares the bytes
+# that cbor_cli writes of each with those that cbor2 writes. Last it makes 20,000 lines, half of them the values above
+# damaged and half random bytes, and compares whether and where cbor_cli refuses each with what a scanner in Python
+# says. It stands outside the gate, on what `rt ci` leaves in crates/cbor_cli/out, and takes seconds.
 set -eu
 top=$(cd "$(dirname "$0")/.." && pwd)
 room=$(mktemp -d)
@@ -12,6 +13,9 @@ trap 'rm -rf "$room"' EXIT
 /usr/bin/python3 "$top/checks/cbor/values.py" make "${1:-1}" 10000 "$room"
 "$top/crates/cbor_cli/out/cbor_cli" < "$room/input" > "$room/answers"
 /usr/bin/python3 "$top/checks/cbor/values.py" compare "$room"
+/usr/bin/python3 "$top/checks/cbor/values.py" make_trees "${1:-1}" 10000 "$room"
+"$top/crates/cbor_cli/out/cbor_cli" < "$room/calls" > "$room/written"
+/usr/bin/python3 "$top/checks/cbor/values.py" compare_trees "$room"
 /usr/bin/python3 "$top/checks/cbor/places.py" make "${1:-1}" 20000 "$room"
 "$top/crates/cbor_cli/out/cbor_cli" < "$room/damaged" > "$room/refusals"
 /usr/bin/python3 "$top/checks/cbor/places.py" compare "$room"

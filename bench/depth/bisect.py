@@ -1,11 +1,12 @@
 #!/usr/bin/env python3
-"""bisect.py PROGRAM: the greatest depth of each operation at each kind of nesting, found by halving,
+"""bisect.py PROGRAM [ours]: the greatest depth of each operation at each kind of nesting, found by halving,
 on a stack of 8 MB: the program does one operation on so many levels, and writes 'done' at its end."""
 
 import subprocess
 import sys
 
 OPERATIONS = ["drop", "try_clone", "into_owned", "into_found", "print", "==", "cmp", "{:?}", "serialize"]
+OURS = ["encode", "decode", "merge", "Value"]
 KINDS = ["some", "seq", "tuple", "map_value", "map_key", "newtype_struct", "tuple_struct", "struct",
          "newtype_variant", "tuple_variant", "struct_variant"]
 MOST = 1 << 16
@@ -34,10 +35,10 @@ def greatest(program, operation, kind):
 
 
 def main():
-    program = sys.argv[1]
-    print(f"{'':16}" + "".join(f"{operation:>12}" for operation in OPERATIONS))
+    program, operations = sys.argv[1], OPERATIONS + OURS * (len(sys.argv) > 2)
+    print(f"{'':16}" + "".join(f"{operation:>12}" for operation in operations))
     for kind in KINDS:
-        depths = [greatest(program, operation, kind) for operation in OPERATIONS]
+        depths = [greatest(program, operation, kind) for operation in operations]
         print(f"{kind:16}" + "".join(f"{depth:12}" for depth in depths), flush=True)
 
 

@@ -2,14 +2,36 @@
 
 values.py make SEED COUNT FOLDER: writes FOLDER/input, a line of hexadecimal digits for each value, and FOLDER/wanted.
 values.py compare FOLDER: compares FOLDER/answers with FOLDER/wanted, and ends with status 1 where a line differs.
+
+Random trees of Serde's data model as serialiser calls, and what CBOR must be written of each:
+
+values.py make_trees SEED COUNT FOLDER: writes FOLDER/calls, the lines of calls of each tree, with an empty line behind
+some trees, where a refusal ends; and FOLDER/trees, a line for each tree: its bytes and its calls, parted by tabs.
+values.py compare_trees FOLDER: compares the bytes in FOLDER/written with FOLDER/trees, and ends with status 1 where
+those of a tree differ.
+
+cbor2 writes all bytes that are wanted. Since Python's maps hold no equal keys, nor lists and maps as keys, the maps
+and structs of trees are `Pairs`, of which cbor2 is told to write a map's head and then each key and value.
 """
 
+import itertools
 import random
 import sys
 
 import cbor2
 
 ESCAPES = {'"': '\\"', "\\": "\\\\", "\t": "\\t", "\n": "\\n", "\r": "\\r", "\0": "\\0"}
+
+# What lines of calls may name, and the words of calls that begin a tree.
+NAMES = ["Foo", "Bar", "Baz", "Point", "bar", "baz", "x", "y"]
+KINDS = [f"{sign}{size}" for sign in "iu" for size in (8, 16, 32, 64, 128)]
+PLAIN = ["bool", "number", "number", "number", "char", "str", "str", "bytes", "unit", "none"]
+EMPTY = ["unit_struct", "unit_variant"]
+AROUND = ["some", "newtype_struct", "newtype_variant"]
+ORDERED = ["seq", "tuple", "tuple_struct", "tuple_variant"]
+KEYED = ["map", "map", "struct", "struct_variant"]
+# What cbor_cli answers to an empty line.
+NO_BYTES = "refused at byte 0: the bytes end inside an item"
 
 
 def text(chance):
@@ -138,8 +160,162 @@ def compare(folder):
     sys.exit(1 if differ else 0)
 
 
+class Pairs:
+    """A map of any keys, equal ones too."""
+
+    def __init__(self, pairs):
+        self.pairs = pairs
+
+
+def write_pairs(encoder, item):
+    """Lets cbor2 write what it doesn't know: a map, which is of major type 5."""
+    encoder.encode_length(5, len(item.pairs))
+    for pair in item.pairs:
+        for part in pair:
+            encoder.encode(part)
+
+
+def plain(chance, word):
+    """A call that is a tree by itself and names nothing, and its item. Texts are of what a line may hold."""
+    if word == "bool":
+        item = chance.random() < 0.5
+        return f"bool {str(item).lower()}", item
+    if word == "number":
+        kind = chance.choice(KINDS)
+        size = int(kind[1:])
+        low, high = (0, (1 << size) - 1) if kind[0] == "u" else (-(1 << size - 1), (1 << size - 1) - 1)
+        item = max(low, min(number(chance), high))
+        return f"{kind} {item}", item
+    if word in ("unit", "none"):
+        return word, None
+    length = chance.choice([0, 1, 2, 9] if chance.random() < 0.95 else [23, 24, 255, 256, 400])
+    if word == "bytes":
+        item = chance.randbytes(length)
+        return f"bytes {item.hex()}", item
+    item = "".join(chr(chance.randint(32, 126)) for _ in range(1 if word == "char" else length))
+    return f"{word} {item}", item
+
+
+def ordered(chance, word, depth, count):
+    """The calls behind one that opens values by place, and their items."""
+    calls, items = [], []
+    for _ in range(count):
+        inner, item = tree(chance, depth)
+        calls += ["tuple_field" if "_" in word else "element", *inner]
+        items.append(item)
+    return calls, items
+
+
+def fields(chance, depth, count):
+    """The calls behind one that opens fields, and their map."""
+    calls, pairs = [], []
+    for _ in range(count):
+        name = chance.choice(NAMES)
+        inner, item = tree(chance, depth)
+        calls += [f"field {name}", *inner]
+        pairs.append((name, item))
+    return calls, Pairs(pairs)
+
+
+def entries(chance, depth, count):
+    """The calls behind one that opens a map, and the map. Some keys get no value, which is null then, and some two,
+    of which the last counts; a value before all keys is dropped."""
+    ways = [["entry"], ["key", "value"]] * 8 + [["key"], ["value"]]
+    calls, pairs = [], []
+    for word in itertools.chain(*chance.choices(ways, k=count)):
+        calls.append(word)
+        parts = []
+        for _ in range(2 if word == "entry" else 1):
+            inner, item = tree(chance, depth)
+            calls += inner
+            parts.append(item)
+        if word != "value":
+            pairs.append(parts if word == "entry" else [*parts, None])
+        elif pairs:
+            pairs[-1][1] = parts[0]
+    return calls, Pairs(pairs)
+
+
+def tree(chance, depth):
+    """The calls of a random tree of at most this depth, and its item."""
+    is_leaf = depth == 1 or chance.random() < 0.3
+    word = chance.choice(PLAIN + EMPTY if is_leaf else AROUND + ORDERED + KEYED)
+    if word in PLAIN:
+        call, item = plain(chance, word)
+        return [call], item
+    variant = chance.choice(NAMES)
+    opening = [word]
+    if word.endswith("struct"):
+        opening.append(chance.choice(NAMES))
+    elif word.endswith("variant"):
+        index = chance.choice([0, 1, chance.getrandbits(32), (1 << 32) - 1])
+        opening += [chance.choice(NAMES), str(index), variant]
+    if word in EMPTY:
+        return [" ".join(opening)], variant if word == "unit_variant" else None
+    if word in AROUND:
+        calls, item = tree(chance, depth - 1)
+    else:
+        wide = chance.random() < 0.02
+        count = chance.choice([23, 24, 255, 256] if wide else [0, 1, 2, 3])
+        within = 1 if wide else depth - 1
+        if word in ORDERED:
+            calls, item = ordered(chance, word, within, count)
+        elif word == "map":
+            calls, item = entries(chance, within, count)
+        else:
+            calls, item = fields(chance, within, count)
+        calls.append("end")
+        # A length counts for nothing, and need not be said of a sequence and a map.
+        if word not in ("seq", "map") or chance.random() < 0.7:
+            wrong = chance.choice([0, 1, chance.getrandbits(64), (1 << 64) - 1])
+            opening.append(str(count if chance.random() < 0.8 else wrong))
+    return [" ".join(opening), *calls], {variant: item} if word.endswith("variant") else item
+
+
+def make_trees(seed, count, folder):
+    chance = random.Random(seed)
+    words = set()
+    with open(f"{folder}/calls", "w") as given, open(f"{folder}/trees", "w") as trees:
+        for _ in range(count):
+            calls, item = tree(chance, 6)
+            words.update(call.split(" ")[0] for call in calls)
+            given.write("\n".join(calls) + "\n")
+            trees.write("\t".join([cbor2.dumps(item, default=write_pairs).hex(), *calls]) + "\n")
+            if chance.random() < 0.3:
+                given.write("\n")
+                trees.write("\n")
+    # Each of the 26 calls stands in some tree, that of numbers by its ten words.
+    assert len(words) == 35, words
+
+
+def groups(lines):
+    """The lines up to each empty one."""
+    return [list(group) for empty, group in itertools.groupby(lines, lambda line: line == "") if not empty]
+
+
+def compare_trees(folder):
+    with open(f"{folder}/trees", encoding="ascii") as lines:
+        wanted = groups(lines.read().split("\n"))
+    with open(f"{folder}/written", encoding="utf-8") as lines:
+        written = groups("" if line == NO_BYTES else line for line in lines.read().split("\n"))
+    if len(wanted) != len(written):
+        sys.exit(f"answers to {len(written)} groups of trees, not to {len(wanted)}")
+    # A refusal keeps back what stands behind it in its group, and no more.
+    rows = [row for pair in zip(wanted, written) for row in itertools.zip_longest(*pair, fillvalue="nothing")]
+    rows = [(line.split("\t"), answer.split("\t")[-1]) for line, answer in rows]
+    differ = [(line, answer) for line, answer in rows if line[0] != answer]
+    for (digits, *calls), answer in differ[:10]:
+        print(f"{', '.join(calls)[:200]}: got {answer[:200]}, wanted {digits[:200]}")
+    print(f"{len(rows)} trees of calls, {len(differ)} differ")
+    sys.exit(1 if differ else 0)
+
+
 if __name__ == "__main__":
     if sys.argv[1] == "make":
         make(int(sys.argv[2]), int(sys.argv[3]), sys.argv[4])
+    elif sys.argv[1] == "make_trees":
+        make_trees(int(sys.argv[2]), int(sys.argv[3]), sys.argv[4])
+    elif sys.argv[1] == "compare_trees":
+        compare_trees(sys.argv[2])
     else:
         compare(sys.argv[2])

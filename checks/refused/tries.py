@@ -203,16 +203,25 @@ def forms():
     return made | {"elements": elements, "lying": lying}
 
 
+def head_of(major, count):
+    """The shortest head in CBOR of a major type and a number below 2^16, in digits."""
+    if count < 24:
+        return f"{32 * major + count:02x}"
+    return f"{32 * major + 24:02x}{count:02x}" if count < 256 else f"{32 * major + 25:02x}{count:04x}"
+
+
 def written_out(pattern, count):
     """The text that a pattern of the table of bounds stands for: `\\t` is a tab, `*(item|between)*`
     so many items, `#` in one its number from 1000; `$count` is how many they are, `$trees` and the
-    like all kinds of node in that form, and `$length` how many kinds so many items have."""
+    like all kinds of node in that form, and `$length` how many kinds so many items have; `$array`,
+    `$map` and `$text` are the heads in CBOR of so many items."""
 
     def items(found):
         item, between = found.groups()
         return between.join(item.replace("#", str(1000 + place)) for place in range(count))
 
     names = FORMS | {"count": str(count), "length": str(count * KINDS)}
+    names |= {"array": head_of(4, count), "map": head_of(5, count), "text": head_of(3, count)}
     text = re.sub(r"\$(\w+)", lambda found: names[found[1]], pattern.replace(r"\t", "\t"))
     return re.sub(r"\*\((.*?)\|(.*?)\)\*", items, text)
 

@@ -1,6 +1,6 @@
 -- No head is shorter than the one that is written.
-use Rattle.std.proofs.Common.{◌≡◌, ℕ, suc, ◌≤◌, ◌<◌, ◌+◌, ◌^◌, ◌⊎◌, Bool, true, false, cond, ltb, List, [], ◌∷◌, length, inl, inr, refl, ap, arith, subst, sym, le-ltb, lt-ltb}
-use Rattle.std.specs.Int.{to_be_bytes, w8, w16, w32, w64}
+use Rattle.std.proofs.Common.{◌≡◌, ℕ, ◌≤◌, ◌<◌, ◌^◌, List, ◌∷◌, length, inl, inr, ap, arith}
+use Rattle.std.specs.Int.{to_be_bytes}
 use Rattle.content_cbor.specs.Codes.{IsHead, Size, info_of, room, width_of}
 use Rattle.content_cbor.specs.Codes.{Size as size}
 use Rattle.content_cbor.specs.Heads.{first_byte, head}

@@ -36,13 +36,18 @@ StopsAt bs (error.Refused at f) read = (left : ℕ)
 abbrev pub IsViable : ℕ → List ℕ → Type 0
 IsViable limit bs = (t : Tree) × (rest : List ℕ) × Codes limit t (bs ++ rest)
 
--- refused at the first byte with which nothing is viable any more, or at the end, where it ended
+-- the fault is Ended exactly at the end, and Trailing exactly behind bytes that code a tree
+abbrev pub FitsPlace : ℕ → List ℕ → ℕ → Fault → Type 0
+FitsPlace limit bs at f = ((f ≡ fault.Ended) ↔ (at ≡ length bs))
+    × ((f ≡ fault.Trailing) ↔ ((t : Tree) × Codes limit t (take at bs)))
+
+-- refused at the first byte with which nothing is viable any more, or at the end
 abbrev pub IsPlaced : ℕ → List ℕ → DecodeError → Type 0
 IsPlaced limit bs error.OutOfMemory = Unit {0}
 IsPlaced limit bs (error.Refused at f) = (at ≤ length bs)
     × (0 < limit → IsViable limit (take at bs))
     × (at < length bs → ¬ IsViable limit (take (at + 1) bs))
-    × ((f ≡ fault.Ended) ↔ (at ≡ length bs))
+    × FitsPlace limit bs at f
 
 -- a tree as typed data is read of it: for no people, with numbers coerced
 abbrev pub as_read : Tree → Subject

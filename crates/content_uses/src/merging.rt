@@ -81,6 +81,7 @@ fn merge_pairs<'a, 'n>(
 
 /// Where each pair of `over` goes among those of `base`: the place of the last pair of its key, or
 /// that after the last where no pair before it has its key.
+#[inline(never)]
 fn places<'a, 'n>(alloc: Global, over: &[Pair<'a, 'n>], base: &[Pair<'a, 'n>]) -> Result<Vec<usize>>
     ensures value { IfOk result (λ places. places.items
         ≡ places_of (pairs_view over.now) (pairs_view base.now)) }

@@ -1,5 +1,5 @@
 -- Readers refuse at the end of the bytes exactly what has ended.
-use Rattle.std.proofs.Common.{◌≡◌, ℕ, suc, zero, ◌+◌, ◌*◌, ◌/◌, ◌%◌, Bool, true, false, cond, eqb, ltb, List, [], ◌∷◌, length, Option, Some, None, Result, Ok, Err, refl, arith}
+use Rattle.std.proofs.Common.{◌≡◌, ℕ, suc, zero, ◌+◌, ◌*◌, ◌/◌, ◌%◌, Bool, true, false, cond, eqb, ltb, List, [], ◌∷◌, length, Option, Some, None, Result, Ok, Err, refl}
 use Rattle.std.specs.Prelude.{◌↔◌}
 use Rattle.std.specs.List.{concat}
 use Rattle.content_tree.specs.Values.Tree.{Tree}
@@ -9,30 +9,34 @@ use Rattle.content_cbor.specs.declared.heads.First.{First}
 use Rattle.content_cbor.specs.declared.heads.Major.{Major}
 use Rattle.content_cbor.specs.declared.heads.Major.TheVariants as major
 use Rattle.content_cbor.specs.declared.stop.Refusal.{Refusal}
-use Rattle.content_cbor.specs.Inner.Steps.{◌>>=◌, Reader, or_refused, refused, refused_before}
-use Rattle.content_cbor.specs.Inner.Numbers.{Bounds, argument_at, digits_at, size_of, unbounded, between}
+use Rattle.content_cbor.specs.Inner.Steps.{◌>>=◌, Reader, or_refused, refused}
+use Rattle.content_cbor.specs.Inner.Numbers.{Bounds, argument_at, digits_at, size_of, unbounded}
 use Rattle.content_cbor.specs.declared.utf8.Lack.{Lack}
 use Rattle.content_cbor.specs.Inner.Texts.{after_byte, text_at, within}
-use Rattle.content_cbor.specs.Inner.Reading.{begins_chunk, bounds_of, bytes_at, chunk_at, chunk_bounds, chunks_at, content_at, digits_of, digits_until, each_at, first_at, head_at, head_behind}
-use Rattle.content_cbor.specs.Inner.Reading.{inside_at, is_simple, item_at, leaf_at, length_at, magnitude_at, magnitude_behind, major_of, pair_at, parts_at, room, simple_at, string_at, tag_at, until_at, whole_at}
+use Rattle.content_cbor.specs.Inner.Reading.{begins_chunk, bounds_of, chunk_at, chunk_bounds, chunks_at, content_at, digits_of, digits_until, each_at, first_at, head_at, head_behind}
+use Rattle.content_cbor.specs.Inner.Reading.{inside_at, is_simple, item_at, leaf_at, length_at, magnitude_at, magnitude_behind, major_of, pair_at, parts_at, room, string_at, tag_at, until_at, whole_at}
 
 -- what is refused with nothing left has ended, and nothing else has
 abbrev pub IsEnd : Refusal → Type 0
 IsEnd e = (e.«fault» ≡ fault.Ended) ↔ (e.left ≡ 0)
 
+-- so it is inside an item, where nothing is trailing
+abbrev pub IsInside : Refusal → Type 0
+IsInside e = IsEnd e × (e.«fault» ≡ fault.Trailing → ⊥)
+
 abbrev pub Ends : {A : Type 0} → Result A Refusal → Type 0
 Ends (Ok x) = Unit {0}
-Ends (Err e) = IsEnd e
+Ends (Err e) = IsInside e
 
--- a fault of bytes that are there
+-- a fault of bytes that are there, inside an item
 abbrev IsOther : Fault → Type 0
-IsOther f = f ≡ fault.Ended → ⊥
+IsOther f = (f ≡ fault.Ended → ⊥) × (f ≡ fault.Trailing → ⊥)
 
-ended : IsEnd (record { «fault» = fault.Ended; left = 0 })
-ended = (λ f. refl, λ n. refl)
+ended : IsInside (record { «fault» = fault.Ended; left = 0 })
+ended = ((λ f. refl, λ n. refl), λ is. absurd cc)
 
-other : (f : Fault) (n : ℕ) → IsOther f → IsEnd (record { «fault» = f; left = suc n })
-other f n not = (λ is. absurd (not is), λ is. absurd cc)
+other : (f : Fault) (n : ℕ) → IsOther f → IsInside (record { «fault» = f; left = suc n })
+other f n not = ((λ is. absurd (not.0 is), λ is. absurd cc), not.1)
 
 ends_if : {A : Type 0} (b : Bool) (x y : Result A Refusal) → Ends x → Ends y → Ends (cond b x y)
 ends_if true x y p q = p
@@ -53,7 +57,7 @@ ends_digits bounds not (suc due) n (b ∷ bs) =
     ends_if (bounds.admits due (n * 256 + b)) _ _ (ends_digits bounds not due (n * 256 + b) bs) (other bounds.otherwise (length bs) not)
 
 open_bound : IsBound unbounded
-open_bound is = absurd cc
+open_bound = (λ is. absurd cc, λ is. absurd cc)
 
 ends_argument : (bounds : Bounds) → IsBound bounds → (info : ℕ) (bs : List ℕ) → Ends (argument_at bounds info bs)
 unfolding argument_at
@@ -68,9 +72,9 @@ ends_first [] = ended
 ends_first (b ∷ bs) =
     ends_if (ltb (b % 32) 24) _ _ tt
     (ends_if (eqb (b % 32) 31) _ _ tt
-    (ends_if (ltb 27 (b % 32)) _ _ (other fault.Reserved (length bs) (λ is. absurd cc))
+    (ends_if (ltb 27 (b % 32)) _ _ (other fault.Reserved (length bs) (λ is. absurd cc, λ is. absurd cc))
     (ends_if (is_simple (major_of (b / 32))) _ _
-    (ends_if (eqb (b % 32) 24) _ _ (other fault.Simple (length bs) (λ is. absurd cc)) (other fault.Float (length bs) (λ is. absurd cc))) tt)))
+    (ends_if (eqb (b % 32) 24) _ _ (other fault.Simple (length bs) (λ is. absurd cc, λ is. absurd cc)) (other fault.Float (length bs) (λ is. absurd cc, λ is. absurd cc))) tt)))
 
 -- ---- heads
 
@@ -80,16 +84,16 @@ ends_head_behind bounds not first bs =
     (ends_then (argument_at bounds first.info bs) _ (ends_argument bounds not first.info bs) (λ n. tt))
 
 bound_of : (limit : ℕ) (m : Major) → IsBound (bounds_of limit m)
-bound_of limit major.Tag is = absurd cc
-bound_of zero major.Array is = absurd cc
-bound_of zero major.Map is = absurd cc
-bound_of (suc limit) major.Array is = absurd cc
-bound_of (suc limit) major.Map is = absurd cc
-bound_of limit major.Unsigned is = absurd cc
-bound_of limit major.Negative is = absurd cc
-bound_of limit major.Bytes is = absurd cc
-bound_of limit major.Text is = absurd cc
-bound_of limit major.Simple is = absurd cc
+bound_of limit major.Tag = (λ is. absurd cc, λ is. absurd cc)
+bound_of zero major.Array = (λ is. absurd cc, λ is. absurd cc)
+bound_of zero major.Map = (λ is. absurd cc, λ is. absurd cc)
+bound_of (suc limit) major.Array = (λ is. absurd cc, λ is. absurd cc)
+bound_of (suc limit) major.Map = (λ is. absurd cc, λ is. absurd cc)
+bound_of limit major.Unsigned = (λ is. absurd cc, λ is. absurd cc)
+bound_of limit major.Negative = (λ is. absurd cc, λ is. absurd cc)
+bound_of limit major.Bytes = (λ is. absurd cc, λ is. absurd cc)
+bound_of limit major.Text = (λ is. absurd cc, λ is. absurd cc)
+bound_of limit major.Simple = (λ is. absurd cc, λ is. absurd cc)
 
 ends_head : (limit : ℕ) (bs : List ℕ) → Ends (head_at limit bs)
 unfolding head_at
@@ -109,7 +113,7 @@ unfolding text_at
 ends_text lack zero bs = tt
 ends_text lack (suc n) [] = ended
 ends_text lack (suc n) (b ∷ bs) =
-    ends_there fault.NotUtf8 b bs (within n (after_byte lack b)) _ (λ is. absurd cc) (λ next.
+    ends_there fault.NotUtf8 b bs (within n (after_byte lack b)) _ (λ is. absurd cc, λ is. absurd cc) (λ next.
     ends_then (text_at next n bs) _ (ends_text next n bs) (λ x. tt))
 
 ends_content : (t : Bool) (n : ℕ) (bs : List ℕ) → Ends (content_at t n bs)
@@ -118,7 +122,7 @@ ends_content false n bs = ends_if (ltb (length bs) n) _ _ ended tt
 ends_content true n bs = ends_text _ n bs
 
 -- a fault at bytes of which a first one was read
-ends_at_first : (f : Fault) (bs : List ℕ) (h : First × List ℕ) → first_at bs ≡ Ok h → IsOther f → IsEnd (record { «fault» = f; left = length bs })
+ends_at_first : (f : Fault) (bs : List ℕ) (h : First × List ℕ) → first_at bs ≡ Ok h → IsOther f → IsInside (record { «fault» = f; left = length bs })
 unfolding first_at
 ends_at_first f [] h is not = absurd cc
 ends_at_first f (b ∷ bs) h is not = other f (length bs) not
@@ -132,7 +136,7 @@ unfolding length_at
 ends_length t bounds not bs =
     ends_known (first_at bs) _ (ends_first bs) (λ h is.
     ends_if (begins_chunk t h.0.«major» h.0.info) _ _ (ends_argument bounds not h.0.info h.1)
-    (ends_at_first fault.Misplaced bs h is (λ no. absurd cc)))
+    (ends_at_first fault.Misplaced bs h is (λ no. absurd cc, λ no. absurd cc)))
 
 ends_chunk : (t : Bool) (bs : List ℕ) → Ends (chunk_at t bs)
 unfolding chunk_at
@@ -166,14 +170,14 @@ ends_string t None bs =
 -- ---- numbers under a tag
 
 room_bound : (negative : Bool) → IsBound (room negative)
-room_bound negative is = absurd cc
+room_bound negative = (λ is. absurd cc, λ is. absurd cc)
 
 bound_if : (b : Bool) (x y : Bounds) → IsBound x → IsBound y → IsBound (cond b x y)
 bound_if true x y p q = p
 bound_if false x y p q = q
 
 chunk_bound : (negative : Bool) (n : ℕ) → IsBound (chunk_bounds negative n)
-chunk_bound negative n = bound_if (eqb n 0) _ _ open_bound (λ is. absurd cc)
+chunk_bound negative n = bound_if (eqb n 0) _ _ open_bound (λ is. absurd cc, λ is. absurd cc)
 
 ends_digits_until : (negative : Bool) (n k : ℕ) (bs : List ℕ) → Ends (digits_until negative n k bs)
 unfolding digits_until
@@ -192,7 +196,7 @@ ends_digits_of : (negative : Bool) (o : Option ℕ) (bs : List ℕ) → Ends (di
 ends_digits_of negative (Some n) bs = ends_digits (room negative) (room_bound negative) n 0 bs
 ends_digits_of negative None bs = ends_digits_until negative 0 (length bs) bs
 
-ends_magnitude_behind : (negative : Bool) (from : List ℕ) (m : Major) (info : ℕ) (bs : List ℕ) → IsEnd (record { «fault» = fault.Misplaced; left = length from })
+ends_magnitude_behind : (negative : Bool) (from : List ℕ) (m : Major) (info : ℕ) (bs : List ℕ) → IsInside (record { «fault» = fault.Misplaced; left = length from })
     → Ends (magnitude_behind negative from m info bs)
 ends_magnitude_behind negative from major.Bytes info bs at =
     ends_then (head_behind unbounded (record { «major» = major.Bytes; info = info }) bs) _
@@ -209,7 +213,7 @@ ends_magnitude : (negative : Bool) (bs : List ℕ) → Ends (magnitude_at negati
 unfolding magnitude_at
 ends_magnitude negative bs =
     ends_known (first_at bs) _ (ends_first bs) (λ h is.
-    ends_magnitude_behind negative bs h.0.«major» h.0.info h.1 (ends_at_first fault.Misplaced bs h is (λ no. absurd cc)))
+    ends_magnitude_behind negative bs h.0.«major» h.0.info h.1 (ends_at_first fault.Misplaced bs h is (λ no. absurd cc, λ no. absurd cc)))
 
 ends_tag : (n : ℕ) (bs : List ℕ) → Ends (tag_at n bs)
 unfolding tag_at
@@ -228,13 +232,13 @@ ends_leaf major.Bytes o bs = ends_then (string_at false o bs) _ (ends_string fal
 ends_leaf major.Text o bs = ends_then (string_at true o bs) _ (ends_string true o bs) (λ x. tt)
 ends_leaf major.Tag (Some n) bs = ends_then (tag_at n bs) _ (ends_tag n bs) (λ k. tt)
 ends_leaf major.Simple (Some n) bs =
-    ends_if (eqb n 20) _ _ tt (ends_if (eqb n 21) _ _ tt (ends_if (eqb n 22) _ _ tt (other fault.Simple (length bs) (λ is. absurd cc))))
-ends_leaf major.Simple None bs = other fault.Break (length bs) (λ is. absurd cc)
-ends_leaf major.Unsigned None bs = other fault.Reserved (length bs) (λ is. absurd cc)
-ends_leaf major.Negative None bs = other fault.Reserved (length bs) (λ is. absurd cc)
-ends_leaf major.Tag None bs = other fault.Reserved (length bs) (λ is. absurd cc)
-ends_leaf major.Array o bs = other fault.Reserved (length bs) (λ is. absurd cc)
-ends_leaf major.Map o bs = other fault.Reserved (length bs) (λ is. absurd cc)
+    ends_if (eqb n 20) _ _ tt (ends_if (eqb n 21) _ _ tt (ends_if (eqb n 22) _ _ tt (other fault.Simple (length bs) (λ is. absurd cc, λ is. absurd cc))))
+ends_leaf major.Simple None bs = other fault.Break (length bs) (λ is. absurd cc, λ is. absurd cc)
+ends_leaf major.Unsigned None bs = other fault.Reserved (length bs) (λ is. absurd cc, λ is. absurd cc)
+ends_leaf major.Negative None bs = other fault.Reserved (length bs) (λ is. absurd cc, λ is. absurd cc)
+ends_leaf major.Tag None bs = other fault.Reserved (length bs) (λ is. absurd cc, λ is. absurd cc)
+ends_leaf major.Array o bs = other fault.Reserved (length bs) (λ is. absurd cc, λ is. absurd cc)
+ends_leaf major.Map o bs = other fault.Reserved (length bs) (λ is. absurd cc, λ is. absurd cc)
 
 ends_pair : (read : Reader Tree) → ((bs : List ℕ) → Ends (read bs)) → (bs : List ℕ) → Ends (pair_at read bs)
 unfolding pair_at
@@ -258,14 +262,28 @@ ends_inside read ends major.Simple o bs = ends_leaf major.Simple o bs
 pub ends_item : (limit : ℕ) (bs : List ℕ) → Ends (item_at limit bs)
 unfolding item_at
 ends_item zero [] = ended
-ends_item zero (b ∷ bs) = other fault.TooDeep (length bs) (λ is. absurd cc)
+ends_item zero (b ∷ bs) = other fault.TooDeep (length bs) (λ is. absurd cc, λ is. absurd cc)
 ends_item (suc limit) bs =
     ends_then (head_at limit bs) _ (ends_head limit bs) (λ h. ends_inside (item_at limit) (ends_item limit) h.0.«major» h.0.number h.1)
 
-behind_item : (t : Tree) (rest : List ℕ) → Ends (cond (eqb (length rest) 0) (Ok t) (refused fault.Trailing rest))
-behind_item t [] = tt
-behind_item t (b ∷ bs) = ends_if (eqb (suc (length bs)) 0) _ _ tt (other fault.Trailing (length bs) (λ is. absurd cc))
+-- ---- whole items
 
-pub ends_whole : (limit : ℕ) (bs : List ℕ) → Ends (whole_at limit bs)
+abbrev pub EndsWhole : Result Tree Refusal → Type 0
+EndsWhole (Ok x) = Unit {0}
+EndsWhole (Err e) = IsEnd e
+
+behind_item : (t : Tree) (rest : List ℕ) → EndsWhole (cond (eqb (length rest) 0) (Ok t) (refused fault.Trailing rest))
+behind_item t [] = tt
+behind_item t (b ∷ bs) = by (eqb (suc (length bs)) 0)
+  where
+    by : (c : Bool) → EndsWhole (cond c (Ok t) (refused fault.Trailing (b ∷ bs)))
+    by true = tt
+    by false = (λ is. absurd cc, λ is. absurd cc)
+
+whole_then : (r : Result (Tree × List ℕ) Refusal) (f : Tree × List ℕ → Result Tree Refusal) → Ends r → ((x : Tree × List ℕ) → EndsWhole (f x)) → EndsWhole (r >>= f)
+whole_then (Ok x) f p next = next x
+whole_then (Err e) f p next = p.0
+
+pub ends_whole : (limit : ℕ) (bs : List ℕ) → EndsWhole (whole_at limit bs)
 unfolding whole_at
-ends_whole limit bs = ends_then (item_at limit bs) _ (ends_item limit bs) (λ x. behind_item x.0 x.1)
+ends_whole limit bs = whole_then (item_at limit bs) _ (ends_item limit bs) (λ x. behind_item x.0 x.1)

@@ -6,7 +6,6 @@ use Rattle.content_tree.specs.Values.Tree.{Tree}
 use Rattle.content_cbor.specs.Codes.{Codes}
 use Rattle.content_cbor.specs.Decoded.{IsPlaced, IsViable, StopsAt}
 use Rattle.content_cbor.specs.declared.decode_error.DecodeError.TheVariants as error
-use Rattle.content_cbor.specs.declared.decode_error.Fault.{Fault}
 use Rattle.content_cbor.specs.declared.decode_error.Fault.TheVariants as fault
 use Rattle.content_cbor.specs.declared.stop.Refusal.{Refusal}
 use Rattle.content_cbor.specs.declared.stop.Stop.{Stop}
@@ -14,13 +13,21 @@ use Rattle.content_cbor.specs.declared.stop.Stop.TheVariants as stop
 use Rattle.content_cbor.specs.Inner.Steps.{Fails, error_in, refused}
 use Rattle.content_cbor.specs.Inner.Reading.{item_at, whole_at}
 use Rattle.content_cbor.proofs.Read.Begun.{Before, Opens, at_start}
-use Rattle.content_cbor.proofs.Read.Ends.{Ends, IsEnd, ends_item, ends_whole}
+use Rattle.content_cbor.proofs.Read.Ends.{Ends, EndsWhole, IsEnd, IsInside, ends_item, ends_whole}
 use Rattle.content_cbor.proofs.Read.Items.{item_placed, item_sound, nothing_begun}
 use Rattle.content_cbor.proofs.Read.Longer.{Agrees, later, longer_item}
 use Rattle.content_cbor.proofs.Read.Shrinks.{Leaves, advances_item, no_more}
 use Rattle.content_cbor.proofs.Read.Steps.{bind_err, chosen, ok_is, same_refusal}
 use Rattle.content_cbor.proofs.Read.Took.{IsBytes}
 use Rattle.content_cbor.proofs.Read.Whole.{item_complete, refused_all}
+
+-- the bytes that an item takes
+pub front_coded : (limit : ℕ) (bs : List ℕ) (t : Tree) (rest : List ℕ) (n : ℕ) → IsBytes bs → item_at limit bs ≡ Ok (t, rest) → n ≡ length bs - length rest → Codes limit t (take n bs)
+front_coded limit bs t rest n fits is long =
+    let i = item_sound limit bs t rest fits is in
+    let front : length i.front ≡ n = omega (arith, long, ap length i.split, length-append i.front rest) in
+    let same : take n bs ≡ i.front = ap (take n) i.split ∙ take_at i.front rest n front in
+    subst (Codes limit t) (sym same) i.part
 
 -- ---- viable before
 
@@ -86,18 +93,28 @@ dead limit bs e at is place before viable =
     none_begun limit front c.0 c.1 c.2 viable
 
 -- what has ended has its place at the end
-ends_with : {A : Type 0} (r : Result A Refusal) (e : Refusal) → Ends r → r ≡ Err e → IsEnd e
-ends_with r e ends is = subst Ends is ends
+inside : (limit : ℕ) (bs : List ℕ) (e : Refusal) → item_at limit bs ≡ Err e → IsInside e
+inside limit bs e is = subst (Ends {A = Tree × List ℕ}) is (ends_item limit bs)
 
 at_end : (n : ℕ) (e : Refusal) → e.left ≤ n → IsEnd e → (e.«fault» ≡ fault.Ended) ↔ (n - e.left ≡ n)
 at_end n e le end = (λ is. omega (arith, end.0 is), λ all. end.1 (omega (arith, all, le)))
+
+-- and no item is refused behind itself
+none_before : (limit : ℕ) (bs : List ℕ) (e : Refusal) (at : ℕ) → item_at limit bs ≡ Err e → (e.«fault» ≡ fault.Trailing) ↔ ((t : Tree) × Codes limit t (take at bs))
+none_before limit bs e at is = (
+  λ trailing. absurd ((inside limit bs e is).1 trailing),
+  λ c.
+      let read : item_at limit bs ≡ Ok (c.0, drop at bs) =
+      ap (item_at limit) (sym (take-append-drop at bs)) ∙ item_complete limit c.0 (take at bs) (drop at bs) c.1 in
+      absurd (read_both (c.0, drop at bs) e (item_at limit bs) read is),
+)
 
 placed : (limit : ℕ) (bs : List ℕ) (e : Refusal) → IsBytes bs → item_at limit bs ≡ Err e → IsPlaced limit bs (error.Refused (length bs - e.left) e.«fault»)
 placed limit bs e fits is = (
   omega arith,
   λ deep. before_viable limit bs e.left (length bs - e.left) (begun_before limit bs e fits is deep) refl,
   λ before viable. dead limit bs e (length bs - e.left) is refl before (one_more limit (length bs - e.left) bs viable),
-  at_end (length bs) e (left_within limit bs e is) (ends_with (item_at limit bs) e (ends_item limit bs) is),
+  (at_end (length bs) e (left_within limit bs e is) (inside limit bs e is).0, none_before limit bs e (length bs - e.left) is),
 )
 
 pub item_is_placed : (limit : ℕ) (bs : List ℕ) (s : Stop) → IsBytes bs → Fails s (item_at limit bs) → IsPlaced limit bs (error_in bs s)
@@ -145,8 +162,14 @@ whole_placed limit bs e fits is =
             let same = same_refusal {A = Tree} (record { «fault» = fault.Trailing; left = length a.0.1 }) e w.1 in
             let t = trailing limit bs a.0.0 i.front a.0.1 (length bs - e.left) i.part i.split (ap (λ (u : Refusal). length bs - u.left) (sym same)) in
             let le : e.left ≤ length bs = omega (arith, ap length i.split, length-append i.front a.0.1, ap (λ (u : Refusal). u.left) same) in
-            let end : IsEnd e = ends_with (whole_at limit bs) e (ends_whole limit bs) is in
-            (omega arith, λ deep. t.0, λ before viable. t.1 before (one_more limit (length bs - e.left) bs viable), at_end (length bs) e le end)
+            let end : IsEnd e = subst EndsWhole is (ends_whole limit bs) in
+            let codes : Codes limit a.0.0 (take (length bs - e.left) bs) =
+            front_coded limit bs a.0.0 a.0.1 (length bs - e.left) fits a.1 (ap (λ (u : Refusal). length bs - u.left) (sym same)) in (
+              omega arith,
+              λ deep. t.0,
+              λ before viable. t.1 before (one_more limit (length bs - e.left) bs viable),
+              (at_end (length bs) e le end, (λ behind. (a.0.0, codes), λ c. ap (λ (u : Refusal). u.«fault») (sym same))),
+            )
       ]
     ]
 
@@ -171,13 +194,6 @@ no_memory_in_front limit bs front rest (stop.Refused e) t split is codes =
     absurd (read_both (t, rest) e (item_at limit bs) (ap (item_at limit) split ∙ item_complete limit t front rest codes) is)
 
 -- ---- an item at the front
-
-pub front_coded : (limit : ℕ) (bs : List ℕ) (t : Tree) (rest : List ℕ) (n : ℕ) → IsBytes bs → item_at limit bs ≡ Ok (t, rest) → n ≡ length bs - length rest → Codes limit t (take n bs)
-front_coded limit bs t rest n fits is long =
-    let i = item_sound limit bs t rest fits is in
-    let front : length i.front ≡ n = omega (arith, long, ap length i.split, length-append i.front rest) in
-    let same : take n bs ≡ i.front = ap (take n) i.split ∙ take_at i.front rest n front in
-    subst (Codes limit t) (sym same) i.part
 
 pub front_is : (limit : ℕ) (bs : List ℕ) (t u : Tree) (rest front behind : List ℕ) (n : ℕ) → item_at limit bs ≡ Ok (t, rest) → n ≡ length bs - length rest
     → Codes limit u front → bs ≡ front ++ behind → (t ≡ u) × (n ≡ length front)
