@@ -77,6 +77,30 @@ fn open<'de>(
     Ok(Some(access.variant_deserializer(alloc)?))
 }
 
+/// The tag of the variant that is there.
+fn tag_of<'de>(
+    alloc: Global,
+    from: &Deserializer<'de, 'static>,
+    name: Option<&'static str>,
+) -> Result<Option<Deserializer<'de, 'static>>> {
+    match open(alloc, from, name)? {
+        Some((tag, _held)) => Ok(Some(tag)),
+        None => Ok(None),
+    }
+}
+
+/// What the variant that is there holds.
+fn variant_of<'de>(
+    alloc: Global,
+    from: &Deserializer<'de, 'static>,
+    name: Option<&'static str>,
+) -> Result<Option<VariantAccess<'de, 'static>>> {
+    match open(alloc, from, name)? {
+        Some((_tag, variant)) => Ok(Some(variant)),
+        None => Ok(None),
+    }
+}
+
 /// What a variant answers when it is asked for another sort than its own. Behind that stands what a
 /// newtype variant would hold, if it would.
 fn refusal_of<'de>(
@@ -105,6 +129,26 @@ fn told_by(refusal: Result<()>) -> Result<Option<(Found, String)>> {
             _ => Ok(None),
         },
         _ => Ok(None),
+    }
+}
+
+/// What the refusal of a variant tells: what was found, the name of the enum that was expected, and
+/// what a newtype variant would hold, if it would.
+fn told<'de>(
+    alloc: Global,
+    from: &Deserializer<'de, 'static>,
+    name: Option<&'static str>,
+) -> Result<Option<(Found, String, Option<Deserializer<'de, 'static>>)>> {
+    let Some(variant) = variant_of(alloc, from, name)? else {
+        return Ok(None);
+    };
+    let Some(same) = variant_of(alloc, from, name)? else {
+        return Ok(None);
+    };
+    let (refusal, inner) = refusal_of(alloc, variant, same);
+    match told_by(refusal)? {
+        Some((found, expected)) => Ok(Some((found, expected, inner))),
+        None => Ok(None),
     }
 }
 
@@ -167,15 +211,10 @@ pub fn write_enum(
     from: Deserializer<'_, 'static>,
     name: Option<&'static str>,
 ) -> Result<()> {
-    let alloc = out.alloc();
-    let (Some((tag, variant)), Some((_tag, same))) = (
-        open(alloc, &from, name)?,
-        open(alloc, &from, name)?,
-    ) else {
+    let Some(tag) = tag_of(out.alloc(), &from, name)? else {
         return out.no_row();
     };
-    let (refusal, inner) = refusal_of(alloc, variant, same);
-    let Some((found, expected)) = told_by(refusal)? else {
+    let Some((found, expected, inner)) = told(out.alloc(), &from, name)? else {
         return out.no_row();
     };
     write_tag(out, flags, expected, tag)?;

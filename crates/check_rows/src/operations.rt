@@ -14,14 +14,11 @@ mod stepping;
 
 use crate::answer::Answer;
 use crate::cursor::Cursor;
-use crate::expectation::{read_expected, read_type};
 use crate::failure::Failure;
-use crate::kind::read_kind;
 use crate::piece::{Piece, Pieces, add_pieces};
-use crate::printable::{write_printed, write_refusal};
+use crate::printable::write_refusal;
 use crate::quoted::take_rest;
-use comparing::compare;
-use serde_content::{Error, Result};
+use serde_content::Result;
 use std::alloc::Global;
 
 /// The answer of an operation to its arguments, which tabs part. What is wrong with the arguments
@@ -114,24 +111,24 @@ fn write_surely(out: &mut Answer, operation: &str, pieces: &mut Pieces<'_>) {
         "compare" => comparing::values(out, pieces),
         "compare_data" => comparing::data(out, pieces),
         "compare_errors" => comparing::errors(out, pieces),
-        "compare_expected" => compare(out, &read_expected(pieces), &read_expected(pieces)),
+        "compare_expected" => comparing::expected(out, pieces),
         "compare_image_data" => comparing::image_data(out, pieces),
         "compare_images" => comparing::images(out, pieces),
-        "compare_kinds" => compare(out, &read_kind(pieces), &read_kind(pieces)),
+        "compare_kinds" => comparing::kinds(out, pieces),
         "compare_parts" => comparing::parts(out, pieces),
         "compare_serializers" => comparing::serializers(out, pieces),
-        "compare_types" => compare(out, &read_type(pieces), &read_type(pieces)),
-        "error" => write_printed(out, &Error::from(read_kind(pieces))),
-        "expected" => write_printed(out, &read_expected(pieces)),
+        "compare_types" => comparing::types(out, pieces),
+        "error" => printing::error(out, pieces),
+        "expected" => printing::expected(out, pieces),
         "from" => converting::from(out, pieces),
         "get" => looking::get(out, pieces),
         "get_str" => looking::get_str(out, pieces),
-        "kind" => write_printed(out, &read_kind(pieces)),
+        "kind" => printing::kind(out, pieces),
         "lend" => looking::lend(out, pieces),
         "number_from" => converting::number_from(out, pieces),
         "order" => comparing::deserializers(out, pieces),
         "readable" => building::readable(out, pieces),
-        "type" => write_printed(out, &read_type(pieces)),
+        "type" => printing::typ(out, pieces),
         "unexpected" => printing::unexpected(out, pieces),
         "unexpected_part" => printing::unexpected_part(out, pieces),
         _ => out.fail(Failure::NoRow),

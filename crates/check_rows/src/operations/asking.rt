@@ -10,6 +10,7 @@ use crate::request::{Request, read_request};
 use crate::show::{write_bytes, write_text, write_tree, write_value};
 use serde_content::de::{Node, VariantAccess};
 use serde_content::{Deserializer, Result, Value};
+use std::alloc::Global;
 use std::fmt::Debug;
 
 /// What is answered to a request.
@@ -43,7 +44,7 @@ fn write_parts(
         "map" => write_map(out, flags, from.deserialize_map(alloc)?),
         "struct" => write_map(out, flags, from.deserialize_struct(alloc, name, &[])?),
         "enum" => write_enum(out, flags, from, Some(name)),
-        "any" => write_node(out, flags, from),
+        "any" => write_any(out, flags, from),
         _ => write_leaf(out, request, from),
     }
 }
@@ -99,11 +100,26 @@ fn write_leaf(
     }
 }
 
+/// Whether a variant of an enum is there.
+fn is_enum(alloc: Global, from: &Deserializer<'_, 'static>) -> Result<bool> {
+    let node = from.try_clone(alloc)?.deserialize_any(alloc)?;
+    Ok(matches!(node, Node::Enum(_)))
+}
+
 /// Adds what is there, whatever it is.
-fn write_node(out: &mut Answer, flags: Flags, from: Deserializer<'_, 'static>) -> Result<()> {
-    let same = from.try_clone(out.alloc())?;
-    let node = from.deserialize_any(out.alloc())?;
+fn write_any(out: &mut Answer, flags: Flags, from: Deserializer<'_, 'static>) -> Result<()> {
+    let is_enum = is_enum(out.alloc(), &from)?;
     out.push_str("node ");
+    if is_enum {
+        write_enum(out, flags, from, None)
+    } else {
+        let node = from.deserialize_any(out.alloc())?;
+        write_node(out, flags, node)
+    }
+}
+
+/// Adds what is there, but a variant of an enum.
+fn write_node(out: &mut Answer, flags: Flags, node: Node<'_, 'static>) -> Result<()> {
     match node {
         Node::Unit => out.push_str("()"),
         Node::Bool(flag) => write_tree(out, &Value::Bool(flag)),
@@ -119,7 +135,7 @@ fn write_node(out: &mut Answer, flags: Flags, from: Deserializer<'_, 'static>) -
         }
         Node::Seq(items) => return write_seq(out, flags, items),
         Node::Map(entries) => return write_map(out, flags, entries),
-        Node::Enum(_) => return write_enum(out, flags, same, None),
+        Node::Enum(_) => return out.no_row(),
     }
     Ok(())
 }

@@ -4,6 +4,7 @@ use crate::answer::Answer;
 use crate::call::read_calls;
 use crate::cursor::Cursor;
 use crate::deserializer::read_deserializer;
+use crate::expectation::{read_expected, read_type};
 use crate::failure::Failure;
 use crate::flags::read_flags;
 use crate::kind::read_kind;
@@ -17,7 +18,7 @@ use serde_content::{Deserializer, Error, Found, Serializer, Value};
 use std::cmp::Ordering;
 
 /// Adds the order of two things of one type.
-pub fn compare<T: Ord>(out: &mut Answer, left: &T, right: &T) {
+fn compare<T: Ord>(out: &mut Answer, left: &T, right: &T) {
     write_order(out, order(left, right));
 }
 
@@ -64,6 +65,21 @@ pub fn image_data(out: &mut Answer, pieces: &mut Pieces<'_>) {
         }
         _ => out.fail(Failure::NoRow),
     }
+}
+
+/// Of two expectations.
+pub fn expected(out: &mut Answer, pieces: &mut Pieces<'_>) {
+    compare(out, &read_expected(pieces), &read_expected(pieces))
+}
+
+/// Of two types.
+pub fn types(out: &mut Answer, pieces: &mut Pieces<'_>) {
+    compare(out, &read_type(pieces), &read_type(pieces))
+}
+
+/// Of two kinds of errors.
+pub fn kinds(out: &mut Answer, pieces: &mut Pieces<'_>) {
+    compare(out, &read_kind(pieces), &read_kind(pieces))
 }
 
 /// Of two errors of these kinds.

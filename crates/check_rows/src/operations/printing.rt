@@ -1,12 +1,13 @@
 //! Printed texts.
 
 use crate::answer::Answer;
-use crate::expectation::read_expected;
+use crate::expectation::{read_expected, read_type};
 use crate::failure::Failure;
+use crate::kind::read_kind;
 use crate::piece::{Piece, Pieces};
 use crate::printable::{write_printed, write_refusal};
 use crate::tree::{read_image, read_tree};
-use serde_content::{Found, Result, Unexpected, Value};
+use serde_content::{Error, Found, Result, Unexpected, Value};
 
 /// Whether the value that starts here prints as its image does.
 fn prints_as<'a>(pieces: &mut Pieces<'a>, start: &'a [Piece], image: &Found) -> Result<bool> {
@@ -26,6 +27,26 @@ pub fn image(out: &mut Answer, pieces: &mut Pieces<'_>) -> Result<()> {
         out.push_str("another text");
     }
     Ok(())
+}
+
+/// Of an expectation.
+pub fn expected(out: &mut Answer, pieces: &mut Pieces<'_>) {
+    write_printed(out, &read_expected(pieces));
+}
+
+/// Of a type.
+pub fn typ(out: &mut Answer, pieces: &mut Pieces<'_>) {
+    write_printed(out, &read_type(pieces));
+}
+
+/// Of the kind of an error.
+pub fn kind(out: &mut Answer, pieces: &mut Pieces<'_>) {
+    write_printed(out, &read_kind(pieces));
+}
+
+/// Of an error of this kind.
+pub fn error(out: &mut Answer, pieces: &mut Pieces<'_>) {
+    write_printed(out, &Error::from(read_kind(pieces)));
 }
 
 /// Of the error that a tree is not what was expected.

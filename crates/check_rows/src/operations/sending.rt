@@ -94,12 +94,18 @@ fn write_sent_number(out: &mut Answer, named: &str, number: Number) -> Result<()
 /// Of one to four trees, as a tuple.
 fn write_sent_tuple(out: &mut Answer, items: Vec<Value<'_>>) -> Result<()> {
     let mut items = items.into_iter();
-    match (items.next(), items.next(), items.next(), items.next()) {
-        (Some(a), None, None, None) => write_sent(out, &(a,)),
-        (Some(a), Some(b), None, None) => write_sent(out, &(a, b)),
-        (Some(a), Some(b), Some(c), None) => write_sent(out, &(a, b, c)),
-        (Some(a), Some(b), Some(c), Some(d)) => write_sent(out, &(a, b, c, d)),
-        _ => out.no_row(),
+    let Some(first) = items.next() else {
+        return out.no_row();
+    };
+    let Some(second) = items.next() else {
+        return write_sent(out, &(first,));
+    };
+    let Some(third) = items.next() else {
+        return write_sent(out, &(first, second));
+    };
+    match items.next() {
+        None => write_sent(out, &(first, second, third)),
+        Some(fourth) => write_sent(out, &(first, second, third, fourth)),
     }
 }
 
