@@ -1,4 +1,6 @@
 //! Values read as plain ones.
+//!
+//! Inside, reading answers `AllocError` alone, so that a level of a deep value takes less stack.
 
 #![tactic(auto, using(crate::proofs::Values::values))]
 
@@ -18,7 +20,8 @@ use crate::source::Source;
 use content_tree::{
     CowBytes, CowStr, NamedData, NamedEnum, NamedStruct, NamedValue, Result, Value,
 };
-use std::alloc::Global;
+use std::alloc::{AllocError, Global};
+use std::result::Result as StdResult;
 
 /// The plain form of what is there: a tuple is a sequence, a struct is what it holds, with its
 /// fields as a map, and a variant is the text of its name, or a map of one entry from that text to
@@ -32,8 +35,8 @@ impl<'de> Deserialize<'de> for Value<'static> {
     fn deserialize<'n: 'de>(alloc: Global, from: Deserializer<'de, 'n>) -> Result<Value<'static>> {
         let Deserializer { source, flags: _ } = from;
         match source {
-            Source::Tree(value) => make_plain(alloc, value),
-            Source::Identifier { name, index: _ } => make_owned(alloc, name),
+            Source::Tree(value) => Ok(make_plain(alloc, value)?),
+            Source::Identifier { name, index: _ } => Ok(make_owned(alloc, name)?),
         }
     }
 }
@@ -63,33 +66,36 @@ impl ValueVisitor {
         match source {
             Source::Tree(NamedValue::String(text)) => Ok(NamedValue::String(text)),
             Source::Tree(NamedValue::Bytes(bytes)) => Ok(NamedValue::Bytes(bytes)),
-            Source::Tree(value) => make_plain(alloc, value),
+            Source::Tree(value) => Ok(make_plain(alloc, value)?),
             Source::Identifier { name, index: _ } => Ok(NamedValue::String(name)),
         }
     }
 }
 
 /// A text, owned.
-fn make_owned<'a, 'p>(alloc: Global, text: CowStr<'a>) -> Result<Value<'p>>
-    ensures value { IfOk result (λ v. tree_of v ≡ name_text (text_of text.entry)) }
-    ensures memory { IfErr result (λ e. IsOutOfMemory e) }
+#[inline(never)]
+fn make_owned<'a, 'p>(alloc: Global, text: CowStr<'a>) -> StdResult<Value<'p>, AllocError>
+    ensures { IfOk result (λ v. tree_of v ≡ name_text (text_of text.entry)) }
 {
-    Ok(NamedValue::String(CowStr::Owned(text.into_owned(alloc)?)))
+    Ok(NamedValue::String(CowStr::Owned(text.into_owned(alloc).ok().ok_or(AllocError)?)))
 }
 
 /// Bytes, owned.
-fn make_owned_bytes<'a, 'p>(alloc: Global, bytes: CowBytes<'a>) -> Result<Value<'p>>
-    ensures value { IfOk result (λ v. tree_of v ≡ octets (to_owned (bytes_of bytes.entry))) }
-    ensures memory { IfErr result (λ e. IsOutOfMemory e) }
+#[inline(never)]
+fn make_owned_bytes<'a, 'p>(alloc: Global, bytes: CowBytes<'a>) -> StdResult<Value<'p>, AllocError>
+    ensures { IfOk result (λ v. tree_of v ≡ octets (to_owned (bytes_of bytes.entry))) }
 {
-    Ok(NamedValue::Bytes(CowBytes::Owned(bytes.into_owned(alloc)?)))
+    Ok(NamedValue::Bytes(CowBytes::Owned(bytes.into_owned(alloc).ok().ok_or(AllocError)?)))
 }
 
 /// The plain form of a tree.
 #[cycle(plain)]
-fn make_plain<'a, 'n, 'p>(alloc: Global, value: NamedValue<'a, 'n>) -> Result<Value<'p>>
-    ensures value { IfOk result (λ v. tree_of v ≡ plain (tree_of value.entry)) }
-    ensures memory { IfErr result (λ e. IsOutOfMemory e) }
+#[inline(never)]
+fn make_plain<'a, 'n, 'p>(
+    alloc: Global,
+    value: NamedValue<'a, 'n>,
+) -> StdResult<Value<'p>, AllocError>
+    ensures { IfOk result (λ v. tree_of v ≡ plain (tree_of value.entry)) }
 {
     match value {
         NamedValue::Unit => Ok(NamedValue::Unit),
@@ -109,12 +115,12 @@ fn make_plain<'a, 'n, 'p>(alloc: Global, value: NamedValue<'a, 'n>) -> Result<Va
 
 /// That of an optional value, which keeps its shape.
 #[cycle(plain)]
+#[inline(never)]
 fn make_held_plain<'a, 'n, 'p>(
     alloc: Global,
     held: Option<Box<NamedValue<'a, 'n>>>,
-) -> Result<Option<Box<Value<'p>>>>
-    ensures value { IfOk result (λ v. held_view v ≡ plain (held_view held.entry)) }
-    ensures memory { IfErr result (λ e. IsOutOfMemory e) }
+) -> StdResult<Option<Box<Value<'p>>>, AllocError>
+    ensures { IfOk result (λ v. held_view v ≡ plain (held_view held.entry)) }
 {
     match held {
         None => Ok(None),
@@ -127,9 +133,12 @@ fn make_held_plain<'a, 'n, 'p>(
 
 /// That of a struct: what it holds.
 #[cycle(plain)]
-fn make_struct_plain<'a, 'n, 'p>(alloc: Global, node: NamedStruct<'a, 'n>) -> Result<Value<'p>>
-    ensures value { IfOk result (λ v. tree_of v ≡ plain (struct_tree node.entry)) }
-    ensures memory { IfErr result (λ e. IsOutOfMemory e) }
+#[inline(never)]
+fn make_struct_plain<'a, 'n, 'p>(
+    alloc: Global,
+    node: NamedStruct<'a, 'n>,
+) -> StdResult<Value<'p>, AllocError>
+    ensures { IfOk result (λ v. tree_of v ≡ plain (struct_tree node.entry)) }
 {
     let NamedStruct { name: _, data } = node;
     make_data_plain(alloc, data)
@@ -137,9 +146,12 @@ fn make_struct_plain<'a, 'n, 'p>(alloc: Global, node: NamedStruct<'a, 'n>) -> Re
 
 /// That of a variant: its name, and under it what it holds, if anything.
 #[cycle(plain)]
-fn make_variant_plain<'a, 'n, 'p>(alloc: Global, node: NamedEnum<'a, 'n>) -> Result<Value<'p>>
-    ensures value { IfOk result (λ v. tree_of v ≡ plain (enum_tree node.entry)) }
-    ensures memory { IfErr result (λ e. IsOutOfMemory e) }
+#[inline(never)]
+fn make_variant_plain<'a, 'n, 'p>(
+    alloc: Global,
+    node: NamedEnum<'a, 'n>,
+) -> StdResult<Value<'p>, AllocError>
+    ensures { IfOk result (λ v. tree_of v ≡ plain (enum_tree node.entry)) }
 {
     let NamedEnum {
         name: _,
@@ -159,9 +171,12 @@ fn make_variant_plain<'a, 'n, 'p>(alloc: Global, node: NamedEnum<'a, 'n>) -> Res
 
 /// That of what a struct or a variant holds.
 #[cycle(plain)]
-fn make_data_plain<'a, 'n, 'p>(alloc: Global, held: NamedData<'a, 'n>) -> Result<Value<'p>>
-    ensures value { IfOk result (λ v. tree_of v ≡ plain_data (tree_data_of held.entry)) }
-    ensures memory { IfErr result (λ e. IsOutOfMemory e) }
+#[inline(never)]
+fn make_data_plain<'a, 'n, 'p>(
+    alloc: Global,
+    held: NamedData<'a, 'n>,
+) -> StdResult<Value<'p>, AllocError>
+    ensures { IfOk result (λ v. tree_of v ≡ plain_data (tree_data_of held.entry)) }
 {
     match held {
         NamedData::Unit => Ok(NamedValue::Unit),
@@ -173,13 +188,13 @@ fn make_data_plain<'a, 'n, 'p>(alloc: Global, held: NamedData<'a, 'n>) -> Result
 
 /// That of each item.
 #[cycle(plain)]
+#[inline(never)]
 fn make_items_plain<'a, 'n, 'p>(
     alloc: Global,
     items: Vec<NamedValue<'a, 'n>>,
-) -> Result<Vec<Value<'p>>>
-    ensures value { IfOk result (λ made. trees_view made.items ≡
+) -> StdResult<Vec<Value<'p>>, AllocError>
+    ensures { IfOk result (λ made. trees_view made.items ≡
         plain_each (trees_view items.entry.items)) }
-    ensures memory { IfErr result (λ e. IsOutOfMemory e) }
 {
     let mut made = Vec::with_capacity(alloc, items.len())?;
     for item in items {
@@ -190,13 +205,13 @@ fn make_items_plain<'a, 'n, 'p>(
 
 /// That of each pair, of the key too.
 #[cycle(plain)]
+#[inline(never)]
 fn make_pairs_plain<'a, 'n, 'p>(
     alloc: Global,
     pairs: Vec<(NamedValue<'a, 'n>, NamedValue<'a, 'n>)>,
-) -> Result<Vec<(Value<'p>, Value<'p>)>>
-    ensures value { IfOk result (λ made. pairs_view made.items ≡
+) -> StdResult<Vec<(Value<'p>, Value<'p>)>, AllocError>
+    ensures { IfOk result (λ made. pairs_view made.items ≡
         plain_pairs (pairs_view pairs.entry.items)) }
-    ensures memory { IfErr result (λ e. IsOutOfMemory e) }
 {
     let mut made = Vec::with_capacity(alloc, pairs.len())?;
     for (key, value) in pairs {
@@ -209,13 +224,13 @@ fn make_pairs_plain<'a, 'n, 'p>(
 
 /// A pair of each field, the key as a text.
 #[cycle(plain)]
+#[inline(never)]
 fn make_fields_plain<'a, 'n, 'p>(
     alloc: Global,
     fields: Vec<(CowStr<'n>, NamedValue<'a, 'n>)>,
-) -> Result<Vec<(Value<'p>, Value<'p>)>>
-    ensures value { IfOk result (λ made. pairs_view made.items ≡
+) -> StdResult<Vec<(Value<'p>, Value<'p>)>, AllocError>
+    ensures { IfOk result (λ made. pairs_view made.items ≡
         plain_fields (fields_view fields.entry.items)) }
-    ensures memory { IfErr result (λ e. IsOutOfMemory e) }
 {
     let mut made = Vec::with_capacity(alloc, fields.len())?;
     for (key, value) in fields {
