@@ -150,6 +150,19 @@ class Item(Named):
         classes = [one and one[0] for one in taken]
         return self.derives_all() and None not in classes and len(set(classes)) == len(classes)
 
+    def comes_back_from_cbor(self) -> bool:
+        """Whether CBOR keeps its values: those of an enum that is tagged externally, or of a struct
+        that holds something and flattens nothing, where it does what they hold."""
+        plain = not {"tag", "untagged"} & set(self.serde) and not self.flattens()
+        holds = self.variants or self.data.fields
+        return bool(self.derives_all() and plain and holds and all(f.type.comes_back_from_cbor() for f in self.fields()))
+
+    def may_be_null(self) -> bool:
+        """Whether it may be read of null."""
+        if self.variants:
+            return "untagged" in self.serde
+        return not self.data.fields or (self.data.style == "Newtype" and self.data.fields[0].type.may_be_null())
+
     def declared(self) -> str:
         """The declaration."""
         kept = [d for d in self.derives if d not in ("Serialize", "Deserialize", "Drop")]

@@ -126,17 +126,31 @@ class EnumWriter:
         return (f"λ real f. variant_back Self.refusal Self.gives {bracketed(law)}\nf (λ d. refl)\n"
                 f"(λ d only. {elim([self.read(v, w) for w in self.item.variants])})")
 
-    def read(self, sent: Variant, read: Variant) -> str:
-        """That a variant that was read is equal to the one that was sent."""
+    def cbor_round_trip(self) -> List[str]:
+        return [ghost("kept", f"record {{\nof_value = {self.each(self.kept)};\n}}")]
+
+    def kept(self, v: Variant, holder: Holder, values: List[str]) -> str:
+        """That a variant comes back from CBOR."""
+        law = f"{holder.word}_kept{holder.kept(values, self.sees(holder))}"
+        it = f"(given_as {self.name} {codes(v.wire)} d it)"
+        read = elim([self.read(v, w, f"{it}.named", f"{it}.held") for w in self.item.variants])
+        return f"λ real. variant_comes_back _ Self.gives {bracketed(law)}\n(λ v. refl)\n(λ d only. {read})"
+
+    def not_null(self) -> List[str]:
+        return [ghost("refuses_null", f"enum_not_null {self.name} _")]
+
+    def read(self, sent: Variant, read: Variant, named: str = "it.0", held: str = "it.1") -> str:
+        """That a variant that was read is equal to the one that was sent, by what is known of its
+        name and of what it holds."""
         values = self.leaves(read, "y")
         pattern = self.case(read, "y") + " λ it. "
         if read is not sent:
-            return pattern + "other_variant it.0 refl"
+            return pattern + f"other_variant {named} refl"
         if not values:
             return pattern + "refl"
         if self.alone(read):
-            return pattern + "only y1 it.1"
-        return pattern + f"let same = only {together(values)} it.1 in {all_hold(facts(len(values), 'same'))}"
+            return pattern + f"only y1 {held}"
+        return pattern + f"let same = only {together(values)} {held} in {all_hold(facts(len(values), 'same'))}"
 
     def alone(self, v: Variant) -> bool:
         """Whether its one value stands in no row."""

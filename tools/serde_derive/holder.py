@@ -27,6 +27,7 @@ class Row(NamedTuple):
     gives: Tuple[str, str]
     back: Tuple[str, str]
     keeps: Tuple[str, str]
+    kept: Tuple[str, str]
 
 
 BY_PLACE = Row(
@@ -35,14 +36,16 @@ BY_PLACE = Row(
     ("part_then {count} {place} {inner}", "no_part"),
     ("PartThen {inner}", "NoPart"),
     ("tuple_field_back {inner} {see} {count} {place}", "parts_end"),
-    ("part_keeps {see} {count} {place} {inner}", "parts_end_keeps"))
+    ("part_keeps {see} {count} {place} {inner}", "parts_end_keeps"),
+    ("tuple_field_kept {inner} {see} {count} {place}", "parts_end_kept"))
 BY_NAME = Row(
     ("field_first {name} {inner}", "end_script"),
     ("field_fits {inner}", "struct_end_fits"),
     ("named{or_}_then {name} {inner}", "({left} {known})"),
     ("Named{Or}Then {name}{missing} {inner}", "NoOthers"),
     ("named{or_}_back {name}{missing} {inner} {see}", "({end}_back {known})"),
-    ("named{or_}_keeps {name}{missing} {see} {inner}", "({end}_keeps {known})"))
+    ("named{or_}_keeps {name}{missing} {see} {inner}", "({end}_keeps {known})"),
+    ("named{or_}_kept {name}{missing} {inner} {see}", "({end}_kept {known})"))
 FLATTENED = BY_NAME._replace(
     script=("flattened_first {name} {inner}", "end_script"),
     lawful=("flattened_fits {inner}", "flattened_end_fits"),
@@ -233,12 +236,21 @@ class Holder:
     def reader_at(self, start: int) -> str:
         return f"{self.reader}_from_{start + 1}" if start else self.reader
 
-    def back_row(self, values: List[str], sees: List[str]) -> str:
-        asked, laws = self.data.asked(), []
-        for f, value in zip(self.fields, values):
+    def trip_row(self, member: str, laws: List[str], values: List[str], sees: List[str]) -> str:
+        """All its values in a law of what comes back, each with the fact that it exists."""
+        asked, inner = self.data.asked(), []
+        for f, law, value in zip(self.fields, laws, values):
             real = "tt" if f.type.plain else "real" if len(asked) == 1 else f"real.{asked.index(f)}"
-            laws.append(f"{f.type.typed_back()} {value} {real}")
-        return self.row("back", laws, sees)
+            inner.append(f"{law} {value} {real}")
+        return self.row(member, inner, sees)
+
+    def back_row(self, values: List[str], sees: List[str]) -> str:
+        return self.trip_row("back", [f.type.typed_back() for f in self.fields], values, sees)
+
+    def kept(self, values: List[str], sees: List[str]) -> str:
+        """That what is sent comes back from CBOR."""
+        row = self.trip_row("kept", [f.type.typed_kept() for f in self.fields], values, sees)
+        return self.by_name("by_name_kept", row)
 
     def back(self, values: List[str], sees: List[str]) -> str:
         """That what is sent comes back, where a fact `real` says what exists."""

@@ -82,7 +82,8 @@ class Homes:
             if lacking - set(part.derives):
                 raise ValueError(f"`{name}` does not derive {', '.join(sorted(lacking - set(part.derives)))}")
             law = ("records", "map_takes" if part.flattens() else "struct_takes")
-            return Type(name, home=self.here, declared=name, plain=not part.asked(), record=law if part.data.named else None)
+            return Type(name, home=self.here, declared=name, plain=not part.asked(), lost=not part.comes_back_from_cbor(),
+                        null=part.may_be_null(), record=law if part.data.named else None)
         path = self.uses.get(name, name.split("::"))
         if len(path) < 2 or path[0] in ("self", "super"):
             raise ValueError(f"the type `{name}` is not covered; one of your own is declared in this"

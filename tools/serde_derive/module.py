@@ -10,7 +10,7 @@ from .parser import Parser
 from .structs import StructWriter
 from .tagged import TaggedWriter
 from .text import alias
-from .types import READ, TRIP, snake
+from .types import CBOR, NOT_NULL, READ, TRIP, snake
 from .untagged import UntaggedWriter
 from .words import ALIASES, METHODS, SEEN, TAKEN, USES, WORDS, words_of
 
@@ -20,7 +20,7 @@ def impl(item: Item, trait: str, members: List[str], lifetime: str = "") -> str:
     body = "\n\n".join(members)
     laws = [f"ghost use {own.home.format('contracts')}.{own.declared}{kind}.TheImpl.Laws"
             f" as {snake(own.declared)}_{snake(kind)};\n"
-            for own in item.owns() for kind in ("Serialize", "RoundTrip", "Ord")
+            for own in item.owns() for kind in ("Serialize", "RoundTrip", "CborRoundTrip", "NotNull", "Ord")
             if f"{snake(own.declared)}_{snake(kind)}." in body]
     return f"impl{lifetime} {trait} for {item.name} {{\n{''.join(laws)}\n{body}\n}}\n"
 
@@ -32,8 +32,8 @@ def writer_of(item: Item) -> Union[StructWriter, EnumWriter]:
     return sort(item)
 
 
-def impls(item: Item) -> Iterator[str]:
-    """The impls of the traits that an item derives."""
+def impls(item: Item, cbor: bool) -> Iterator[str]:
+    """The impls of the traits that an item derives, and for CBOR."""
     writer = writer_of(item)
     yield from writer.functions()
     if "Serialize" in item.derives:
@@ -42,6 +42,10 @@ def impls(item: Item) -> Iterator[str]:
         yield impl(item, READ, writer.deserialize(), "<'de>")
     if item.comes_back():
         yield impl(item, TRIP, writer.round_trip(), "<'de>")
+    if cbor and item.comes_back_from_cbor():
+        yield impl(item, CBOR, writer.cbor_round_trip(), "<'de>")
+        if not item.may_be_null():
+            yield impl(item, NOT_NULL, writer.not_null(), "<'de>")
 
 
 def check(item: Item) -> None:
@@ -61,7 +65,7 @@ def check(item: Item) -> None:
         raise Refused(item.line, f"`{item.name}`: such attributes don't go together")
 
 
-def module(source: str, name: str, crate: str, place: str) -> str:
+def module(source: str, name: str, crate: str, place: str, cbor: bool = False) -> str:
     """The module for a file of declarations, not yet laid out."""
     docs, uses, items = Parser(source).file()
     homes = Homes(crate, place, uses, items)
@@ -70,7 +74,7 @@ def module(source: str, name: str, crate: str, place: str) -> str:
         name_item(item)
     for item in items:
         homes.settle(item)
-    body = "\n".join(text for item in items for text in (item.declared(), "", *impls(item)))
+    body = "\n".join(text for item in items for text in (item.declared(), "", *impls(item, cbor)))
     seen = " ".join(re.findall(r"λ (?:o )?\([xz] : (.*?)\)\. ", body))
     owns = {own.declared: own for item in items for own in item.owns()}
     ghosts = words_of(body, WORDS) + words_of(seen, SEEN)

@@ -79,3 +79,15 @@ class StructWriter:
             function(KNOWN, *[f"self.{f.name}.known();" for f in asked]),
             ghost("comes_back", f"record {{\nof_value = λ p real f. {back};\n}}"),
             ghost("keeps", keeps)]
+
+    def cbor_round_trip(self) -> List[str]:
+        holder = self.holder
+        laws = f"{holder.word}_kept{holder.kept(self.values, self.sees)}"
+        passes = same(self.item.data, iter(facts(holder.count, 'h'))) if holder.many else "h"
+        see = "" if holder.many else " (λ q. q.0)"
+        return [ghost("kept", f"record {{\nof_value = λ p real. {laws}{see}\n(λ q h. {passes});\n}}")]
+
+    def not_null(self) -> List[str]:
+        holder = self.holder
+        inner = "_" if holder.many else self.fields[0].type.not_null()
+        return [ghost("refuses_null", f"{holder.word}_not_null {holder.names} {inner}")]

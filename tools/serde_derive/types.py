@@ -11,10 +11,12 @@ class Laws(NamedTuple):
     back: str  # its values come back
     keeps: str  # what it gives without coercion it gives with it
     seen: str  # the type as contracts see it
+    kept: str = ""  # its values come back from CBOR, where they do
+    not_null: str = ""  # it isn't read of null, where it isn't
 
 
-def leaf(back: str, seen: str, keeps: str) -> Laws:
-    return Laws("leaf_lawful refl", back, keeps, seen)
+def leaf(back: str, seen: str, keeps: str, kept: str = "", not_null: str = "") -> Laws:
+    return Laws("leaf_lawful refl", back, keeps, seen, kept, not_null)
 
 
 def heedless(word: str, gives: str, of: str) -> str:
@@ -26,31 +28,33 @@ def whole(name: str) -> Laws:
     """A whole number's laws: those of a size are those of 64 bits."""
     kind = name.replace("size", "64")
     sort, seen = ("natural", "ℕ") if name[0] == "u" else ("integer", "ℤ")
-    return leaf(f"{kind}_back", seen, f"({sort}_keeps kind.{kind})")
+    return leaf(f"{kind}_back", seen, f"({sort}_keeps kind.{kind})", f"{kind}_kept", f"(number_not_null kind.{kind})")
 
 
 NUMBERS = {name: whole(name) for name in
            [sign + bits for sign in "ui" for bits in ("8", "16", "32", "64", "128", "size")]}
 SIGNED = {name for name in NUMBERS if name[0] == "i"}
 LEAVES = {
-    "bool": leaf("bool_back", "Bool", heedless("bool_from", "bool_from o ≡ taken x", "Bool")),
+    "bool": leaf("bool_back", "Bool", heedless("bool_from", "bool_from o ≡ taken x", "Bool"), "bool_kept", "bool_not_null"),
     "char": leaf("char_back", "ℕ", heedless("char_from", "char_from o ≡ taken x", "ℕ")),
     "()": leaf("unit_back", "(Unit {{0}})", heedless("unit_from", "unit_from o ≡ taken x", "Unit {{0}}")),
     "String": leaf("text_back", "(String Global)", heedless(
-        "text_from", "IsTaken (text_from o) (HasContent (string_bytes x))", "String Global")),
+        "text_from", "IsTaken (text_from o) (HasContent (string_bytes x))", "String Global"), "text_kept", "text_not_null"),
     **NUMBERS,
 }
 HOLDERS = {
     "Option": Laws("option_lawful {0} {x} {h}", "(option_back {0})", "(option_keeps {0})",
-                   "(Option {0})"),
+                   "(Option {0})", "(option_kept {null} {0})"),
     "Vec": Laws("seq_lawful {0} {x}.items {h}", "(seen_back (λ v. v.items) (seq_back {0}))",
-                "(seen_keeps (λ v. v.items) (seq_keeps {0}))", "(Vec {0} Global)"),
+                "(seen_keeps (λ v. v.items) (seq_keeps {0}))", "(Vec {0} Global)",
+                "(seen_kept (λ v. v.items) (seq_kept {0}))", "(seq_not_null _)"),
     "Box": Laws("{0}", "(seen_back (λ b. b.value) {0})", "(seen_keeps (λ b. b.value) {0})",
-                "(Box {0} Global)"),
+                "(Box {0} Global)", "(seen_kept (λ b. b.value) {0})", "{null}"),
     "BTreeMap": Laws("map_lawful {0} {1} {x}.entries {h}",
                      "(seen_back (λ m. m.entries) (map_back {total} {ties} {0} {1}))",
                      "(seen_keeps (λ m. m.entries) (map_keeps ({order}) {0} {1}))",
-                     "(BTreeMap {0} {1} Global)"),
+                     "(BTreeMap {0} {1} Global)",
+                     "(seen_kept (λ m. m.entries) (map_kept {total} {ties} {0} {1}))", "(map_not_null _ _)"),
 }
 # the class of trees that a type takes, and the law that it refuses all others
 CLASSES = {
@@ -66,8 +70,11 @@ DEFAULTS = {
     **{name: ("0", "x ≡ pos 0" if name in SIGNED else "x ≡ 0") for name in NUMBERS},
 }
 OWN = Laws("{own}_serialize.lawful-law {x} {h}", "{own}_round_trip.comes_back-law",
-           "{own}_round_trip.keeps-law", "{declared}")
-READ, TRIP = "Deserialize<'de>", "RoundTrip<'de>"
+           "{own}_round_trip.keeps-law", "{declared}",
+           "{own}_cbor_round_trip.kept-law", "{own}_not_null.refuses_null-law")
+SENT_AND_READ = (("RoundTrip<'de>", "exists"), ("Serialize", "script"), ("Deserialize<'de>", "refusal"),
+                 ("Deserialize<'de>", "gives"), ("PartialEq", "eq"))
+READ, TRIP, CBOR, NOT_NULL = "Deserialize<'de>", "RoundTrip<'de>", "CborRoundTrip<'de>", "NotNull<'de>"
 
 
 @dataclass(frozen=True)
@@ -75,7 +82,8 @@ class Type:
     """A field's type: a leaf, a holder, a tuple, or one of the user's own.
 
     An own type has a `home`, the path of the specifications of the module that declares it under
-    the name `declared`. It is `plain` where contracts take each of its values for one that exists.
+    the name `declared`. It is `plain` where contracts take each of its values for one that exists,
+    and `lost` where its values don't come back from CBOR, `null` where it may be read of null.
     One of the same file that is read as a struct or a map has a `record`, the law that it takes no others.
     """
 
@@ -84,6 +92,8 @@ class Type:
     home: str = ""
     declared: str = ""
     plain: bool = False
+    lost: bool = False
+    null: bool = False
     record: Optional[Tuple[str, str]] = None
 
     @property
@@ -118,6 +128,34 @@ class Type:
                       for i, law in enumerate(inside)], "parts_end")
         return f"(record {{ of_value = λ x real f. tuple_back{parts}\nf (λ y h. {both(count, 'h')}) }})"
 
+    def kept(self) -> str:
+        inside, count = [a.kept() for a in self.arguments], len(self.arguments)
+        if self.name != "tuple":
+            null = self.arguments[0].not_null() if self.name == "Option" else ""
+            return self.laws.kept.format(*inside, own=snake(self.declared), null=null, **self.ordered())
+        parts = nest([f"element_kept {law} x.{i} real{f'.{i}' * (count > 1)} (λ y. y.{i}) {count} {i}"
+                      for i, law in enumerate(inside)], "parts_end_kept")
+        return f"(record {{ of_value = λ x real. tuple_kept{parts}\n(λ y h. {both(count, 'h')}) }})"
+
+    def not_null(self) -> str:
+        if self.name == "tuple":
+            return f"(tuple_not_null {len(self.arguments)} _)"
+        null = self.arguments[0].not_null() if self.name == "Box" else ""
+        return self.laws.not_null.format(own=snake(self.declared), null=null)
+
+    def comes_back_from_cbor(self) -> bool:
+        """Whether CBOR keeps its values; so it does an optional one of what is never null."""
+        if self.home or not self.arguments:
+            return not self.lost if self.home else bool(self.laws.kept)
+        return all(a.comes_back_from_cbor() for a in self.arguments) and not (
+            self.name == "Option" and self.arguments[0].may_be_null())
+
+    def may_be_null(self) -> bool:
+        """Whether it may be read of null."""
+        if self.name == "Box":
+            return self.arguments[0].may_be_null()
+        return self.null if self.home else self.name in ("Option", "()")
+
     def keeps(self) -> str:
         inside, count = [a.keeps() for a in self.arguments], len(self.arguments)
         if self.name != "tuple":
@@ -128,10 +166,10 @@ class Type:
 
     def typed_back(self) -> str:
         """The same with its type, where the term alone does not tell it."""
-        if not self.arguments:
-            return self.back()
-        said = ((TRIP, "exists"), ("Serialize", "script"), (READ, "refusal"), (READ, "gives"), ("PartialEq", "eq"))
-        return self.typed("ComesBack", said, self.back())
+        return self.typed("ComesBack", SENT_AND_READ, self.back()) if self.arguments else self.back()
+
+    def typed_kept(self) -> str:
+        return self.typed("FormComesBack", SENT_AND_READ, self.kept()) if self.arguments else self.kept()
 
     def typed_keeps(self) -> str:
         if not self.arguments:

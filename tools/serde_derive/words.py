@@ -64,6 +64,17 @@ serde_content.specs.Laws.Untagged unit_takes bool_takes number_takes char_takes 
 serde_content.specs.Laws.Untagged map_takes struct_takes
 serde_content.specs.Laws.Variants variant_back other_variant variant_kept
 serde_content.specs.Laws.Variants {' '.join(f'{s}_back {s}_keeps' for s in STYLES[1::2])}
+content_cbor.specs.Typed.Kept FormComesBack
+content_cbor.specs.Typed.Leaves {' '.join(laws.kept for laws in LEAVES.values() if laws.kept)}
+content_cbor.specs.Typed.Leaves number_not_null bool_not_null text_not_null
+content_cbor.specs.Typed.Holders seen_kept option_kept seq_kept seq_not_null
+content_cbor.specs.Typed.Maps map_kept map_not_null
+content_cbor.specs.Typed.Series element_kept tuple_kept tuple_field_kept tuple_struct_kept parts_end_kept
+content_cbor.specs.Typed.Series tuple_not_null tuple_struct_not_null
+content_cbor.specs.Typed.Records struct_kept newtype_struct_kept struct_not_null newtype_struct_not_null
+content_cbor.specs.Typed.ByName by_name_kept named_kept named_or_kept skipped_kept closed_kept
+content_cbor.specs.Typed.Variants variant_comes_back given_as enum_not_null
+content_cbor.specs.Typed.Variants {' '.join(f'{s}_kept' for s in STYLES[1::2])}
 """)
 ALIASES = {"kind": "content_tree.specs.Values.Ranges", "tree": "content_tree.specs.Values.Tree"}
 SEEN = word_table("""
@@ -78,6 +89,7 @@ SENDERS, READERS = [f"send_{count}" for count in COUNTS], [f"read_{count}" for c
 PLACES = "First Second Third Fourth".split()
 CHOICES = [(f"first_of_{count}", f"OneOf{count.title()}") for count in COUNTS[1:len(PLACES)]]
 USES = {
+    "content_cbor": "CborRoundTrip NotNull",
     "serde_content": "CowStr Deserializer Error Result RoundTrip",
     "serde_content::de": f"Deserialize FieldsByName {' '.join(sorted(one for _, one in CHOICES))} attempt end_fields"
                          f" field_or {' '.join(sorted(first for first, _ in CHOICES))} named_field next_part"

@@ -52,6 +52,19 @@ ghost use Rattle.serde_content.specs.Laws.Variants.{unit_variant_back, unit_vari
 ghost use Rattle.serde_content.specs.Laws.Variants.{newtype_variant_back, newtype_variant_keeps};
 ghost use Rattle.serde_content.specs.Laws.Variants.{tuple_variant_back, tuple_variant_keeps};
 ghost use Rattle.serde_content.specs.Laws.Variants.{struct_variant_back, struct_variant_keeps};
+ghost use Rattle.content_cbor.specs.Typed.Kept.{FormComesBack};
+ghost use Rattle.content_cbor.specs.Typed.Leaves.{text_kept, u8_kept, u16_kept, u32_kept, u64_kept};
+ghost use Rattle.content_cbor.specs.Typed.Leaves.{i32_kept, number_not_null, text_not_null};
+ghost use Rattle.content_cbor.specs.Typed.Holders.{seen_kept, option_kept, seq_kept};
+ghost use Rattle.content_cbor.specs.Typed.Maps.{map_kept};
+ghost use Rattle.content_cbor.specs.Typed.Series.{element_kept, tuple_kept, tuple_field_kept};
+ghost use Rattle.content_cbor.specs.Typed.Series.{parts_end_kept};
+ghost use Rattle.content_cbor.specs.Typed.Records.{struct_kept, struct_not_null};
+ghost use Rattle.content_cbor.specs.Typed.ByName.{by_name_kept, named_kept, named_or_kept};
+ghost use Rattle.content_cbor.specs.Typed.ByName.{skipped_kept, closed_kept};
+ghost use Rattle.content_cbor.specs.Typed.Variants.{variant_comes_back, given_as, enum_not_null};
+ghost use Rattle.content_cbor.specs.Typed.Variants.{unit_variant_kept, newtype_variant_kept};
+ghost use Rattle.content_cbor.specs.Typed.Variants.{tuple_variant_kept, struct_variant_kept};
 ghost use Rattle.std.specs.declared.alloc.Global.{Global};
 ghost use Rattle.std.specs.declared.string.String.{String};
 ghost use Rattle.std.specs.declared.vec.Vec.{Vec};
@@ -61,6 +74,7 @@ ghost use Rattle.check_derive.specs.declared.types.Place.{Place};
 ghost use Rattle.check_derive.specs.declared.types.Step.{Step};
 ghost use Rattle.check_derive.specs.declared.types.Step.TheVariants as step;
 
+use content_cbor::{CborRoundTrip, NotNull};
 use serde_content::de::{
     Deserialize, FieldsByName, read_six, read_two, two_parts, unknown_variant,
 };
@@ -177,6 +191,24 @@ impl<'de> RoundTrip<'de> for Place {
         (⟦<Option<u8> as Deserialize<'de>>⟧.gives) = (option_keeps (natural_keeps kind.u8))
         in law)
         (closed_keeps (codes "streetName" ∷ codes "floor" ∷ []))))) };
+}
+
+impl<'de> CborRoundTrip<'de> for Place {
+    ghost kept = { record {
+      of_value = λ p real. struct_kept (by_name_kept
+          (named_kept (codes "streetName") text_kept p.street_name tt (λ q. q.street_name)
+          (named_or_kept (codes "floor") (λ (x : (Option ℕ)). x ≡ None)
+          (let law : FormComesBack (⟦<Option<u8> as RoundTrip<'de>>⟧.exists)
+          (⟦<Option<u8> as Serialize>⟧.script) (⟦<Option<u8> as Deserialize<'de>>⟧.refusal)
+          (⟦<Option<u8> as Deserialize<'de>>⟧.gives) (⟦<Option<u8> as PartialEq>⟧.eq) =
+          (option_kept (number_not_null kind.u8) u8_kept) in law) p.floor real (λ q. q.floor)
+          (closed_kept (codes "streetName" ∷ codes "floor" ∷ [])))))
+          (λ q h. both_hold h.0 h.1.0);
+    } };
+}
+
+impl<'de> NotNull<'de> for Place {
+    ghost refuses_null = { struct_not_null (codes "Place") _ };
 }
 
 /// What becomes of an order.
@@ -454,6 +486,75 @@ impl<'de> RoundTrip<'de> for Step {
             record { free = q.0; given = q.1 }
       ];
     } };
+}
+
+impl<'de> CborRoundTrip<'de> for Step {
+    ghost use Rattle.check_derive.specs.contracts.types.PlaceCborRoundTrip.TheImpl.Laws as place_cbor_round_trip;
+
+    ghost kept = { record {
+      of_value = elim [
+        | step.Open ↦ λ real. variant_comes_back _ Self.gives unit_variant_kept
+            (λ v. refl)
+            (λ d only. elim [
+              | step.Open ↦ λ it. refl
+              | step.Weighed y1 ↦ λ it. other_variant
+                  (given_as (codes "Step") (codes "open") d it).named refl
+              | step.Moved y1 y2 ↦ λ it. other_variant
+                  (given_as (codes "Step") (codes "open") d it).named refl
+              | step.Left y1 y2 ↦ λ it. other_variant
+                  (given_as (codes "Step") (codes "open") d it).named refl
+            ])
+        | step.Weighed x1 ↦ λ real. variant_comes_back _ Self.gives
+            (newtype_variant_kept u32_kept x1 tt)
+            (λ v. refl)
+            (λ d only. elim [
+              | step.Open ↦ λ it. other_variant
+                  (given_as (codes "Step") (codes "weighed") d it).named refl
+              | step.Weighed y1 ↦ λ it. only y1
+                  (given_as (codes "Step") (codes "weighed") d it).held
+              | step.Moved y1 y2 ↦ λ it. other_variant
+                  (given_as (codes "Step") (codes "weighed") d it).named refl
+              | step.Left y1 y2 ↦ λ it. other_variant
+                  (given_as (codes "Step") (codes "weighed") d it).named refl
+            ])
+        | step.Moved x1 x2 ↦ λ real. variant_comes_back _ Self.gives (tuple_variant_kept
+            (tuple_field_kept i32_kept x1 tt (λ (z : ℤ × ℤ). z.0) 2 0
+            (tuple_field_kept i32_kept x2 tt (λ (z : ℤ × ℤ). z.1) 2 1
+            parts_end_kept)))
+            (λ v. refl)
+            (λ d only. elim [
+              | step.Open ↦ λ it. other_variant
+                  (given_as (codes "Step") (codes "moved-by") d it).named refl
+              | step.Weighed y1 ↦ λ it. other_variant
+                  (given_as (codes "Step") (codes "moved-by") d it).named refl
+              | step.Moved y1 y2 ↦ λ it. let same = only (y1, y2)
+                  (given_as (codes "Step") (codes "moved-by") d it).held in both_hold same.0 same.1.0
+              | step.Left y1 y2 ↦ λ it. other_variant
+                  (given_as (codes "Step") (codes "moved-by") d it).named refl
+            ])
+        | step.Left x1 x2 ↦ λ real. variant_comes_back _ Self.gives
+            (struct_variant_kept (by_name_kept
+            (named_kept (codes "with") text_kept x1 tt (λ (z : (String Global) × Place). z.0)
+            (named_kept (codes "at") place_cbor_round_trip.kept-law x2 real
+            (λ (z : (String Global) × Place). z.1)
+            (skipped_kept (codes "with" ∷ codes "at" ∷ []))))))
+            (λ v. refl)
+            (λ d only. elim [
+              | step.Open ↦ λ it. other_variant
+                  (given_as (codes "Step") (codes "left") d it).named refl
+              | step.Weighed y1 ↦ λ it. other_variant
+                  (given_as (codes "Step") (codes "left") d it).named refl
+              | step.Moved y1 y2 ↦ λ it. other_variant
+                  (given_as (codes "Step") (codes "left") d it).named refl
+              | step.Left y1 y2 ↦ λ it. let same = only (y1, y2)
+                  (given_as (codes "Step") (codes "left") d it).held in both_hold same.0 same.1.0
+            ])
+      ];
+    } };
+}
+
+impl<'de> NotNull<'de> for Step {
+    ghost refuses_null = { enum_not_null (codes "Step") _ };
 }
 
 /// An order.
@@ -749,4 +850,61 @@ impl<'de> RoundTrip<'de> for Order {
         law)
         (skipped_keeps (codes "order-id" ∷ codes "to" ∷ codes "steps" ∷ codes "goods" ∷
         codes "size" ∷ codes "note" ∷ []))))))))) };
+}
+
+impl<'de> CborRoundTrip<'de> for Order {
+    ghost use Rattle.check_derive.specs.contracts.types.PlaceCborRoundTrip.TheImpl.Laws as place_cbor_round_trip;
+    ghost use Rattle.check_derive.specs.contracts.types.StepCborRoundTrip.TheImpl.Laws as step_cbor_round_trip;
+
+    ghost kept = { record {
+      of_value = λ p real. struct_kept (by_name_kept
+          (named_kept (codes "order-id") u64_kept p.id tt (λ q. q.id)
+          (named_kept (codes "to") place_cbor_round_trip.kept-law p.to real.0 (λ q. q.to)
+          (named_or_kept (codes "steps") (λ (x : (Vec Step Global)). x.items ≡ [])
+          (let law : FormComesBack (⟦<Vec<Step> as RoundTrip<'de>>⟧.exists)
+          (⟦<Vec<Step> as Serialize>⟧.script) (⟦<Vec<Step> as Deserialize<'de>>⟧.refusal)
+          (⟦<Vec<Step> as Deserialize<'de>>⟧.gives) (⟦<Vec<Step> as PartialEq>⟧.eq) =
+          (seen_kept (λ v. v.items) (seq_kept step_cbor_round_trip.kept-law)) in law) p.steps
+          real.1 (λ q. q.steps)
+          (named_kept (codes "goods") (let law : FormComesBack
+          (⟦<BTreeMap<String, u32> as RoundTrip<'de>>⟧.exists)
+          (⟦<BTreeMap<String, u32> as Serialize>⟧.script)
+          (⟦<BTreeMap<String, u32> as Deserialize<'de>>⟧.refusal)
+          (⟦<BTreeMap<String, u32> as Deserialize<'de>>⟧.gives)
+          (⟦<BTreeMap<String, u32> as PartialEq>⟧.eq) =
+          (seen_kept (λ m. m.entries) (map_kept string_cmp_total
+          (λ x y. texts_ties (string_bytes x) (string_bytes y)) text_kept u32_kept)) in law)
+          p.goods real.2 (λ q. q.goods)
+          (named_kept (codes "size") (let law : FormComesBack
+          (⟦<(u16, u16, u16) as RoundTrip<'de>>⟧.exists)
+          (⟦<(u16, u16, u16) as Serialize>⟧.script)
+          (⟦<(u16, u16, u16) as Deserialize<'de>>⟧.refusal)
+          (⟦<(u16, u16, u16) as Deserialize<'de>>⟧.gives)
+          (⟦<(u16, u16, u16) as PartialEq>⟧.eq) = (record {
+            of_value = λ x real. tuple_kept
+                (element_kept u16_kept x.0 real.0 (λ y. y.0) 3 0
+                (element_kept u16_kept x.1 real.1 (λ y. y.1) 3 1
+                (element_kept u16_kept x.2 real.2 (λ y. y.2) 3 2
+                parts_end_kept)))
+                (λ y h. both_hold (both_hold h.0 h.1.0) h.1.1.0);
+          }) in law) p.size real.3
+          (λ q. q.size)
+          (named_or_kept (codes "note")
+          (λ (x : (Option (Box (String Global) Global))). x ≡ None)
+          (let law : FormComesBack (⟦<Option<Box<String>> as RoundTrip<'de>>⟧.exists)
+          (⟦<Option<Box<String>> as Serialize>⟧.script)
+          (⟦<Option<Box<String>> as Deserialize<'de>>⟧.refusal)
+          (⟦<Option<Box<String>> as Deserialize<'de>>⟧.gives)
+          (⟦<Option<Box<String>> as PartialEq>⟧.eq) =
+          (option_kept text_not_null (seen_kept (λ b. b.value) text_kept)) in law) p.note
+          real.4 (λ q. q.note)
+          (skipped_kept (codes "order-id" ∷ codes "to" ∷ codes "steps" ∷ codes "goods" ∷ codes
+          "size" ∷ codes "note" ∷ [])))))))))
+          (λ q h. both_hold h.0 (both_hold h.1.0
+          (both_hold h.1.1.0 (both_hold h.1.1.1.0 (both_hold h.1.1.1.1.0 h.1.1.1.1.1.0)))));
+    } };
+}
+
+impl<'de> NotNull<'de> for Order {
+    ghost refuses_null = { struct_not_null (codes "Order") _ };
 }

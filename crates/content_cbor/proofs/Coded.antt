@@ -15,7 +15,8 @@ use Rattle.content_cbor.specs.Heads.{first_byte, head}
 use Rattle.content_cbor.specs.Item.{boolean_item, bytes_item, null_item, number_item, shortest, without_zeros, item, each_item, pair_items, field_items, data_item, variant_item, text_item}
 use Rattle.content_cbor.specs.Codes as size
 use Rattle.content_cbor.specs.Codes.{Codes, Each, IsHead, IsInteger, IsTagged, IsContent, IsPiece, IsString, IsPair, Parts}
-use Rattle.content_cbor.specs.Form.{form, each_form, pair_forms, field_forms, data_form, variant_form, text_form, entry_form, depth, each_depth, pair_depths, Fits, EachFits, PairsFit, FieldsFit, DataFits, IsInRange, IsText, CodesForm}
+use Rattle.content_cbor.proofs.Ranges.{IsInRange, within}
+use Rattle.content_cbor.specs.Form.{form, each_form, pair_forms, field_forms, data_form, variant_form, text_form, entry_form, depth, each_depth, pair_depths, Fits, EachFits, PairsFit, FieldsFit, DataFits, IsText, CodesForm}
 use Rattle.content_cbor.specs.declared.heads.Major.{Major}
 use Rattle.content_cbor.specs.declared.heads.Major.TheVariants as major
 
@@ -229,7 +230,7 @@ mutual
   coded (suc limit) tree.unit fits le = null_is
   coded (suc limit) (tree.boolean true) fits le = boolean_is true
   coded (suc limit) (tree.boolean false) fits le = boolean_is false
-  coded (suc limit) (tree.number n) fits le = (number_value n, refl, integer_is (number_value n) fits)
+  coded (suc limit) (tree.number n) fits le = (number_value n, refl, integer_is (number_value n) (within n fits))
   coded (suc limit) (tree.character c) fits le = text_is _ fits
   coded (suc limit) (tree.text t) fits le = text_is t.content fits
   coded (suc limit) (tree.octets t) fits le = string_is major.Bytes t.content fits tt

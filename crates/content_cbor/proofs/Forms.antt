@@ -1,5 +1,5 @@
 -- Forms are their own, and have the items of their trees.
-use Rattle.std.proofs.Common.{◌≡◌, ℕ, suc, ◌^◌, ℤ, pos, negsuc, List, ◌++◌, refl, sym, ap, ◌∙◌, append_assoc, append-nil, inl, inr}
+use Rattle.std.proofs.Common.{◌≡◌, ℕ, suc, List, ◌++◌, refl, sym, ap, ◌∙◌, append_assoc, append-nil}
 use Rattle.content_tree.specs.Values.Tree as tree
 use Rattle.content_tree.specs.Values.Tree.{Tree, TreeData, Trees, Pairs, Fields}
 use Rattle.content_tree.specs.Values.Ranges.{number_value}
@@ -9,17 +9,13 @@ use Rattle.content_cbor.specs.Form.{form, each_form, pair_forms, field_forms, da
 use Rattle.content_cbor.specs.Heads.{head}
 use Rattle.content_cbor.specs.Item.{item, each_item, pair_items, field_items, data_item, variant_item, text_item, number_item}
 use Rattle.content_cbor.specs.declared.heads.Major.TheVariants as major
-use Rattle.content_cbor.proofs.Coded.{tells}
-
-value_back : (z : ℤ) → number_value (number_of z) ≡ z
-value_back (pos n) = elim (tells n (2 ^ 64)) [ inl w ↦ rw w.0 refl | inr w ↦ rw w.0 refl ]
-value_back (negsuc n) = elim (tells n (2 ^ 63)) [ inl w ↦ rw w.0 refl | inr w ↦ rw w.0 refl ]
+use Rattle.content_cbor.specs.Typed.Leaves.{value_kept}
 
 mutual
   pub form_own : (t : Tree) → form (form t) ≡ form t
   form_own tree.unit = refl
   form_own (tree.boolean b) = refl
-  form_own (tree.number n) = ap (λ z. tree.number (number_of z)) (value_back (number_value n))
+  form_own (tree.number n) = ap (λ z. tree.number (number_of z)) (value_kept (number_value n))
   form_own (tree.character c) = refl
   form_own (tree.text t) = refl
   form_own (tree.octets t) = refl
@@ -88,7 +84,7 @@ mutual
   pub form_item : (t : Tree) → item (form t) ≡ item t
   form_item tree.unit = refl
   form_item (tree.boolean b) = refl
-  form_item (tree.number n) = ap number_item (value_back (number_value n))
+  form_item (tree.number n) = ap number_item (value_kept (number_value n))
   form_item (tree.character c) = refl
   form_item (tree.text t) = refl
   form_item (tree.octets t) = refl

@@ -1,4 +1,6 @@
 pub mod Signs
+pub mod Ranges
+pub mod Returned
 pub mod Writing
 pub mod HandedOn
 pub mod Read

@@ -1,11 +1,10 @@
 -- What an encoder has written after the calls of a tree.
-use Rattle.std.proofs.Common.{◌≡◌, ℕ, zero, suc, ◌^◌, ℤ, pos, negsuc, Bool, true, false, List, [], ◌∷◌, ◌++◌, length, Option, Some, None, refl, sym, ap, subst, ◌∙◌, append_assoc, append-nil, if◌then◌else◌, option_map, option_and_then, Ok}
+use Rattle.std.proofs.Common.{◌≡◌, ℕ, zero, suc, ◌^◌, Bool, true, false, List, [], ◌∷◌, ◌++◌, length, Option, Some, None, refl, sym, ap, subst, ◌∙◌, append_assoc, append-nil, if◌then◌else◌, option_map, option_and_then, Ok}
 use Rattle.std.specs.Str.{is_utf8}
 use Rattle.std.proofs.lemmas.Str.{IsUtf8-from_is_utf8}
 use Rattle.std.proofs.lemmas.Bool.{and_parts, ltb-true}
 use Rattle.content_tree.specs.Values.Tree as tree
 use Rattle.content_tree.specs.Values.Tree.{Tree, TreeData, Trees, Pairs, Fields}
-use Rattle.content_tree.specs.Values.Ranges.{number_value}
 use Rattle.content_ser.specs.Calls.Event.{Event}
 use Rattle.content_ser.specs.Calls.Head.{Head, of_struct, of_variant, headed}
 use Rattle.content_ser.specs.Grammar.Token as token
@@ -21,8 +20,8 @@ use Rattle.std.specs.declared.alloc.Global.{Global}
 use Rattle.std.specs.declared.vec.Vec.{Vec}
 use Rattle.content_cbor.specs.Encoded.{Encoded}
 use Rattle.content_cbor.proofs.Coded.{codes_form}
-use Rattle.content_cbor.specs.Form.{CodesForm, Fits, EachFits, PairsFit, FieldsFit, DataFits, IsText, IsLength, IsInRange}
-use Rattle.content_cbor.specs.Encoder.{Written, nothing, with_bytes, is_length, is_text, is_in_range, is_leaf, is_head, head_bytes, begun, begun_under, announced, all_came, wrapping, listing, writes, length_said, step}
+use Rattle.content_cbor.specs.Form.{CodesForm, Fits, EachFits, PairsFit, FieldsFit, DataFits, IsText, IsLength}
+use Rattle.content_cbor.specs.Encoder.{Written, nothing, with_bytes, is_length, is_text, is_leaf, is_head, head_bytes, begun, begun_under, announced, all_came, wrapping, listing, writes, length_said, step}
 use Rattle.content_cbor.specs.declared.heads.Major.{Major}
 use Rattle.content_cbor.specs.declared.heads.Major.TheVariants as major
 
@@ -57,14 +56,10 @@ text_fits content e =
     let both = and_parts (is_utf8 content) (is_length (length content)) e in
     (IsUtf8-from_is_utf8 content both.0, ltb-true (length content) (2 ^ 64) both.1)
 
-range_fits : (n : ℤ) → is_in_range n ≡ true → IsInRange n
-range_fits (pos n) e = ltb-true n (2 ^ 128) e
-range_fits (negsuc n) e = ltb-true n (2 ^ 127) e
-
 leaf_fits : (t : Tree) → is_leaf t ≡ true → Fits t
 leaf_fits tree.unit e = tt
 leaf_fits (tree.boolean b) e = tt
-leaf_fits (tree.number n) e = range_fits (number_value n) e
+leaf_fits (tree.number n) e = e
 leaf_fits (tree.character c) e = text_fits _ e
 leaf_fits (tree.text t) e = text_fits t.content e
 leaf_fits (tree.octets t) e = ltb-true (length t.content) (2 ^ 64) e
@@ -361,16 +356,16 @@ ends_as : (w f : Written) → Some w ≡ Some f → f ≡ w
 ends_as w f e = cc
 
 pub whole_written : (calls : List Event) (t : Tree) (f : Written) → SpellsWhole calls t → run step nothing calls ≡ Some f
-    → (f ≡ record { bytes = item t; due = [] }) × CodesForm t f.bytes
+    → (f ≡ record { bytes = item t; due = [] }) × Fits t × CodesForm t f.bytes
 whole_written calls t f s r =
     let w = written s calls refl in
     let after = w.2 nothing f r in
     let is = ends_as (at (item t) []) f (subst (λ more. run step (at (item t) []) more ≡ Some f) (none_left w.0 w.1) after.1) in
-    (is, subst (λ x. CodesForm t x.bytes) (sym is) (codes_form t after.0))
+    (is, after.0, subst (λ x. CodesForm t x.bytes) (sym is) (codes_form t after.0))
 
 -- a script that was sent whole
 pub sent_whole : (sc : Script) (f : Written) (v : Vec ℕ Global) → IsLawful sc → stop_of sc ≡ None → run step nothing (calls_of sc) ≡ Some f → v.items ≡ f.bytes → Encoded sc (Ok v)
 sent_whole sc f v lawful none r is =
     let whole = lawful.whole none in
     let w = whole_written (calls_of sc) whole.0 f whole.1 r in
-    (whole.0, none, whole.1, is ∙ ap (λ x. x.bytes) w.0, subst (CodesForm whole.0) (sym is) w.1)
+    (whole.0, none, whole.1, w.1, is ∙ ap (λ x. x.bytes) w.0, subst (CodesForm whole.0) (sym is) w.2)

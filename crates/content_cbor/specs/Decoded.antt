@@ -5,7 +5,7 @@ use Rattle.content_tree.specs.Values.Tree.{Tree}
 use Rattle.content_tree.specs.Values.Value.{tree_of}
 use Rattle.content_tree.specs.declared.error.Error.{Error}
 use Rattle.content_tree.specs.declared.value.NamedValue.{NamedValue}
-use Rattle.content_de.specs.Sources.Origin.{Subject, tree_under}
+use Rattle.content_de.specs.Sources.Origin.{Flags, Subject, tree_under}
 use Rattle.content_ser.specs.Scripts.Script.{IsCustom}
 use Rattle.content_cbor.specs.Codes.{Codes}
 use Rattle.content_cbor.specs.Inner.Reading.{whole_at}
@@ -49,9 +49,13 @@ IsPlaced limit bs (error.Refused at f) = (at ≤ length bs)
     × (at < length bs → ¬ IsViable limit (take (at + 1) bs))
     × FitsPlace limit bs at f
 
--- a tree as typed data is read of it: for no people, with numbers coerced
+-- how typed data are read: for no people, with numbers coerced
+abbrev pub read_flags : Flags
+read_flags = record { human_readable = false; coerces = true }
+
+-- a tree as typed data is read of it
 abbrev pub as_read : Tree → Subject
-as_read t = tree_under (record { human_readable = false; coerces = true }) t
+as_read t = tree_under read_flags t
 
 -- the printed fault with which reading these bytes ends; or out of memory
 abbrev pub IsFaultOf : ℕ → List ℕ → Error → Type 0

@@ -1,11 +1,10 @@
 -- An encoder: what each call writes of the item of a tree, while the tree's calls come.
-use Rattle.std.specs.Prelude.{ℕ, zero, suc, ◌^◌, ℤ, pos, negsuc, Bool, true, false, ◌&&◌, nat_lt}
+use Rattle.std.specs.Prelude.{ℕ, zero, suc, ◌^◌, Bool, true, false, ◌&&◌, nat_lt}
 use Rattle.std.specs.Prelude.{if◌then◌else◌, List, [], ◌∷◌, ◌++◌, length, encode_utf8, ◌≡◌}
 use Rattle.std.specs.Prelude.{Option, Some, None, option_map, IsSome, Result, Ok, Err}
 use Rattle.std.specs.Str.{is_utf8}
 use Rattle.std.specs.declared.alloc.AllocError.{AllocError}
 use Rattle.content_tree.specs.Errors.Kind.{kind_of, IsOutOfMemory}
-use Rattle.content_tree.specs.Values.Ranges.{number_value}
 use Rattle.content_tree.specs.Values.Tree as tree
 use Rattle.content_tree.specs.Values.Tree.{Tree}
 use Rattle.content_tree.specs.declared.error.Error.{Error}
@@ -16,6 +15,7 @@ use Rattle.content_ser.specs.Calls.Head.{Head, of_struct, of_variant}
 use Rattle.content_ser.specs.Grammar.Token as token
 use Rattle.content_ser.specs.Grammar.Token.{Token, Wrap, Series, token_of}
 use Rattle.content_ser.specs.Serializers.Step.{Refusal, after_failure, out_of_place, no_memory}
+use Rattle.content_cbor.specs.Form.{in_own_range}
 use Rattle.content_cbor.specs.Heads.{head}
 use Rattle.content_cbor.specs.Item.{item, text_item}
 use Rattle.content_cbor.specs.declared.heads.Major.{Major}
@@ -47,16 +47,11 @@ is_length n = nat_lt n (2 ^ 64)
 abbrev pub is_text : List ℕ → Bool
 is_text content = is_utf8 content && is_length (length content)
 
--- an integer of some kind
-abbrev pub is_in_range : ℤ → Bool
-is_in_range (pos n) = nat_lt n (2 ^ 128)
-is_in_range (negsuc n) = nat_lt n (2 ^ 127)
-
 -- a leaf that some call says
 abbrev pub is_leaf : Tree → Bool
 is_leaf tree.unit = true
 is_leaf (tree.boolean b) = true
-is_leaf (tree.number n) = is_in_range (number_value n)
+is_leaf (tree.number n) = in_own_range n
 is_leaf (tree.character c) = is_text (encode_utf8 c)
 is_leaf (tree.text t) = is_text t.content
 is_leaf (tree.octets t) = is_length (length t.content)

@@ -1,10 +1,13 @@
 -- What of a tree its data item keeps.
-use Rattle.std.specs.Prelude.{ℕ, suc, ◌^◌, ◌<◌, ◌≤◌, ℤ, pos, negsuc, List, length, encode_utf8, max}
+use Rattle.std.specs.Prelude.{◌≡◌, ℕ, suc, ◌^◌, ◌<◌, ◌≤◌, pos, Bool, true, List, length, encode_utf8, max}
 use Rattle.std.specs.Str.{IsUtf8}
 use Rattle.content_tree.specs.Values.Text.{static_name}
 use Rattle.content_tree.specs.Values.Tree as tree
 use Rattle.content_tree.specs.Values.Tree.{Tree, TreeData, Trees, Pairs, Fields}
-use Rattle.content_tree.specs.Values.Ranges.{number_value}
+use Rattle.content_tree.specs.Values.Ranges.{number_value, in_range}
+use Rattle.content_tree.specs.Values.Ranges as kind
+use Rattle.content_tree.specs.declared.number.Number.{Number}
+use Rattle.content_tree.specs.declared.number.Number.TheVariants as n
 use Rattle.content_ser.specs.Sending.TreeScript.{count, count_pairs, count_fields}
 use Rattle.content_cbor.specs.Codes.{Codes, number_of}
 
@@ -91,17 +94,25 @@ IsLength n = n < 2 ^ 64
 abbrev pub IsText : List ℕ → Type 0
 IsText content = IsUtf8 content × IsLength (length content)
 
--- an integer of some kind
-abbrev pub IsInRange : ℤ → Type 0
-IsInRange (pos n) = n < 2 ^ 128
-IsInRange (negsuc n) = n < 2 ^ 127
+-- a number that lies in the range of its kind
+abbrev pub in_own_range : Number → Bool
+in_own_range (n.I8 x) = in_range kind.i8 x
+in_own_range (n.U8 x) = in_range kind.u8 (pos x)
+in_own_range (n.I16 x) = in_range kind.i16 x
+in_own_range (n.U16 x) = in_range kind.u16 (pos x)
+in_own_range (n.I32 x) = in_range kind.i32 x
+in_own_range (n.U32 x) = in_range kind.u32 (pos x)
+in_own_range (n.I64 x) = in_range kind.i64 x
+in_own_range (n.U64 x) = in_range kind.u64 (pos x)
+in_own_range (n.I128 x) = in_range kind.i128 x
+in_own_range (n.U128 x) = in_range kind.u128 (pos x)
 
 abbrev mutual
-  -- what the tree of any value is: texts are UTF-8, and lengths and numbers have room
+  -- what the tree of any value is: texts are UTF-8, lengths have room, and numbers are in their kinds' ranges
   pub Fits : Tree → Type 0
   Fits tree.unit = Unit {0}
   Fits (tree.boolean b) = Unit {0}
-  Fits (tree.number n) = IsInRange (number_value n)
+  Fits (tree.number n) = in_own_range n ≡ true
   Fits (tree.character c) = IsText (encode_utf8 c)
   Fits (tree.text t) = IsText t.content
   Fits (tree.octets t) = IsLength (length t.content)

@@ -44,8 +44,8 @@ FormsStay = (t : Tree) → form (form t) ≡ form t
 abbrev pub FormsHaveItems : Type 0
 FormsHaveItems = (t : Tree) → item (form t) ≡ item t
 
--- the calls of a whole tree, all taken by an encoder, leave the tree's item, which codes the tree's form
+-- the calls of a whole tree, all taken by an encoder, leave the item of the tree, which fits, coding its form
 abbrev pub WholeTreesAreEncoded : Type 0
 WholeTreesAreEncoded = (calls : List Event) (t : Tree) (w : Written) → SpellsWhole calls t
     → run step nothing calls ≡ Some w
-    → (w ≡ record { bytes = item t; due = [] }) × CodesForm t w.bytes
+    → (w ≡ record { bytes = item t; due = [] }) × Fits t × CodesForm t w.bytes

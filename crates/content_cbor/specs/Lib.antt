@@ -9,3 +9,4 @@ pub mod Laws
 pub mod Inner
 pub mod Decoded
 pub mod PrintedFault
+pub mod Typed

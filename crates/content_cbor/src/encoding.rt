@@ -46,6 +46,7 @@ pub fn encode<'a, 'n>(alloc: Global, value: &NamedValue<'a, 'n>) -> Result<Vec<u
     ensures value { IfOk result (λ bytes. bytes.items ≡ item (tree_of value.now)) }
     // so within each limit that it keeps it is decoded as its form
     ensures form { IfOk result (λ bytes. CodesForm (tree_of value.now) bytes.items) }
+    ensures fits { OnOk result (Fits (tree_of value.now)) }
     ensures memory { IfErr result (λ e. IsOutOfMemory e) }
 {
     let mut out = Vec::new(alloc);
@@ -67,6 +68,7 @@ pub fn encode<'a, 'n>(alloc: Global, value: &NamedValue<'a, 'n>) -> Result<Vec<u
 pub fn encode_array<'a, 'n>(alloc: Global, items: &[NamedValue<'a, 'n>]) -> Result<Vec<u8>>
     ensures value { IfOk result (λ bytes. bytes.items ≡ item (tree.seq (trees_view items.now))) }
     ensures form { IfOk result (λ bytes. CodesForm (tree.seq (trees_view items.now)) bytes.items) }
+    ensures fits { OnOk result (EachFits (trees_view items.now)) }
     ensures memory { IfErr result (λ e. IsOutOfMemory e) }
 {
     let mut out = Vec::new(alloc);

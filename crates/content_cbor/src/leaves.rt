@@ -1,10 +1,10 @@
 //! The items in which no item stands.
 
-ghost use Rattle.std.specs.Prelude.{◌≡◌, ◌++◌, OnOk, pos, negsuc, encode_utf8, length};
+ghost use Rattle.std.specs.Prelude.{◌≡◌, ◌++◌, OnOk, pos, negsuc, true, encode_utf8, length};
 ghost use Rattle.content_tree.specs.Values.Ranges.{number_value};
 ghost use Rattle.content_cbor.specs.Item.{bytes_item, text_item, boolean_item, null_item};
 ghost use Rattle.content_cbor.specs.Item.{number_item, shortest, without_zeros};
-ghost use Rattle.content_cbor.specs.Form.{IsInRange, IsLength, IsText};
+ghost use Rattle.content_cbor.specs.Form.{IsLength, IsText, in_own_range};
 
 use crate::heads::{Major, write_head};
 use content_tree::Number;
@@ -57,27 +57,26 @@ pub(crate) fn write_char(character: char, out: &mut Vec<u8>) -> Result<(), Alloc
 pub(crate) fn write_number(number: Number, out: &mut Vec<u8>) -> Result<(), AllocError>
     ensures value { OnOk result (out.new.items ≡ out.old.items
         ++ number_item (number_value number)) }
-    ensures fits { IsInRange (number_value number) }
+    ensures fits { in_own_range number ≡ true }
 {
-    match number {
-        Number::U8(number) => write_unsigned(u128::from(number), out),
-        Number::U16(number) => write_unsigned(u128::from(number), out),
-        Number::U32(number) => write_unsigned(u128::from(number), out),
-        Number::U64(number) => write_unsigned(u128::from(number), out),
-        Number::U128(number) => write_unsigned(number, out),
-        Number::I8(number) => write_signed(i128::from(number), out),
-        Number::I16(number) => write_signed(i128::from(number), out),
-        Number::I32(number) => write_signed(i128::from(number), out),
-        Number::I64(number) => write_signed(i128::from(number), out),
-        Number::I128(number) => write_signed(number, out),
+    match &number {
+        Number::U8(number) => write_unsigned(u128::from(*number), out),
+        Number::U16(number) => write_unsigned(u128::from(*number), out),
+        Number::U32(number) => write_unsigned(u128::from(*number), out),
+        Number::U64(number) => write_unsigned(u128::from(*number), out),
+        Number::U128(number) => write_unsigned(*number, out),
+        Number::I8(number) => write_signed(i128::from(*number), out),
+        Number::I16(number) => write_signed(i128::from(*number), out),
+        Number::I32(number) => write_signed(i128::from(*number), out),
+        Number::I64(number) => write_signed(i128::from(*number), out),
+        Number::I128(number) => write_signed(*number, out),
     }
 }
 
 /// Appends a signed number.
 #[inline(always)]
 fn write_signed(number: i128, out: &mut Vec<u8>) -> Result<(), AllocError>
-    ensures value { OnOk result (out.new.items ≡ out.old.items ++ number_item number) }
-    ensures fits { IsInRange number }
+    ensures { OnOk result (out.new.items ≡ out.old.items ++ number_item number) }
 {
     let size = number.unsigned_abs();
     if number < 0 {
@@ -90,8 +89,7 @@ fn write_signed(number: i128, out: &mut Vec<u8>) -> Result<(), AllocError>
 /// Appends a number from 0.
 #[inline(always)]
 fn write_unsigned(number: u128, out: &mut Vec<u8>) -> Result<(), AllocError>
-    ensures value { OnOk result (out.new.items ≡ out.old.items ++ number_item (pos number)) }
-    ensures fits { IsInRange (pos number) }
+    ensures { OnOk result (out.new.items ≡ out.old.items ++ number_item (pos number)) }
 {
     match u64::try_from(number) {
         Ok(number) => write_head(out, Major::Unsigned, number),

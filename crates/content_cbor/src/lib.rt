@@ -2,6 +2,7 @@
 
 #![tactic(auto)]
 
+mod coming_back;
 mod decode_error;
 mod decoding;
 mod digits;
@@ -17,6 +18,7 @@ mod strings;
 mod typed;
 mod utf8;
 
+pub use coming_back::{CborRoundTrip, NotNull, read_back, write_and_read_back};
 pub use decode_error::{DecodeError, Fault};
 pub use decoding::{decode, decode_prefix};
 pub use encoder::Encoder;

@@ -16,9 +16,10 @@ use std::alloc::{AllocError, Global};
 /// coerced, since CBOR keeps no kind of a number. The limit is that of `decode`; `&str` and `&[u8]`
 /// are read only of what stands in one piece.
 ///
-/// Not all that [`to_bytes`](crate::to_bytes) wrote comes back. A character, a text by then, is
-/// refused, and so are the unit and a unit struct, which are null; `Some` of what is null is read as
-/// `None`. A `Number` comes as one of 64 or 128 bits, a `Value` as what CBOR keeps of it.
+/// Not all that [`to_bytes`](crate::to_bytes) wrote comes back: [`read_back`](crate::read_back) is
+/// for the types of which it does. A character, a text by then, is refused, and so are the unit and
+/// a unit struct, which are null; `Some` of what is null is read as `None`. A `Number` comes as one
+/// of 64 or 128 bits, a `Value` as what CBOR keeps of it.
 ///
 /// Memory is taken for the value, which is dropped, by the type, and for a refusal.
 ///

@@ -1,5 +1,5 @@
 -- Records that are saved and loaded.
-use Rattle.std.proofs.Common.{◌≡◌, ℕ, List, [], ◌∷◌, Some, None, Result, Ok, Err, IfErr, IsErrAnd, refl, ap, sym, subst, ◌∙◌}
+use Rattle.std.proofs.Common.{◌≡◌, ℕ, List, [], ◌∷◌, ◌++◌, length, slice_get, Some, None, Result, Ok, Err, IfErr, IsErrAnd, refl, ap, sym, subst, ◌∙◌}
 use Rattle.serde_content.specs.Names.Words.{items_in, Tree}
 use Rattle.serde_content.specs.Names.Tree as tree
 use Rattle.serde_content.specs.Names.Tree.{Trees, seq, tree_then, unit, boolean, number}
@@ -7,7 +7,7 @@ use Rattle.serde_content.specs.Names.Tree.{character, text, octets, absent, pres
 use Rattle.serde_content.specs.Names.Tree.{enumeration, tuple}
 use Rattle.serde_content.specs.Names.Words.{trees_of}
 use Rattle.content_cbor.specs.Decoded.{IsPlaced, StopsAt}
-use Rattle.content_cbor.specs.Form.{form, each_form}
+use Rattle.content_cbor.specs.Form.{form, each_form, EachFits, Fits}
 use Rattle.content_cbor.specs.Inner.Reading.{whole_at}
 use Rattle.content_cbor.specs.declared.decode_error.DecodeError.{DecodeError}
 use Rattle.content_cbor.specs.declared.decode_error.DecodeError.TheVariants as decoding
@@ -71,3 +71,20 @@ stops_as limit bs e (Err x) stops placed is = subst (StopsLoading limit bs) (sym
 pub no_memory : {A : Type 0} (e : LoadError) (r : Result A LoadError) → IsNoMemory e → IsErrAnd r (λ x. x ≡ e) → IfErr r (λ x. IsNoMemory x)
 no_memory e (Ok y) out is = tt
 no_memory e (Err x) out is = is ∙ out
+
+-- what was put last stands in what was loaded, as its form
+form_placed : (xs : List Tree) (t : Tree) → slice_get (forms (xs ++ t ∷ [])) (length xs) ≡ Some (form t)
+form_placed [] t = refl
+form_placed (x ∷ xs) t = form_placed xs t
+
+pub loaded_last : (loaded rs old : List Tree) (t : Tree) (n : ℕ) → loaded ≡ forms rs → rs ≡ old ++ t ∷ [] → n ≡ length old → slice_get loaded n ≡ Some (form t)
+loaded_last loaded rs old t n are put last =
+    ap (λ xs. slice_get xs n) (are ∙ ap forms put) ∙ ap (slice_get (forms (old ++ t ∷ []))) last ∙ form_placed old t
+
+-- and it fits, as all records do
+last_fits : (xs : List Tree) (t : Tree) → EachFits (trees_of (xs ++ t ∷ [])) → Fits t
+last_fits [] t fits = fits.0
+last_fits (x ∷ xs) t fits = last_fits xs t fits.1
+
+pub put_fits : (rs old : List Tree) (t : Tree) → rs ≡ old ++ t ∷ [] → EachFits (trees_of rs) → Fits t
+put_fits rs old t put fits = last_fits old t (subst (λ xs. EachFits (trees_of xs)) put fits)

@@ -1,14 +1,14 @@
-//! What is saved, loaded and saved again.
+//! What is saved, loaded, and got or saved again.
 
-ghost use Rattle.std.specs.Prelude.{◌≡◌, ◌≤◌, IfOk, IfErr};
+ghost use Rattle.std.specs.Prelude.{◌≡◌, ◌≤◌, true, IfOk, IfErr};
 ghost use Rattle.content_cbor.specs.Form.{depth, form};
 ghost use Rattle.content_uses.specs.Records.{records_of};
 ghost use Rattle.content_uses.specs.Saved.{array_of, IsNoMemory, SavedAgain};
 
 use crate::load_error::LoadError;
 use crate::store::Store;
-use content_cbor::DecodeError;
 use content_cbor::laws::forms_stay;
+use content_cbor::{CborRoundTrip, DecodeError};
 use std::alloc::Global;
 
 /// What CBOR keeps of records is saved as the same bytes as they are.
@@ -43,6 +43,39 @@ pub fn save_twice<'v, 'n: 'v>(
     drop(loaded);
     match second {
         Ok(second) => Ok((first, second)),
+        Err(_) => Err(LoadError::Decode(DecodeError::OutOfMemory)),
+    }
+}
+
+/// What is put, saved with its store, loaded and got is equal to what was put, at any type whose
+/// values come back from CBOR. The bytes are written to `bytes`, which may hold anything before.
+///
+/// # Errors
+///
+/// Where an item is deeper than the limit; out of memory.
+pub fn put_and_reload<'v, 'a, 'n: 'a, T: CborRoundTrip<'v>>(
+    alloc: Global,
+    store: &mut Store<'a, 'n>,
+    item: &T,
+    bytes: &'v mut Vec<u8>,
+    depth_limit: usize,
+) -> Result<T, LoadError>
+    ensures value { depth (form (array_of (records_of store.new))) ≤ depth_limit
+        → IfOk result (λ back. T.eq item.now back ≡ true) }
+    ensures memory { depth (form (array_of (records_of store.new))) ≤ depth_limit
+        → IfErr result (λ e. IsNoMemory e) }
+{
+    item.known();
+    let Ok(number) = store.put(alloc, item) else {
+        return Err(LoadError::Decode(DecodeError::OutOfMemory));
+    };
+    let Ok(saved) = store.save(alloc) else {
+        return Err(LoadError::Decode(DecodeError::OutOfMemory));
+    };
+    *bytes = saved;
+    let loaded = Store::load(alloc, bytes, depth_limit)?;
+    match loaded.get_loaded(alloc, number) {
+        Ok(back) => Ok(back),
         Err(_) => Err(LoadError::Decode(DecodeError::OutOfMemory)),
     }
 }

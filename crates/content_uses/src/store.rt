@@ -1,14 +1,13 @@
 //! Records of any type, kept as values, with typed views.
 
 ghost use Rattle.std.specs.Prelude.{◌≡◌, ◌≤◌, [], true, false, Some, None, length, slice_get};
-ghost use Rattle.std.specs.Prelude.{IfOk, IfErr, List, option_map};
-ghost use Rattle.serde_content.specs.Names.Words.{items_in, trees_view};
+ghost use Rattle.std.specs.Prelude.{IfOk, IfErr, OnOk, List, option_map};
+ghost use Rattle.serde_content.specs.Names.Words.{items_in, trees_of, trees_view};
 ghost use Rattle.serde_content.specs.Names.Words.{Tree, IsOutOfMemory, SpellsWhole, calls_of};
 ghost use Rattle.serde_content.specs.Names.Words.{stop_of, tree_of, Reads, no_flags, tree_under};
-ghost use Rattle.serde_content.specs.RoundTrip.{flags};
 
 pub use crate::load_error::LoadError;
-use content_cbor::{decode, encode_array};
+use content_cbor::{CborRoundTrip, decode, encode_array};
 use serde_content::de::Deserialize;
 use serde_content::ser::Serialize;
 use serde_content::{Deserializer, Error, NamedValue, Result, RoundTrip, from_value, to_value};
@@ -24,14 +23,15 @@ use std::result::Result as StdResult;
 /// assert!(rt; point == Point { x: 1, y: 2 });
 /// ```
 ///
-/// They are saved as CBOR, which doesn't keep the kinds of numbers:
-/// [`view_coerced`](Store::view_coerced) reads what was loaded. A character, the unit and a unit
-/// struct are refused then, since they are texts and null by then, and `Some` of null is `None`.
+/// They are saved as CBOR. [`get_loaded`](Store::get_loaded) reads back what was loaded, where the
+/// type's values come back from CBOR, and [`view_coerced`](Store::view_coerced) views it as any
+/// type: a character, the unit and a unit struct are refused then, since they are texts and null by
+/// then, and `Some` of null is `None`.
 ///
 /// ```rust
 /// let bytes = store.save(alloc)?;
 /// let loaded = Store::load(alloc, &bytes, 64)?;
-/// let point: Point = loaded.view_coerced(alloc, number)?;
+/// let point: Point = loaded.get_loaded(alloc, number)?;
 /// ```
 #[derive(Drop)]
 pub struct Store<'v, 'n> {
@@ -41,8 +41,10 @@ pub struct Store<'v, 'n> {
 impl<'v, 'n: 'v> Store<'v, 'n> {
     ghost use Rattle.content_uses.specs.Records.{records_of, IsPut, IsUnknown};
     ghost use Rattle.content_uses.specs.Saved.{array_of};
-    ghost use Rattle.content_cbor.specs.Form.{CodesForm};
+    ghost use Rattle.content_cbor.specs.Decoded.{as_read};
+    ghost use Rattle.content_cbor.specs.Form.{CodesForm, EachFits};
     ghost use Rattle.content_cbor.specs.Item.{item};
+    ghost use Rattle.content_cbor.specs.Typed.Kept.{IsKeptOf};
 
     /// No records. It takes no memory.
     pub fn new(alloc: Global) -> Store<'v, 'n>
@@ -102,15 +104,15 @@ impl<'v, 'n: 'v> Store<'v, 'n> {
     /// Those of [`view`](Store::view).
     pub fn view_coerced<T: Deserialize<'v>>(&self, alloc: Global, number: usize) -> Result<T>
         ensures value { (t : Tree) → slice_get (records_of self.now) number ≡ Some t
-            → Reads (T.refusal (tree_under (flags false true) t))
-            (T.gives (tree_under (flags false true) t)) result }
+            → Reads (T.refusal (as_read t)) (T.gives (as_read t)) result }
         ensures unknown { slice_get (records_of self.now) number ≡ None → IsUnknown result }
     {
         let copy = self.copy(alloc, number)?;
         Deserializer::new(copy).coerce_numbers().deserialize(alloc)
     }
 
-    /// The record of this number, which was put as this type: an equal one.
+    /// The record of this number, which was put as this type: an equal one. Of a store that was
+    /// loaded, [`get_loaded`](Store::get_loaded).
     ///
     /// # Errors
     ///
@@ -132,6 +134,28 @@ impl<'v, 'n: 'v> Store<'v, 'n> {
         from_value(alloc, copy, false)
     }
 
+    /// The record of this number in a store that was loaded, which was put as this type before it
+    /// was saved: an equal one.
+    ///
+    /// # Errors
+    ///
+    /// Those of [`view_coerced`](Store::view_coerced); where it was put as this type out of memory
+    /// alone.
+    pub fn get_loaded<T: CborRoundTrip<'v>>(&self, alloc: Global, number: usize) -> Result<T>
+        ensures read { (t : Tree) → slice_get (records_of self.now) number ≡ Some t
+            → Reads (T.refusal (as_read t)) (T.gives (as_read t)) result }
+        // where it is what CBOR keeps of what was put as x
+        ensures value { (x : T) (t : Tree) → T.exists x
+            → slice_get (records_of self.now) number ≡ Some t
+            → IsKeptOf (T.script x false) t → IfOk result (λ y. T.eq x y ≡ true) }
+        ensures memory { (x : T) (t : Tree) → T.exists x
+            → slice_get (records_of self.now) number ≡ Some t
+            → IsKeptOf (T.script x false) t → IfErr result (λ e. IsOutOfMemory e) }
+        ensures unknown { slice_get (records_of self.now) number ≡ None → IsUnknown result }
+    {
+        self.view_coerced(alloc, number)
+    }
+
     /// The records as one array of CBOR, in order. It takes memory for the bytes alone.
     ///
     /// # Errors
@@ -143,6 +167,7 @@ impl<'v, 'n: 'v> Store<'v, 'n> {
         // so they are loaded as what CBOR keeps of them
         ensures form { IfOk result (λ bytes. CodesForm (array_of (records_of self.now))
             bytes.items) }
+        ensures fits { OnOk result (EachFits (trees_of (records_of self.now))) }
         ensures memory { IfErr result (λ e. IsOutOfMemory e) }
     {
         encode_array(alloc, &self.records)

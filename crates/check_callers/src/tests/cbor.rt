@@ -1,8 +1,12 @@
 //! What no row of `cbor_cli` says: values that come back, several as one item, what can be
 //! serialised, and characters past ASCII, whose bytes RFC 8949 gives in its appendix A.
 
-use content_cbor::{decode, decode_prefix, encode, encode_array, from_bytes, round_trip, to_bytes};
+use content_cbor::{
+    decode, decode_prefix, encode, encode_array, from_bytes, read_back, round_trip, to_bytes,
+    write_and_read_back,
+};
 use serde_content::Value;
+use std::collections::BTreeMap;
 use std::test::Fail;
 
 #[test]
@@ -73,5 +77,47 @@ fn what_is_kept_of_values(rt: HostRuntime) -> Result<(), Fail> {
             assert!(rt; text.as_str() == "refused at byte 0: a float");
         }
     }
+    Ok(())
+}
+
+#[test]
+fn typed_data_come_back(rt: HostRuntime) -> Result<(), Fail> {
+    let alloc = rt.alloc();
+
+    // What is written of typed data is read back equal.
+    let bytes = to_bytes(alloc, &(Some(7u8), -1i64))?;
+    let back: (Option<u8>, i64) = read_back(alloc, &bytes, 2)?;
+    assert!(rt; back == (Some(7), -1));
+
+    let mut room = vec![in alloc; 0]?;
+    let list = vec![in alloc; Some(true), None]?;
+    assert!(rt; write_and_read_back(alloc, &list, &mut room, 2)? == list);
+    let mut room = Vec::new(alloc);
+    assert!(rt; write_and_read_back(alloc, &list, &mut room, 1).is_err());
+
+    let mut map = BTreeMap::new(alloc);
+    map.insert(
+        String::from_str(alloc, "a")?,
+        Box::new(alloc, 1u128 << 100)?,
+    )?;
+    map.insert(String::from_str(alloc, "b")?, Box::new(alloc, 0)?)?;
+    let mut room = Vec::new(alloc);
+    assert!(rt; write_and_read_back(alloc, &map, &mut room, 2)? == map);
+
+    let least = (i8::MIN, i16::MIN, i32::MIN, i64::MIN);
+    let mut room = Vec::new(alloc);
+    assert!(rt; write_and_read_back(alloc, &least, &mut room, 2)? == least);
+    let most = (u16::MAX, u32::MAX, u64::MAX, u128::MAX);
+    let mut room = Vec::new(alloc);
+    assert!(rt; write_and_read_back(alloc, &most, &mut room, 2)? == most);
+    let sizes = (usize::MAX, isize::MIN, i128::MIN);
+    let mut room = Vec::new(alloc);
+    assert!(rt; write_and_read_back(alloc, &sizes, &mut room, 2)? == sizes);
+
+    // Numbers of another kind that have no room, and bytes that code nothing.
+    let refused: serde_content::Result<u8> = read_back(alloc, &[0x19, 1, 0], 1);
+    assert!(rt; refused.is_err());
+    let refused: serde_content::Result<u8> = read_back(alloc, &[0x19, 1], 1);
+    assert!(rt; refused.is_err());
     Ok(())
 }

@@ -4,7 +4,7 @@ use check_derive::choices::{Command, Setting};
 use check_derive::inlined::{Amount, Change, Line};
 use check_derive::sorts::{Message, Stop};
 use check_derive::types::{Order, Place, Step};
-use content_cbor::to_bytes;
+use content_cbor::{to_bytes, write_and_read_back};
 use serde_content::{Deserializer, Result as Answer, Serializer, Value, round_trip};
 use std::alloc::Global;
 use std::collections::BTreeMap;
@@ -45,6 +45,8 @@ fn an_order_comes_back(rt: HostRuntime) -> Result<(), Fail> {
     let alloc = rt.alloc();
     let order = order(alloc)?;
     assert!(rt; round_trip(alloc, &order, false, false)? == order);
+    let mut bytes = Vec::new(alloc);
+    assert!(rt; write_and_read_back(alloc, &order, &mut bytes, 16)? == order);
     Ok(())
 }
 

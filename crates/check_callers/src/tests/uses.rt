@@ -1,7 +1,7 @@
 //! The uses, run.
 
 use content_uses::merging::merge;
-use content_uses::saving::save_twice;
+use content_uses::saving::{put_and_reload, save_twice};
 use content_uses::store::{Store, put_and_get};
 use serde_content::samples::Point;
 use serde_content::{Deserializer, Result as Answer, Serializer, Value, value};
@@ -48,11 +48,21 @@ fn records_are_saved(rt: HostRuntime) -> Result<(), Fail> {
     let wanted = [0x82, 0xa2, 0x61, b'x', 0x01, 0x61, b'y', 0x02, 0x07];
     assert!(rt; bytes.as_slice() == wanted.as_slice());
     let loaded = Store::load(alloc, &bytes, 64)?;
-    let point: Point = loaded.view_coerced(alloc, number)?;
+    let point: Point = loaded.get_loaded(alloc, number)?;
     assert!(rt; point == Point { x: 1, y: 2 });
+
+    let wide: Option<u64> = loaded.view_coerced(alloc, 1)?;
+    assert!(rt; wide == Some(7));
+    let none: Answer<Point> = loaded.get_loaded(alloc, 2);
+    assert!(rt; none.is_err());
 
     let (first, second) = save_twice(alloc, &store, 64)?;
     assert!(rt; first.as_slice() == second.as_slice());
+
+    let mut room = Vec::new(alloc);
+    let point = Point { x: -3, y: 4 };
+    assert!(rt; put_and_reload(alloc, &mut store, &point, &mut room, 64)? == point);
+    assert!(rt; store.len() == 3);
 
     // What is no array, and what can't be decoded.
     let cases = [

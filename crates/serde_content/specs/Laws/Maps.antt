@@ -43,7 +43,7 @@ abbrev ValueSuch : (Tree → Type 0) → (Pairs → Type 0) → List Token → L
 ValueSuch q p calls rest = (mid : List Token) × TreeSuch q calls mid × EntriesSuch p mid rest
 
 -- the end of entries
-entries_end : (p : Pairs → Type 0) → p tree.no_pairs → Spelled (EntriesSuch p) (call_then event.end done)
+pub entries_end : (p : Pairs → Type 0) → p tree.no_pairs → Spelled (EntriesSuch p) (call_then event.end done)
 entries_end p such = spelled_only (λ rest. ([], items_end, λ t. refl, such))
 
 -- an entry before others
@@ -59,7 +59,7 @@ entry_before p q s r calls mid rest such a b =
     )
 
 -- an entry, and then the others
-entries_more : (p q : Tree → Type 0) (s r : Pairs → Type 0) {a b c : Script}
+pub entries_more : (p q : Tree → Type 0) (s r : Pairs → Type 0) {a b c : Script}
     → ((k t : Tree) (ps : Pairs) → p k → q t → s ps → r (tree.pair_then k t ps)) → SpellsSuch p a → SpellsSuch q b → Spelled (EntriesSuch s) c
     → Spelled (EntriesSuch r) (call_then event.entry (and_then a (and_then b c)))
 entries_more p q s r such a b c =
@@ -77,7 +77,7 @@ abbrev BelowKey : {K V : Type 0} → (K → K → Ordering) → List (K × V) �
 BelowKey order old k = AllByRecursion (λ o. order o.0 k ≡ Less) old
 
 -- of each entry the key is below all of these
-abbrev Below : {K V : Type 0} → (K → K → Ordering) → (old : List (K × V)) → List K → Type 0
+abbrev pub Below : {K V : Type 0} → (K → K → Ordering) → (old : List (K × V)) → List K → Type 0
 Below order old ks = AllByRecursion (λ o. AllByRecursion (λ k. order o.0 k ≡ Less) ks) old
 
 -- an entry above all that stand comes last
@@ -98,9 +98,9 @@ below_later total x k v ks e first [] h = (all_follow (λ q below. sym (total.co
 below_later total x k v ks e first (o ∷ os) h = (h.0.1, below_later total x k v ks e first os h.1)
 
 -- entries that are read aren't refused, and put in after smaller ones they stand after these, each equal to one of these
-record EntriesBack {K V : Type 0} (key value : Refusal) (gives_key : Gives K) (gives_value : Gives V) (order : K → K → Ordering) (same : K × V → K × V → Bool) (f : Flags) (es : List (K × V)) (ps : Pairs) : Type 0 where
-  free : entries_refusal key value f (entries_of_pairs ps) ≡ None
-  only : (old new : List (K × V)) → Below order old (keys_of es) → EntriesGive gives_key gives_value order f (entries_of_pairs ps) old new
+pub record EntriesBack {K V : Type 0} (key value : Refusal) (gives_key : Gives K) (gives_value : Gives V) (order : K → K → Ordering) (same : K × V → K × V → Bool) (f : Flags) (es : List (K × V)) (ps : Pairs) : Type 0 where
+  pub free : entries_refusal key value f (entries_of_pairs ps) ≡ None
+  pub only : (old new : List (K × V)) → Below order old (keys_of es) → EntriesGive gives_key gives_value order f (entries_of_pairs ps) old new
       → (ys : List (K × V)) × (new ≡ old ++ ys) × (pointwise same es ys ≡ true)
 
 -- one entry equals another where the keys and the values do
@@ -108,12 +108,12 @@ abbrev pub same_entry : {K V : Type 0} → (K → K → Bool) → (V → V → B
 same_entry key value p q = key p.0 q.0 && value p.1 q.1
 
 -- no entry
-no_entries : {K V : Type 0} {key value : Refusal} {gives_key : Gives K} {gives_value : Gives V} {order : K → K → Ordering} {same : K × V → K × V → Bool} {f : Flags}
+pub no_entries : {K V : Type 0} {key value : Refusal} {gives_key : Gives K} {gives_value : Gives V} {order : K → K → Ordering} {same : K × V → K × V → Bool} {f : Flags}
     → EntriesBack key value gives_key gives_value order same f [] tree.no_pairs
 no_entries = record { free = refl; only = λ old new below h. ([], h ∙ sym (append-nil old), refl) }
 
 -- an entry whose key is below those of the others
-entry_first : {K V : Type 0} {key value : Refusal} {gives_key : Gives K} {gives_value : Gives V} {order : K → K → Ordering} {f : Flags} (eq_key : K → K → Bool) (eq_value : V → V → Bool)
+pub entry_first : {K V : Type 0} {key value : Refusal} {gives_key : Gives K} {gives_value : Gives V} {order : K → K → Ordering} {f : Flags} (eq_key : K → K → Bool) (eq_value : V → V → Bool)
     → IsTotalOrder order → ((x y : K) → eq_key x y ≡ is_eq (order x y)) → (e : K × V) (es : List (K × V)) → AllByRecursion (λ q. order e.0 q ≡ Less) (keys_of es) → (k t : Tree) (ps : Pairs)
     → GivesOnly (key (tree_under f k)) (gives_key (tree_under f k)) (λ y. eq_key e.0 y ≡ true)
     → GivesOnly (value (tree_under f t)) (gives_value (tree_under f t)) (λ y. eq_value e.1 y ≡ true)
@@ -130,12 +130,13 @@ entry_first {gives_key} {gives_value} {order} {f} eq_key eq_value total ties e e
       ((h.0, h.1) ∷ later.0, later.1 ∙ append_assoc old ((h.0, h.1) ∷ []) later.0, both_hold (both_hold equal (two.only h.1 h.3)) later.2);
 }
 
--- the first key of those that ascend is below the others, and these ascend
-first_below : {K : Type 0} (order : K → K → Ordering) (k : K) (ks : List K) → IsStrictlySortedBy order (k ∷ ks) → AllByRecursion (λ q. order k q ≡ Less) ks
+-- the first key of those that ascend is below the others
+pub first_below : {K : Type 0} (order : K → K → Ordering) (k : K) (ks : List K) → IsStrictlySortedBy order (k ∷ ks) → AllByRecursion (λ q. order k q ≡ Less) ks
 unfolding IsStrictlySortedBy
 first_below order k ks h = h.0
 
-others_ascend : {K : Type 0} (order : K → K → Ordering) (k : K) (ks : List K) → IsStrictlySortedBy order (k ∷ ks) → IsStrictlySortedBy order ks
+-- and the others ascend
+pub others_ascend : {K : Type 0} (order : K → K → Ordering) (k : K) (ks : List K) → IsStrictlySortedBy order (k ∷ ks) → IsStrictlySortedBy order ks
 unfolding IsStrictlySortedBy
 others_ascend order k ks h = h.1
 

@@ -38,7 +38,7 @@ pub fields_end_back : {Y : Type 0} → FieldsBack {Y = Y} end_script no_field (�
 fields_end_back = record { of_flags = λ f. fields_end_such (λ place. record { free = refl; only = λ y h. tt }) }
 
 -- a name is itself
-named_itself : (name : List ℕ) (c : Cause) → unless_named name name c ≡ None
+pub named_itself : (name : List ℕ) (c : Cause) → unless_named name name c ≡ None
 named_itself name c = rw ((bytes_eq-Decides name name).1 refl) refl
 
 -- a field, and then the others

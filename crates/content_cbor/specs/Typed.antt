@@ -1,0 +1,9 @@
+-- Typed data that come back from CBOR.
+pub mod Kept
+pub mod Leaves
+pub mod Holders
+pub mod Series
+pub mod Maps
+pub mod Records
+pub mod ByName
+pub mod Variants

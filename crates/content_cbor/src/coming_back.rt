@@ -1,0 +1,99 @@
+//! Typed data that come back from CBOR.
+
+ghost use Rattle.std.specs.Prelude.{◌≡◌, ◌≤◌, true, false, IfOk, IfErr, IsErrAnd};
+ghost use Rattle.content_tree.specs.Errors.Kind.{IsOutOfMemory};
+ghost use Rattle.content_tree.specs.Values.Tree.{Tree};
+ghost use Rattle.content_ser.specs.Grammar.Spells.{SpellsWhole};
+ghost use Rattle.content_ser.specs.Scripts.Script.{calls_of};
+ghost use Rattle.content_de.specs.Reads.Read.{Reads};
+ghost use Rattle.content_cbor.specs.Codes.{Codes};
+ghost use Rattle.content_cbor.specs.Decoded.{IsFaultOf, as_read};
+ghost use Rattle.content_cbor.specs.Form.{depth, form};
+ghost use Rattle.content_cbor.specs.Typed.Kept.{FormComesBack, IsKeptOf, RefusesNull};
+
+use crate::encoding::to_bytes;
+use crate::typed::from_bytes;
+use content_de::Deserialize;
+use content_tree::Result;
+use serde_content::RoundTrip;
+use std::alloc::Global;
+
+mod map;
+mod samples;
+mod standard;
+mod tuple;
+
+/// A type whose values come back from CBOR: of what [`to_bytes`] wrote of a value, [`read_back`]
+/// reads an equal one.
+///
+/// So do booleans, `String`, numbers of each kind, and where what they hold does, `Box`, `Vec`,
+/// `BTreeMap`, tuples, and an `Option` of what is [`NotNull`]. Characters, the unit and `Number`
+/// don't, since CBOR has no kinds for them.
+pub trait CborRoundTrip<'de>: RoundTrip<'de> {
+    /// What CBOR keeps of the tree that the calls of a value that exists spell isn't refused, and
+    /// every value that reading it may answer is equal to the value by the type's `==`.
+    ghost kept: { FormComesBack Self.exists Self.script Self.refusal Self.gives Self.eq };
+}
+
+/// A type that isn't read of null, so that `Some` of its values is told from `None`.
+pub trait NotNull<'de>: Deserialize<'de> {
+    /// Null is refused.
+    ghost refuses_null: { RefusesNull Self.refusal };
+}
+
+/// Typed data from bytes, as by [`from_bytes`]; of bytes that [`to_bytes`] wrote of a value of the
+/// type, an equal value.
+///
+/// # Errors
+///
+/// Those of `from_bytes`; of what was written so, and within the limit, out of memory alone.
+///
+/// ```rust
+/// let bytes = to_bytes(alloc, &(Some(7u8), -1i64))?;
+/// let back: (Option<u8>, i64) = read_back(alloc, &bytes, 2)?;
+/// assert!(rt; back == (Some(7), -1));
+/// ```
+pub fn read_back<'de, T: CborRoundTrip<'de>>(
+    alloc: Global,
+    bytes: &'de [u8],
+    depth_limit: usize,
+) -> Result<T>
+    // where the bytes code what CBOR keeps of x
+    ensures value { (x : T) (t : Tree) → T.exists x → IsKeptOf (T.script x false) t
+        → Codes depth_limit t bytes.now → IfOk result (λ back. T.eq x back ≡ true) }
+    ensures memory { (x : T) (t : Tree) → T.exists x → IsKeptOf (T.script x false) t
+        → Codes depth_limit t bytes.now → IfErr result (λ e. IsOutOfMemory e) }
+    ensures read { (t : Tree) → Codes depth_limit t bytes.now
+        → Reads (T.refusal (as_read t)) (T.gives (as_read t)) result }
+    ensures fault { ((t : Tree) → Codes depth_limit t bytes.now → ⊥)
+        → IsErrAnd result (λ e. IsFaultOf depth_limit bytes.now e) }
+{
+    from_bytes(alloc, bytes, depth_limit)
+}
+
+/// A value that is written, to `bytes`, which may hold anything before, and read back: an equal one.
+///
+/// # Errors
+///
+/// Where the value's item is deeper than the limit; out of memory.
+///
+/// ```rust
+/// let mut bytes = Vec::new(alloc);
+/// let there = vec![in alloc; Some(1u8), None]?;
+/// assert!(rt; write_and_read_back(alloc, &there, &mut bytes, 2)? == there);
+/// ```
+pub fn write_and_read_back<'de, T: CborRoundTrip<'de>>(
+    alloc: Global,
+    value: &T,
+    bytes: &'de mut Vec<u8>,
+    depth_limit: usize,
+) -> Result<T>
+    ensures value { (t : Tree) → SpellsWhole (calls_of (T.script value.now false)) t
+        → depth (form t) ≤ depth_limit → IfOk result (λ back. T.eq value.now back ≡ true) }
+    ensures memory { (t : Tree) → SpellsWhole (calls_of (T.script value.now false)) t
+        → depth (form t) ≤ depth_limit → IfErr result (λ e. IsOutOfMemory e) }
+{
+    value.known();
+    *bytes = to_bytes(alloc, value)?;
+    read_back(alloc, bytes, depth_limit)
+}

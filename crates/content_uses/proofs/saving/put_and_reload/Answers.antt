@@ -1,0 +1,20 @@
+use Rattle.std.proofs.Common.{refl, sym, subst}
+use Rattle.content_cbor.specs.Form.{CodesForm}
+use Rattle.content_uses.specs.Records.{records_of}
+use Rattle.content_uses.specs.Saved.{array_of}
+use Rattle.content_uses.proofs.Loaded.{loaded_last, no_memory, put_fits}
+use Rattle.content_uses.proofs.saving.put_and_reload.Goals as goal
+
+pub returns-in_err-loaded-clause-memory : goal.returns-in_err-loaded-clause-memory
+returns-in_err-loaded-clause-memory g c = λ le.
+    let rs = records_of c.put.new.self in
+    let codes : CodesForm (array_of rs) c.deref.result.now = subst (CodesForm (array_of rs)) (sym c.deref.ensures.value) c.in-Ok-save.ensures.form in
+    no_memory _ _ (c.in_err-loaded.ensures.saved rs le codes) c.from_residual.ensures.1
+
+pub returns-in-Ok-get_loaded-clause-value : goal.returns-in-Ok-get_loaded-clause-value
+returns-in-Ok-get_loaded-clause-value g c = λ le.
+    let rs = records_of c.put.new.self in
+    let put = c.in-Ok.ensures.put in
+    let codes : CodesForm (array_of rs) c.deref.result.now = subst (CodesForm (array_of rs)) (sym c.deref.ensures.value) c.in-Ok-save.ensures.form in
+    let at = loaded_last _ rs _ put.0 _ (c.in_ok-loaded.ensures.saved rs le codes) put.3 put.4 in
+    c.in-Ok-get_loaded.ensures.value c.args.item.now _ c.known.ensures at (put.0, put.2, put_fits rs _ put.0 put.3 c.in-Ok-save.ensures.fits, refl)
