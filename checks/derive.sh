@@ -5,8 +5,7 @@
 set -eu
 top=$(cd "$(dirname "$0")/.." && pwd)
 cd "$top/crates/check_derive"
-for module in choices sorts inlined; do
-    "$top/tools/derive" --crate check_derive --module $module $module.rs --check src/$module.rt
+for module in types choices sorts inlined; do
+    "$top/tools/derive" --crate check_derive --module $module --cbor $module.rs --check src/$module.rt
 done
-"$top/tools/derive" --crate check_derive --module types --cbor types.rs --check src/types.rt
 python3 "$top/checks/derive/refused.py" "$top"

@@ -151,17 +151,15 @@ class Item(Named):
         return self.derives_all() and None not in classes and len(set(classes)) == len(classes)
 
     def comes_back_from_cbor(self) -> bool:
-        """Whether CBOR keeps its values: those of an enum that is tagged externally, or of a struct
-        that holds something and flattens nothing, where it does what they hold."""
-        plain = not {"tag", "untagged"} & set(self.serde) and not self.flattens()
-        holds = self.variants or self.data.fields
-        return bool(self.derives_all() and plain and holds and all(f.type.comes_back_from_cbor() for f in self.fields()))
+        """Whether CBOR keeps its values: those of an enum, or of a struct that holds something, where
+        it does what they hold."""
+        held = [f for v in self.variants if v.beside for f in v.beside.data.leaves()]
+        held += [f for v in self.variants if not v.beside for f in v.data.leaves()] + self.data.leaves()
+        return self.comes_back() and bool(self.variants or held) and all(f.type.comes_back_from_cbor() for f in held)
 
     def may_be_null(self) -> bool:
-        """Whether it may be read of null."""
-        if self.variants:
-            return "untagged" in self.serde
-        return not self.data.fields or (self.data.style == "Newtype" and self.data.fields[0].type.may_be_null())
+        """Whether it may be read of null, where CBOR keeps its values."""
+        return self.data.style == "Newtype" and self.data.fields[0].type.may_be_null()
 
     def declared(self) -> str:
         """The declaration."""

@@ -136,9 +136,6 @@ class EnumWriter:
         read = elim([self.read(v, w, f"{it}.named", f"{it}.held") for w in self.item.variants])
         return f"λ real. variant_comes_back _ Self.gives {bracketed(law)}\n(λ v. refl)\n(λ d only. {read})"
 
-    def not_null(self) -> List[str]:
-        return [ghost("refuses_null", f"enum_not_null {self.name} _")]
-
     def read(self, sent: Variant, read: Variant, named: str = "it.0", held: str = "it.1") -> str:
         """That a variant that was read is equal to the one that was sent, by what is known of its
         name and of what it holds."""

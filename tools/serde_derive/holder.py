@@ -49,7 +49,8 @@ BY_NAME = Row(
 FLATTENED = BY_NAME._replace(
     script=("flattened_first {name} {inner}", "end_script"),
     lawful=("flattened_fits {inner}", "flattened_end_fits"),
-    back=("flattened_named{or_}_back {name}{missing} {inner} {see}", "(flattened_end_back {known})"))
+    back=("flattened_named{or_}_back {name}{missing} {inner} {see}", "(flattened_end_back {known})"),
+    kept=("flattened_named{or_}_kept {name}{missing} {inner} {see}", "(flattened_end_kept {known})"))
 
 
 class Holder:
@@ -247,10 +248,12 @@ class Holder:
     def back_row(self, values: List[str], sees: List[str]) -> str:
         return self.trip_row("back", [f.type.typed_back() for f in self.fields], values, sees)
 
+    def kept_row(self, values: List[str], sees: List[str]) -> str:
+        return self.trip_row("kept", [f.type.typed_kept() for f in self.fields], values, sees)
+
     def kept(self, values: List[str], sees: List[str]) -> str:
         """That what is sent comes back from CBOR."""
-        row = self.trip_row("kept", [f.type.typed_kept() for f in self.fields], values, sees)
-        return self.by_name("by_name_kept", row)
+        return self.by_name("by_name_kept", self.kept_row(values, sees))
 
     def back(self, values: List[str], sees: List[str]) -> str:
         """That what is sent comes back, where a fact `real` says what exists."""

@@ -9,10 +9,13 @@ from .names import name_item
 from .parser import Parser
 from .structs import StructWriter
 from .tagged import TaggedWriter
-from .text import alias
+from .text import alias, ghost
 from .types import CBOR, NOT_NULL, READ, TRIP, snake
 from .untagged import UntaggedWriter
 from .words import ALIASES, METHODS, SEEN, TAKEN, USES, WORDS, words_of
+
+
+REFUSES_NULL = ghost("refuses_null", "record { of_null = λ e. absurd (cc e) }")
 
 
 def impl(item: Item, trait: str, members: List[str], lifetime: str = "") -> str:
@@ -45,7 +48,7 @@ def impls(item: Item, cbor: bool) -> Iterator[str]:
     if cbor and item.comes_back_from_cbor():
         yield impl(item, CBOR, writer.cbor_round_trip(), "<'de>")
         if not item.may_be_null():
-            yield impl(item, NOT_NULL, writer.not_null(), "<'de>")
+            yield impl(item, NOT_NULL, [REFUSES_NULL], "<'de>")
 
 
 def check(item: Item) -> None:

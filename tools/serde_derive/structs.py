@@ -28,6 +28,9 @@ class FlattenedHolder(Holder):
     def back(self, values: List[str], sees: List[str]) -> str:
         return self.back_row(values, sees)
 
+    def kept(self, values: List[str], sees: List[str]) -> str:
+        return self.kept_row(values, sees)
+
 
 def same(data: Data, known: Iterator[str]) -> str:
     """That two values are equal, from what is known of each leaf."""
@@ -86,8 +89,3 @@ class StructWriter:
         passes = same(self.item.data, iter(facts(holder.count, 'h'))) if holder.many else "h"
         see = "" if holder.many else " (λ q. q.0)"
         return [ghost("kept", f"record {{\nof_value = λ p real. {laws}{see}\n(λ q h. {passes});\n}}")]
-
-    def not_null(self) -> List[str]:
-        holder = self.holder
-        inner = "_" if holder.many else self.fields[0].type.not_null()
-        return [ghost("refuses_null", f"{holder.word}_not_null {holder.names} {inner}")]

@@ -101,11 +101,16 @@ class TaggedWriter(EnumWriter):
     @staticmethod
     def unit(v: Variant, row: str) -> str:
         """A row of no fields, with the type of what it gives."""
-        return row if v.data.fields else re.sub(r"\((skipped|closed)_(back|keeps) ", r"(\1_\2 {Y = Unit {0}} ", row)
+        return row if v.data.fields else re.sub(r"\((skipped|closed)_(back|keeps|kept) ", r"(\1_\2 {Y = Unit {0}} ", row)
 
     def back(self, v: Variant, holder: Holder, values: List[str]) -> str:
         row = self.unit(v, holder.back_row(values, self.sees(holder)))
         return (f"λ real f. tagged_back Self.refusal Self.gives{row}\nf (λ fs. refl)\n"
+                f"(λ fs only. {elim([self.read(v, w) for w in self.item.variants])})")
+
+    def kept(self, v: Variant, holder: Holder, values: List[str]) -> str:
+        row = self.unit(v, holder.kept_row(values, self.sees(holder)))
+        return (f"λ real. tagged_kept Self.refusal Self.gives{row}\n(λ fs. refl)\n"
                 f"(λ fs only. {elim([self.read(v, w) for w in self.item.variants])})")
 
     def keeps(self, v: Variant, holder: Holder, values: List[str]) -> str:

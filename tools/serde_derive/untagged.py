@@ -97,28 +97,38 @@ class UntaggedWriter(EnumWriter):
         return v.held().takes()[1]
 
     def back(self, v: Variant, holder: Holder, values: List[str]) -> str:
-        place, types = self.place(v), [f.type for f in v.data.fields]
-        asked = v.data.asked()
-        real = ["tt" if f not in asked else "real" if len(asked) == 1 else f"real.{asked.index(f)}" for f in v.data.fields]
-        if len(types) == 1:
-            law = f"({types[0].typed_back()}.of_value {values[0]} {real[0]} f)"
-        else:
-            parts = nest([f"element_back {t.typed_back()} {x} {r} {see} {len(types)} {i}" for i, (t, x, r, see) in enumerate(
-                zip(types, values, real, self.sees(holder)))], "parts_end")
-            law = f"(tuple_back{parts}\nf (λ y h. h))"
+        laws = [f.type.typed_back() for f in v.data.fields]
         free = self.free(v, "one.free", "(tree_under f t)")
-        read = elim([self.read_as(v, w) for w in self.item.variants])
+        read = elim([self.read_as(v, w, "one", "f t") for w in self.item.variants])
+        law = self.held(v, holder, values, laws, "back", "parts_end", " f")
         return f"λ real f. such_seen (λ t one. record {{\nfree = {free};\nonly = {read};\n}})\n{law}"
 
-    def read_as(self, sent: Variant, read: Variant) -> str:
-        """That a variant that was read is equal to the one that was sent."""
+    def kept(self, v: Variant, holder: Holder, values: List[str]) -> str:
+        laws = [f.type.typed_kept() for f in v.data.fields]
+        free = self.free(v, "(one fits).free", "(as_read (form t))")
+        read = elim([self.read_as(v, w, "(one fits)", "read_flags (form t)") for w in self.item.variants])
+        law = self.held(v, holder, values, laws, "kept", "parts_end_kept", "")
+        return f"λ real. such_seen (λ t one fits. record {{\nfree = {free};\nonly = {read};\n}})\n{law}"
+
+    def held(self, v: Variant, holder: Holder, values: List[str], laws: List[str], member: str, end: str, flags: str) -> str:
+        """That what a variant holds comes back."""
+        asked = v.data.asked()
+        real = ["tt" if f not in asked else "real" if len(asked) == 1 else f"real.{asked.index(f)}" for f in v.data.fields]
+        if len(laws) == 1:
+            return f"({laws[0]}.of_value {values[0]} {real[0]}{flags})"
+        parts = nest([f"element_{member} {law} {x} {r} {see} {len(laws)} {i}" for i, (law, x, r, see) in enumerate(
+            zip(laws, values, real, self.sees(holder)))], end)
+        return f"(tuple_{member}{parts}\n{flags.lstrip()}{' ' * bool(flags)}(λ y h. h))"
+
+    def read_as(self, sent: Variant, read: Variant, one: str, source: str) -> str:
+        """That a variant that was read of a source is equal to the one that was sent, as that is one."""
         values, at, first = self.values(read.data, "y"), self.place(read), self.place(sent)
         pattern = self.case(read, "y") + " λ it. "
         if at < first:
-            return pattern + f"taken_by_one {self.takes(read)} {self.takes(sent)} refl f t {self.taken('it', read)}.0 one.free"
+            return pattern + f"taken_by_one {self.takes(read)} {self.takes(sent)} refl {source} {self.taken('it', read)}.0 {one}.free"
         if at > first:
-            return pattern + f"not_refused _ one.free it.{first}"
-        only = f"one.only {together(values)} {self.taken('it', read)}.1"
+            return pattern + f"not_refused _ {one}.free it.{first}"
+        only = f"{one}.only {together(values)} {self.taken('it', read)}.1"
         return pattern + (only if len(values) == 1 else f"let same = {only} in {all_hold(facts(len(values), 'same'))}")
 
     def taken(self, given: str, v: Variant) -> str:

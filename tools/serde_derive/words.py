@@ -64,16 +64,20 @@ serde_content.specs.Laws.Untagged unit_takes bool_takes number_takes char_takes 
 serde_content.specs.Laws.Untagged map_takes struct_takes
 serde_content.specs.Laws.Variants variant_back other_variant variant_kept
 serde_content.specs.Laws.Variants {' '.join(f'{s}_back {s}_keeps' for s in STYLES[1::2])}
+content_cbor.specs.Decoded as_read read_flags
+content_cbor.specs.Form form
 content_cbor.specs.Typed.Kept FormComesBack
 content_cbor.specs.Typed.Leaves {' '.join(laws.kept for laws in LEAVES.values() if laws.kept)}
 content_cbor.specs.Typed.Leaves number_not_null bool_not_null text_not_null
 content_cbor.specs.Typed.Holders seen_kept option_kept seq_kept seq_not_null
 content_cbor.specs.Typed.Maps map_kept map_not_null
 content_cbor.specs.Typed.Series element_kept tuple_kept tuple_field_kept tuple_struct_kept parts_end_kept
-content_cbor.specs.Typed.Series tuple_not_null tuple_struct_not_null
-content_cbor.specs.Typed.Records struct_kept newtype_struct_kept struct_not_null newtype_struct_not_null
+content_cbor.specs.Typed.Series tuple_not_null
+content_cbor.specs.Typed.Records struct_kept newtype_struct_kept
 content_cbor.specs.Typed.ByName by_name_kept named_kept named_or_kept skipped_kept closed_kept
-content_cbor.specs.Typed.Variants variant_comes_back given_as enum_not_null
+content_cbor.specs.Typed.Tagged tagged_kept
+content_cbor.specs.Typed.Flattened flattened_named_kept flattened_named_or_kept flattened_end_kept flattened_kept
+content_cbor.specs.Typed.Variants variant_comes_back given_as
 content_cbor.specs.Typed.Variants {' '.join(f'{s}_kept' for s in STYLES[1::2])}
 """)
 ALIASES = {"kind": "content_tree.specs.Values.Ranges", "tree": "content_tree.specs.Values.Tree"}
@@ -98,7 +102,7 @@ USES = {
     "std::alloc": "Global",
     "std::collections": "BTreeMap",
 }
-IN_TEXT = {"[]": "[]", "custom": "(custom ", "Some": "(Some (", "None": "≡ None", "true": "people true",
+IN_TEXT = {"[]": "[]", "form": "(form t)", "custom": "(custom ", "Some": "(Some (", "None": "≡ None", "true": "people true",
            "false": "≡ false"}
 METHODS = {"Parts": r"\.(?:with|around)\("}
 TAKEN = {name for names in USES.values() for name in names.split()} | set(HOLDERS) | {"String", "Ok", "Err"}

@@ -40,6 +40,15 @@ ghost use Rattle.serde_content.specs.Laws.Untagged.{taken_by_one, not_refused, s
 ghost use Rattle.serde_content.specs.Laws.Untagged.{bool_takes, number_takes, text_takes};
 ghost use Rattle.serde_content.specs.Laws.Untagged.{tuple_takes};
 ghost use Rattle.serde_content.specs.Laws.Variants.{other_variant};
+ghost use Rattle.content_cbor.specs.Decoded.{as_read, read_flags};
+ghost use Rattle.content_cbor.specs.Form.{form};
+ghost use Rattle.content_cbor.specs.Typed.Kept.{FormComesBack};
+ghost use Rattle.content_cbor.specs.Typed.Leaves.{bool_kept, text_kept, u8_kept, i32_kept};
+ghost use Rattle.content_cbor.specs.Typed.Leaves.{number_not_null};
+ghost use Rattle.content_cbor.specs.Typed.Holders.{option_kept};
+ghost use Rattle.content_cbor.specs.Typed.Series.{element_kept, tuple_kept, parts_end_kept};
+ghost use Rattle.content_cbor.specs.Typed.ByName.{named_kept, named_or_kept, skipped_kept};
+ghost use Rattle.content_cbor.specs.Typed.Tagged.{tagged_kept};
 ghost use Rattle.std.specs.declared.alloc.Global.{Global};
 ghost use Rattle.std.specs.declared.string.String.{String};
 ghost use Rattle.content_tree.specs.Values.Ranges as kind;
@@ -47,6 +56,7 @@ ghost use Rattle.check_derive.specs.declared.choices.Command.TheVariants as comm
 ghost use Rattle.check_derive.specs.declared.choices.Setting.TheVariants as setting;
 ghost use Rattle.check_derive.specs.declared.choices.Steps.TheVariants as steps;
 
+use content_cbor::{CborRoundTrip, NotNull};
 use serde_content::de::{
     Deserialize, FieldsByName, OneOfFour, OneOfTwo, first_of_four, first_of_two, read_two,
     skip_fields, tag_field, unknown_variant,
@@ -316,6 +326,39 @@ impl<'de> RoundTrip<'de> for Command {
     } };
 }
 
+impl<'de> CborRoundTrip<'de> for Command {
+    ghost kept = { record {
+      of_value = elim [
+        | command.Stop ↦ λ real. tagged_kept Self.refusal Self.gives
+            (skipped_kept {Y = Unit {0}} (codes "kind" ∷ []))
+            (λ fs. refl)
+            (λ fs only. elim [
+              | command.Stop ↦ λ it. refl
+              | command.Move y1 y2 ↦ λ it. other_variant it.0 refl
+            ])
+        | command.Move x1 x2 ↦ λ real. tagged_kept Self.refusal Self.gives
+            (named_kept (codes "x") i32_kept x1 tt (λ (z : ℤ × (Option ℤ)). z.0)
+            (named_or_kept (codes "y") (λ (x : (Option ℤ)). x ≡ None)
+            (let law : FormComesBack (⟦<Option<i32> as RoundTrip<'de>>⟧.exists)
+            (⟦<Option<i32> as Serialize>⟧.script) (⟦<Option<i32> as Deserialize<'de>>⟧.refusal)
+            (⟦<Option<i32> as Deserialize<'de>>⟧.gives) (⟦<Option<i32> as PartialEq>⟧.eq) =
+            (option_kept (number_not_null kind.i32) i32_kept) in law) x2 real
+            (λ (z : ℤ × (Option ℤ)). z.1)
+            (skipped_kept (codes "kind" ∷ codes "x" ∷ codes "y" ∷ []))))
+            (λ fs. refl)
+            (λ fs only. elim [
+              | command.Stop ↦ λ it. other_variant it.0 refl
+              | command.Move y1 y2 ↦ λ it. let same = only (y1, y2) it.1 in both_hold same.0
+                  same.1.0
+            ])
+      ];
+    } };
+}
+
+impl<'de> NotNull<'de> for Command {
+    ghost refuses_null = { record { of_null = λ e. absurd (cc e) } };
+}
+
 /// A setting, told by what it is.
 #[derive(Drop, PartialEq, Eq)]
 pub enum Setting {
@@ -540,6 +583,74 @@ impl<'de> RoundTrip<'de> for Setting {
             }
       ];
     } };
+}
+
+impl<'de> CborRoundTrip<'de> for Setting {
+    ghost kept = { record {
+      of_value = elim [
+        | setting.Flag x1 ↦ λ real. such_seen (λ t one fits. record {
+          free = first_taken _ _ (one fits).free;
+          only = elim [
+            | setting.Flag y1 ↦ λ it. (one fits).only y1 it.1
+            | setting.Level y1 ↦ λ it. not_refused _ (one fits).free it.0
+            | setting.Range y1 y2 ↦ λ it. not_refused _ (one fits).free it.0
+            | setting.Name y1 ↦ λ it. not_refused _ (one fits).free it.0
+          ];
+        })
+            (bool_kept.of_value x1 tt)
+        | setting.Level x1 ↦ λ real. such_seen (λ t one fits. record {
+          free = later_taken (⟦<bool as Deserialize<'de>>⟧.refusal (as_read (form t)))
+              (first_taken _ _ (one fits).free);
+          only = elim [
+            | setting.Flag y1 ↦ λ it. taken_by_one bool_takes (number_takes kind.i32) refl
+                read_flags (form t) it.0 (one fits).free
+            | setting.Level y1 ↦ λ it. (one fits).only y1 it.1.1
+            | setting.Range y1 y2 ↦ λ it. not_refused _ (one fits).free it.1
+            | setting.Name y1 ↦ λ it. not_refused _ (one fits).free it.1
+          ];
+        })
+            (i32_kept.of_value x1 tt)
+        | setting.Range x1 x2 ↦ λ real. such_seen (λ t one fits. record {
+          free = later_taken (⟦<bool as Deserialize<'de>>⟧.refusal (as_read (form t)))
+              (later_taken (⟦<i32 as Deserialize<'de>>⟧.refusal (as_read (form t)))
+              (first_taken _ _ (one fits).free));
+          only = elim [
+            | setting.Flag y1 ↦ λ it. taken_by_one bool_takes tuple_takes refl read_flags
+                (form t) it.0 (one fits).free
+            | setting.Level y1 ↦ λ it. taken_by_one (number_takes kind.i32) tuple_takes refl
+                read_flags (form t) it.1.0 (one fits).free
+            | setting.Range y1 y2 ↦ λ it. let same = (one fits).only (y1, y2) it.2.1 in
+                both_hold same.0 same.1.0
+            | setting.Name y1 ↦ λ it. not_refused _ (one fits).free it.2
+          ];
+        })
+            (tuple_kept
+            (element_kept u8_kept x1 tt (λ (z : ℕ × ℕ). z.0) 2 0
+            (element_kept u8_kept x2 tt (λ (z : ℕ × ℕ). z.1) 2 1
+            parts_end_kept))
+            (λ y h. h))
+        | setting.Name x1 ↦ λ real. such_seen (λ t one fits. record {
+          free = later_taken (⟦<bool as Deserialize<'de>>⟧.refusal (as_read (form t)))
+              (later_taken (⟦<i32 as Deserialize<'de>>⟧.refusal (as_read (form t)))
+              (later_taken (⟦<(u8, u8) as Deserialize<'de>>⟧.refusal (as_read (form t)))
+              (first_taken _ _ (one fits).free)));
+          only = elim [
+            | setting.Flag y1 ↦ λ it. taken_by_one bool_takes text_takes refl read_flags
+                (form t) it.0 (one fits).free
+            | setting.Level y1 ↦ λ it. taken_by_one (number_takes kind.i32) text_takes refl
+                read_flags (form t) it.1.0 (one fits).free
+            | setting.Range y1 y2 ↦ λ it. taken_by_one tuple_takes text_takes refl read_flags
+                (form t) it.2.0 (one fits).free
+            | setting.Name y1 ↦ λ it. (one fits).only y1 it.3.1
+          ];
+        })
+            (text_kept.of_value x1 tt)
+      ];
+    } };
+}
+
+impl<'de> NotNull<'de> for Setting {
+    ghost refuses_null = { record { of_null = λ e. absurd (cc e) } };
 }
 
 /// Steps, told by how many they are: two are read as a pair, since that is tried first.

@@ -34,11 +34,21 @@ ghost use Rattle.serde_content.specs.Laws.Flattened.{FlattenedGives, flattened_e
 ghost use Rattle.serde_content.specs.Laws.Flattened.{flattened_named_back, flattened_named_or_back};
 ghost use Rattle.serde_content.specs.Laws.Flattened.{flattened_back, flattened_keeps};
 ghost use Rattle.serde_content.specs.Laws.Tagged.{tagged_script, tagged_back, tag_keeps};
+ghost use Rattle.content_cbor.specs.Typed.Kept.{FormComesBack};
+ghost use Rattle.content_cbor.specs.Typed.Leaves.{text_kept, u64_kept, i32_kept, text_not_null};
+ghost use Rattle.content_cbor.specs.Typed.Holders.{option_kept};
+ghost use Rattle.content_cbor.specs.Typed.Records.{struct_kept};
+ghost use Rattle.content_cbor.specs.Typed.ByName.{by_name_kept, named_kept, named_or_kept};
+ghost use Rattle.content_cbor.specs.Typed.ByName.{skipped_kept};
+ghost use Rattle.content_cbor.specs.Typed.Tagged.{tagged_kept};
+ghost use Rattle.content_cbor.specs.Typed.Flattened.{flattened_named_kept, flattened_named_or_kept};
+ghost use Rattle.content_cbor.specs.Typed.Flattened.{flattened_end_kept, flattened_kept};
 ghost use Rattle.std.specs.declared.alloc.Global.{Global};
 ghost use Rattle.std.specs.declared.string.String.{String};
 ghost use Rattle.content_tree.specs.Values.Ranges as kind;
 ghost use Rattle.check_derive.specs.declared.inlined.Change.TheVariants as change;
 
+use content_cbor::{CborRoundTrip, NotNull};
 use serde_content::de::{
     Deserialize, FieldsByName, read_four, read_two, tag_field, unknown_variant,
 };
@@ -156,6 +166,25 @@ impl<'de> RoundTrip<'de> for Amount {
         (λ o (x : String Global). IsTaken (text_from o) (HasContent (string_bytes x))))) in
         law)
         (skipped_keeps (codes "count" ∷ codes "unit" ∷ []))))) };
+}
+
+impl<'de> CborRoundTrip<'de> for Amount {
+    ghost kept = { record {
+      of_value = λ p real. struct_kept (by_name_kept
+          (named_kept (codes "count") i32_kept p.count tt (λ q. q.count)
+          (named_or_kept (codes "unit") (λ (x : (Option (String Global))). x ≡ None)
+          (let law : FormComesBack (⟦<Option<String> as RoundTrip<'de>>⟧.exists)
+          (⟦<Option<String> as Serialize>⟧.script)
+          (⟦<Option<String> as Deserialize<'de>>⟧.refusal)
+          (⟦<Option<String> as Deserialize<'de>>⟧.gives) (⟦<Option<String> as PartialEq>⟧.eq)
+          = (option_kept text_not_null text_kept) in law) p.unit real (λ q. q.unit)
+          (skipped_kept (codes "count" ∷ codes "unit" ∷ [])))))
+          (λ q h. both_hold h.0 h.1.0);
+    } };
+}
+
+impl<'de> NotNull<'de> for Amount {
+    ghost refuses_null = { record { of_null = λ e. absurd (cc e) } };
 }
 
 /// A line of a bill.
@@ -343,6 +372,30 @@ impl<'de> RoundTrip<'de> for Line {
         (named_keeps (codes "price") (λ q. q.price) (natural_keeps kind.u64)
         (skipped_keeps (codes "goods" ∷ codes "count" ∷ codes "unit" ∷ codes "price" ∷
         []))))))) };
+}
+
+impl<'de> CborRoundTrip<'de> for Line {
+    ghost kept = { record {
+      of_value = λ p real. flattened_kept
+          (flattened_named_kept (codes "goods") text_kept p.goods tt (λ q. q.goods)
+          (flattened_named_kept (codes "count") i32_kept p.amount.count tt
+          (λ q. q.amount.count)
+          (flattened_named_or_kept (codes "unit") (λ (x : (Option (String Global))). x ≡ None)
+          (let law : FormComesBack (⟦<Option<String> as RoundTrip<'de>>⟧.exists)
+          (⟦<Option<String> as Serialize>⟧.script)
+          (⟦<Option<String> as Deserialize<'de>>⟧.refusal)
+          (⟦<Option<String> as Deserialize<'de>>⟧.gives) (⟦<Option<String> as PartialEq>⟧.eq)
+          = (option_kept text_not_null text_kept) in law) p.amount.unit real
+          (λ q. q.amount.unit)
+          (flattened_named_kept (codes "price") u64_kept p.price tt (λ q. q.price)
+          (flattened_end_kept (codes "goods" ∷ codes "count" ∷ codes "unit" ∷ codes "price" ∷
+          []))))))
+          (λ q h. both_hold h.0 (both_hold (both_hold h.1.0 h.1.1.0) h.1.1.1.0));
+    } };
+}
+
+impl<'de> NotNull<'de> for Line {
+    ghost refuses_null = { record { of_null = λ e. absurd (cc e) } };
 }
 
 /// What becomes of a bill, told by the field `op`.
@@ -539,4 +592,31 @@ impl<'de> RoundTrip<'de> for Change {
             record { free = q.free; given = q.given }
       ];
     } };
+}
+
+impl<'de> CborRoundTrip<'de> for Change {
+    ghost kept = { record {
+      of_value = elim [
+        | change.Add x1 ↦ λ real. tagged_kept Self.refusal Self.gives
+            (named_kept (codes "count") i32_kept x1.count tt
+            (λ (z : ℤ × (Option (String Global))). z.0)
+            (named_or_kept (codes "unit") (λ (x : (Option (String Global))). x ≡ None)
+            (let law : FormComesBack (⟦<Option<String> as RoundTrip<'de>>⟧.exists)
+            (⟦<Option<String> as Serialize>⟧.script)
+            (⟦<Option<String> as Deserialize<'de>>⟧.refusal)
+            (⟦<Option<String> as Deserialize<'de>>⟧.gives) (⟦<Option<String> as PartialEq>⟧.eq)
+            = (option_kept text_not_null text_kept) in law) x1.unit real
+            (λ (z : ℤ × (Option (String Global))). z.1)
+            (skipped_kept (codes "op" ∷ codes "count" ∷ codes "unit" ∷ []))))
+            (λ fs. refl)
+            (λ fs only. elim [
+              | change.Add y1 ↦ λ it. let same = only (y1.count, y1.unit) it.1 in both_hold same.0
+                  same.1.0
+            ])
+      ];
+    } };
+}
+
+impl<'de> NotNull<'de> for Change {
+    ghost refuses_null = { record { of_null = λ e. absurd (cc e) } };
 }

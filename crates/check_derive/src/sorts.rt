@@ -41,6 +41,15 @@ ghost use Rattle.serde_content.specs.Laws.ByName.{named_back, skipped_back, by_n
 ghost use Rattle.serde_content.specs.Laws.ByName.{named_keeps, skipped_keeps};
 ghost use Rattle.serde_content.specs.Laws.Tagged.{tagged_script, tagged_back, tag_keeps};
 ghost use Rattle.serde_content.specs.Laws.Variants.{other_variant};
+ghost use Rattle.content_cbor.specs.Typed.Kept.{FormComesBack};
+ghost use Rattle.content_cbor.specs.Typed.Leaves.{bool_kept, text_kept, u8_kept, i32_kept};
+ghost use Rattle.content_cbor.specs.Typed.Holders.{seen_kept, option_kept};
+ghost use Rattle.content_cbor.specs.Typed.Maps.{map_kept};
+ghost use Rattle.content_cbor.specs.Typed.Series.{tuple_field_kept, tuple_struct_kept};
+ghost use Rattle.content_cbor.specs.Typed.Series.{parts_end_kept};
+ghost use Rattle.content_cbor.specs.Typed.Records.{newtype_struct_kept};
+ghost use Rattle.content_cbor.specs.Typed.ByName.{named_kept, skipped_kept};
+ghost use Rattle.content_cbor.specs.Typed.Tagged.{tagged_kept};
 ghost use Rattle.std.specs.declared.alloc.Global.{Global};
 ghost use Rattle.std.specs.declared.string.String.{String};
 ghost use Rattle.content_tree.specs.Values.Ranges as kind;
@@ -48,6 +57,7 @@ ghost use Rattle.content_tree.specs.Values.Tree as tree;
 ghost use Rattle.check_derive.specs.declared.sorts.Message.TheVariants as message;
 
 use crate::types::Place;
+use content_cbor::{CborRoundTrip, NotNull};
 use serde_content::de::{
     Deserialize, FieldsByName, read_one, skip_fields, tag_field, two_parts, unknown_variant,
 };
@@ -132,6 +142,17 @@ impl<'de> RoundTrip<'de> for Code {
         (newtype_struct_keeps (codes "Code") (natural_keeps kind.u8)) };
 }
 
+impl<'de> CborRoundTrip<'de> for Code {
+    ghost kept = { record {
+      of_value = λ p real. newtype_struct_kept u8_kept p.0 tt (λ q. q.0)
+          (λ q h. h);
+    } };
+}
+
+impl<'de> NotNull<'de> for Code {
+    ghost refuses_null = { record { of_null = λ e. absurd (cc e) } };
+}
+
 /// Two values by place, one of a type of another module.
 #[derive(Drop, PartialEq, Eq)]
 pub struct Stop(pub i32, pub Option<Place>);
@@ -211,6 +232,28 @@ impl<'de> RoundTrip<'de> for Stop {
         parts_end_keeps)) };
 }
 
+impl<'de> CborRoundTrip<'de> for Stop {
+    ghost use Rattle.check_derive.specs.contracts.types.PlaceCborRoundTrip.TheImpl.Laws as place_cbor_round_trip;
+    ghost use Rattle.check_derive.specs.contracts.types.PlaceNotNull.TheImpl.Laws as place_not_null;
+
+    ghost kept = { record {
+      of_value = λ p real. tuple_struct_kept
+          (tuple_field_kept i32_kept p.0 tt (λ q. q.0) 2 0
+          (tuple_field_kept (let law : FormComesBack
+          (⟦<Option<Place> as RoundTrip<'de>>⟧.exists) (⟦<Option<Place> as Serialize>⟧.script)
+          (⟦<Option<Place> as Deserialize<'de>>⟧.refusal)
+          (⟦<Option<Place> as Deserialize<'de>>⟧.gives) (⟦<Option<Place> as PartialEq>⟧.eq) =
+          (option_kept place_not_null.refuses_null-law place_cbor_round_trip.kept-law) in law)
+          p.1 real (λ q. q.1) 2 1
+          parts_end_kept))
+          (λ q h. both_hold h.0 h.1.0);
+    } };
+}
+
+impl<'de> NotNull<'de> for Stop {
+    ghost refuses_null = { record { of_null = λ e. absurd (cc e) } };
+}
+
 /// A map with keys of one's own.
 #[derive(Drop, PartialEq, Eq)]
 pub struct Ledger(pub BTreeMap<Code, bool>);
@@ -271,6 +314,27 @@ impl<'de> RoundTrip<'de> for Ledger {
         (seen_keeps (λ m. m.entries) (map_keeps (⟦<Code as Ord>⟧.cmp)
         code_round_trip.keeps-law (heedless_keeps (λ o. refusal_of (bool_from o))
         (λ o (x : Bool). bool_from o ≡ taken x)))) in law)) };
+}
+
+impl<'de> CborRoundTrip<'de> for Ledger {
+    ghost use Rattle.check_derive.specs.contracts.sorts.CodeCborRoundTrip.TheImpl.Laws as code_cbor_round_trip;
+    ghost use Rattle.check_derive.specs.contracts.sorts.CodeOrd.TheImpl.Laws as code_ord;
+
+    ghost kept = { record {
+      of_value = λ p real. newtype_struct_kept
+          (let law : FormComesBack (⟦<BTreeMap<Code, bool> as RoundTrip<'de>>⟧.exists)
+          (⟦<BTreeMap<Code, bool> as Serialize>⟧.script)
+          (⟦<BTreeMap<Code, bool> as Deserialize<'de>>⟧.refusal)
+          (⟦<BTreeMap<Code, bool> as Deserialize<'de>>⟧.gives)
+          (⟦<BTreeMap<Code, bool> as PartialEq>⟧.eq) =
+          (seen_kept (λ m. m.entries) (map_kept code_ord.total-law code_ord.matches_eq-law
+          code_cbor_round_trip.kept-law bool_kept)) in law) p.0 real (λ q. q.0)
+          (λ q h. h);
+    } };
+}
+
+impl<'de> NotNull<'de> for Ledger {
+    ghost refuses_null = { record { of_null = λ e. absurd (cc e) } };
 }
 
 /// A message, told by the field `t`, what it holds in the field `c`.
@@ -453,4 +517,30 @@ impl<'de> RoundTrip<'de> for Message {
             record { free = q.free; given = q.given }
       ];
     } };
+}
+
+impl<'de> CborRoundTrip<'de> for Message {
+    ghost kept = { record {
+      of_value = elim [
+        | message.Ping ↦ λ real. tagged_kept Self.refusal Self.gives
+            (skipped_kept {Y = Unit {0}} (codes "t" ∷ []))
+            (λ fs. refl)
+            (λ fs only. elim [
+              | message.Ping ↦ λ it. refl
+              | message.Text y1 ↦ λ it. other_variant it.0 refl
+            ])
+        | message.Text x1 ↦ λ real. tagged_kept Self.refusal Self.gives
+            (named_kept (codes "c") text_kept x1 tt (λ (z : (String Global)). z)
+            (skipped_kept (codes "t" ∷ codes "c" ∷ [])))
+            (λ fs. refl)
+            (λ fs only. elim [
+              | message.Ping ↦ λ it. other_variant it.0 refl
+              | message.Text y1 ↦ λ it. let same = only y1 it.1 in same.0
+            ])
+      ];
+    } };
+}
+
+impl<'de> NotNull<'de> for Message {
+    ghost refuses_null = { record { of_null = λ e. absurd (cc e) } };
 }

@@ -59,10 +59,10 @@ ghost use Rattle.content_cbor.specs.Typed.Holders.{seen_kept, option_kept, seq_k
 ghost use Rattle.content_cbor.specs.Typed.Maps.{map_kept};
 ghost use Rattle.content_cbor.specs.Typed.Series.{element_kept, tuple_kept, tuple_field_kept};
 ghost use Rattle.content_cbor.specs.Typed.Series.{parts_end_kept};
-ghost use Rattle.content_cbor.specs.Typed.Records.{struct_kept, struct_not_null};
+ghost use Rattle.content_cbor.specs.Typed.Records.{struct_kept};
 ghost use Rattle.content_cbor.specs.Typed.ByName.{by_name_kept, named_kept, named_or_kept};
 ghost use Rattle.content_cbor.specs.Typed.ByName.{skipped_kept, closed_kept};
-ghost use Rattle.content_cbor.specs.Typed.Variants.{variant_comes_back, given_as, enum_not_null};
+ghost use Rattle.content_cbor.specs.Typed.Variants.{variant_comes_back, given_as};
 ghost use Rattle.content_cbor.specs.Typed.Variants.{unit_variant_kept, newtype_variant_kept};
 ghost use Rattle.content_cbor.specs.Typed.Variants.{tuple_variant_kept, struct_variant_kept};
 ghost use Rattle.std.specs.declared.alloc.Global.{Global};
@@ -208,7 +208,7 @@ impl<'de> CborRoundTrip<'de> for Place {
 }
 
 impl<'de> NotNull<'de> for Place {
-    ghost refuses_null = { struct_not_null (codes "Place") _ };
+    ghost refuses_null = { record { of_null = λ e. absurd (cc e) } };
 }
 
 /// What becomes of an order.
@@ -554,7 +554,7 @@ impl<'de> CborRoundTrip<'de> for Step {
 }
 
 impl<'de> NotNull<'de> for Step {
-    ghost refuses_null = { enum_not_null (codes "Step") _ };
+    ghost refuses_null = { record { of_null = λ e. absurd (cc e) } };
 }
 
 /// An order.
@@ -906,5 +906,5 @@ impl<'de> CborRoundTrip<'de> for Order {
 }
 
 impl<'de> NotNull<'de> for Order {
-    ghost refuses_null = { struct_not_null (codes "Order") _ };
+    ghost refuses_null = { record { of_null = λ e. absurd (cc e) } };
 }

@@ -7,3 +7,5 @@ pub mod Maps
 pub mod Records
 pub mod ByName
 pub mod Variants
+pub mod Tagged
+pub mod Flattened

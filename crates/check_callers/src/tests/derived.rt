@@ -135,3 +135,31 @@ fn inlined_fields_stand_among_the_others(rt: HostRuntime) -> Result<(), Fail> {
     assert!(rt; round_trip(alloc, &more, false, false)? == more);
     Ok(())
 }
+
+#[test]
+fn all_sorts_come_back_from_cbor(rt: HostRuntime) -> Result<(), Fail> {
+    let alloc = rt.alloc();
+    let there = Command::Move { x: 3, y: None };
+    let mut bytes = Vec::new(alloc);
+    assert!(rt; write_and_read_back(alloc, &there, &mut bytes, 16)? == there);
+    let range = Setting::Range(1, 2);
+    let mut bytes = Vec::new(alloc);
+    assert!(rt; write_and_read_back(alloc, &range, &mut bytes, 16)? == range);
+    let line = Line {
+        goods: text(alloc, "nuts")?,
+        amount: Amount {
+            count: -3,
+            unit: None,
+        },
+        price: 20,
+    };
+    let mut bytes = Vec::new(alloc);
+    assert!(rt; write_and_read_back(alloc, &line, &mut bytes, 16)? == line);
+    let said = Message::Text(text(alloc, "hello")?);
+    let mut bytes = Vec::new(alloc);
+    assert!(rt; write_and_read_back(alloc, &said, &mut bytes, 16)? == said);
+    let stop = Stop(-1, None);
+    let mut bytes = Vec::new(alloc);
+    assert!(rt; write_and_read_back(alloc, &stop, &mut bytes, 16)? == stop);
+    Ok(())
+}

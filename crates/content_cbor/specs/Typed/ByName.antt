@@ -65,7 +65,7 @@ pub named_or_kept : {A Y : Type 0} {exists : A → Type 0} {script : ScriptOf A}
 named_or_kept name missing kept x real see more = entry_kept name None missing kept x real see more
 
 -- the entries of fields' forms, by name
-entries_named : (fs : Fields) → form_entries fs ≡ map (λ e. (key_tree e.0, e.1)) (entries_of_pairs (field_forms fs))
+pub entries_named : (fs : Fields) → form_entries fs ≡ map (λ e. (key_tree e.0, e.1)) (entries_of_pairs (field_forms fs))
 entries_named tree.no_fields = refl
 entries_named (tree.field_then k t fs) = ap (λ es. (text_form k.content, form t) ∷ es) (entries_named fs)
 

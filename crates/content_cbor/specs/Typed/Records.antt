@@ -23,7 +23,7 @@ use Rattle.serde_content.specs.Laws.Spelled.{FieldsSuch, Spelled, spelled_call, 
 use Rattle.serde_content.specs.Laws.Spelled.{wrapped_such, fields_end_such, fields_more_such}
 use Rattle.content_cbor.specs.Decoded.{as_read, read_flags}
 use Rattle.content_cbor.specs.Form.{form, field_forms, FieldsFit}
-use Rattle.content_cbor.specs.Typed.Kept.{FormComesBack, FormGives, RefusesNull}
+use Rattle.content_cbor.specs.Typed.Kept.{FormComesBack, FormGives}
 
 -- fields are sent so that their forms, as the entries of a map, aren't refused and give only such values
 pub record FieldsKept {Y : Type 0} (script : Bool → Script) (refusal : MapLeft → Option Cause) (given : Y → MapLeft → Type 0) (such : Y → Type 0) : Type 0 where
@@ -54,10 +54,6 @@ pub struct_kept : {Y : Type 0} {script : Bool → Script} {refusal : MapLeft →
     → SpellsSuch (FormGives (struct_refusal name refusal) (λ s y. StructGives name (given y) s) passes) (struct_script name len script false)
 struct_kept fields pass =
     such_spelled (spelled_call (λ calls rest e. (_, spells_record e.1, λ fits. record { free = (e.2 fits.1).free; only = λ y h. pass y ((e.2 fits.1).only y h) })) fields.spelled)
-
--- a struct isn't read of null
-pub struct_not_null : (name : List ℕ) (refusal : MapLeft → Option Cause) → RefusesNull (struct_refusal name refusal)
-struct_not_null name refusal = record { of_null = λ e. absurd (cc e) }
 
 -- a form stands for itself where a newtype struct is asked for
 newtype_form : (name : List ℕ) (t : Tree) → newtype_from name (as_read (form t)) ≡ taken (as_read (form t))
@@ -96,7 +92,3 @@ pub newtype_struct_kept : {A Y : Type 0} {exists : A → Type 0} {script : Scrip
     → SpellsSuch (FormGives (newtype_struct_refusal name refusal) (λ s y. NewtypeStructGives name gives (see y) s) passes) (newtype_struct_script name (script x) false)
 newtype_struct_kept {refusal} {gives} {eq} {name} kept x real see pass =
     wrapped_such (token.in_head (of_struct name)) refl (λ t one fits. newtype_such refusal gives eq name x see pass t (one fits)) (kept.of_value x real)
-
--- it isn't read of null where what it holds isn't
-pub newtype_struct_not_null : {refusal : Refusal} (name : List ℕ) → RefusesNull refusal → RefusesNull (newtype_struct_refusal name refusal)
-newtype_struct_not_null name never = record { of_null = λ e. never.of_null e }

@@ -73,7 +73,3 @@ tuple_struct_kept parts pass =
 -- a tuple isn't read of null
 pub tuple_not_null : (n : ℕ) (refusal : SeqLeft → Option Cause) → RefusesNull (λ s. refusal_then (tuple_at n s) refusal)
 tuple_not_null n refusal = record { of_null = λ e. absurd (cc e) }
-
--- a struct of values by place isn't either
-pub tuple_struct_not_null : (name : List ℕ) (refusal : SeqLeft → Option Cause) → RefusesNull (tuple_struct_refusal name refusal)
-tuple_struct_not_null name refusal = record { of_null = λ e. absurd (cc e) }

@@ -27,7 +27,7 @@ use Rattle.serde_content.specs.Laws.Spelled.{spelled_call, such_spelled, leaf_su
 use Rattle.serde_content.specs.Laws.Variants.{left, variant_node}
 use Rattle.content_cbor.specs.Decoded.{as_read, read_flags}
 use Rattle.content_cbor.specs.Form.{form, text_form, each_form, field_forms, variant_form, DataFits}
-use Rattle.content_cbor.specs.Typed.Kept.{FormComesBack, FormGives, RefusesNull}
+use Rattle.content_cbor.specs.Typed.Kept.{FormComesBack, FormGives}
 use Rattle.content_cbor.specs.Typed.Records.{FieldsKept}
 use Rattle.content_cbor.specs.Typed.Series.{PartsKept}
 
@@ -120,7 +120,3 @@ variant_comes_back {name} {index} {variant} {own} variants gives {passes} kept s
             only = given_so there.such.0 (there.such.2 fits.1).only;
           });
     }
-
--- an enum isn't read of null
-pub enum_not_null : (name : List ℕ) (variants : List ℕ → VariantLeft → Option Cause) → RefusesNull (enum_refusal name variants)
-enum_not_null name variants = record { of_null = λ e. absurd (cc e) }

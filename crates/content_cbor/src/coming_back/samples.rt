@@ -4,7 +4,6 @@ ghost use Rattle.std.specs.Prelude.{codes};
 ghost use Rattle.serde_content.specs.Laws.Series.{both_hold};
 ghost use Rattle.content_cbor.specs.Typed.Leaves.{i32_kept};
 ghost use Rattle.content_cbor.specs.Typed.Records.{field_kept, fields_end_kept, struct_kept};
-ghost use Rattle.content_cbor.specs.Typed.Records.{struct_not_null};
 
 use crate::coming_back::{CborRoundTrip, NotNull};
 use serde_content::samples::Point;
@@ -20,5 +19,5 @@ impl<'de> CborRoundTrip<'de> for Point {
 }
 
 impl<'de> NotNull<'de> for Point {
-    ghost refuses_null = { struct_not_null (codes "Point") _ };
+    ghost refuses_null = { record { of_null = λ e. absurd (cc e) } };
 }

@@ -94,7 +94,7 @@ key_before name q s r such calls rest e = (
 )
 
 -- an entry whose key is a text, and then the others
-entry_more : (name : List ℕ) (q : Tree → Type 0) (s r : Pairs → Type 0) {a b : Script} → ((t : Tree) (ps : Pairs) → q t → s ps → r (tree.pair_then (tree.text (owned_text name)) t ps))
+pub entry_more : (name : List ℕ) (q : Tree → Type 0) (s r : Pairs → Type 0) {a b : Script} → ((t : Tree) (ps : Pairs) → q t → s ps → r (tree.pair_then (tree.text (owned_text name)) t ps))
     → SpellsSuch q a → Spelled (EntriesSuch s) b → Spelled (EntriesSuch r) (call_then event.key (call_then (event.text name) (call_then event.value (and_then a b))))
 entry_more name q s r such a b =
     spelled_call {Q = λ calls rest. EntriesSuch r (token.key ∷ calls) rest} (λ calls rest e. e)

@@ -1,0 +1,49 @@
+-- The variants of an enum whose tag is a field come back from CBOR where what stands beside it does.
+use Rattle.std.specs.Prelude.{◌≡◌, ℕ, Bool, false, List, map, Option, refl}
+use Rattle.std.proofs.Common.{ap, subst, sym, ◌∙◌}
+use Rattle.content_tree.specs.Values.Text.{static_name, owned_text}
+use Rattle.content_tree.specs.Values.Tree as tree
+use Rattle.content_tree.specs.Values.Tree.{Tree, Fields}
+use Rattle.content_tree.specs.Errors.Cause.{Cause}
+use Rattle.content_ser.specs.Grammar.Spells.{spells_record}
+use Rattle.content_ser.specs.Scripts.Script.{Script}
+use Rattle.content_de.specs.Requests.Compounds.{entries_of_pairs}
+use Rattle.content_de.specs.Accesses.ByName.{FieldsLeft, key_tree}
+use Rattle.content_de.specs.Reads.Read.{Refusal, Gives}
+use Rattle.serde_content.specs.RoundTrip.{SpellsSuch, GivesOnly}
+use Rattle.serde_content.specs.Laws.ByName.{named_under}
+use Rattle.serde_content.specs.Laws.Spelled.{FieldsSuch, spelled_call, such_spelled, leaf_such}
+use Rattle.serde_content.specs.Laws.Spelled.{fields_more_such}
+use Rattle.serde_content.specs.Laws.Tagged.{IsTagged, tagged_script}
+use Rattle.content_cbor.specs.Decoded.{as_read, read_flags}
+use Rattle.content_cbor.specs.Form.{text_form, field_forms, FieldsFit}
+use Rattle.content_cbor.specs.Typed.ByName.{NamedKept, form_entries, entries_named}
+use Rattle.content_cbor.specs.Typed.Kept.{FormGives}
+
+-- what stands beside the tag in a form
+abbrev pub beside_form : Fields → FieldsLeft
+beside_form fs = named_under read_flags (map (λ e. (key_tree e.0, e.1)) (entries_of_pairs (field_forms fs)))
+
+-- the form of a variant: a map, its first entry the tag
+abbrev pub tagged_form : (tag variant : List ℕ) → Fields → Tree
+tagged_form tag variant fs = tree.map (tree.pair_then (text_form tag) (text_form variant) (field_forms fs))
+
+-- a value of this variant comes back, where its form is refused as what stands beside the tag is, and gives what that gives
+pub tagged_kept : {P Y : Type 0} {name tag variant : List ℕ} {len : ℕ} {rest : Bool → Script} {own : FieldsLeft → Option Cause} {given : P → FieldsLeft → Type 0} {such : P → Type 0}
+    (refusal : Refusal) (gives : Gives Y) {passes : Y → Type 0} → NamedKept rest own given such
+    → ((fs : Fields) → refusal (as_read (tagged_form tag variant fs)) ≡ own (beside_form fs))
+    → ((fs : Fields) → ((z : P) → given z (beside_form fs) → such z) → (y : Y) → gives (as_read (tagged_form tag variant fs)) y → passes y)
+    → SpellsSuch (FormGives refusal gives passes) (tagged_script name len tag variant rest false)
+tagged_kept {P} {Y} {name} {tag} {variant} {len} {rest} {own} {given} {such} refusal gives {passes} fields refused_so given_so =
+    such_spelled (spelled_call
+    {Q = FieldsSuch (IsTagged tag variant (λ fs. FieldsFit fs → GivesOnly (own (named_under read_flags (form_entries fs))) (λ z. given z (named_under read_flags (form_entries fs))) such))}
+    (λ calls others e. (
+      _,
+      spells_record e.1,
+      subst (λ fs. FormGives refusal gives passes (tree.structure (static_name name) (tree.named fs))) (sym e.2.1) (λ fits.
+          let beside = subst (λ es. GivesOnly (own (named_under read_flags es)) (λ z. given z (named_under read_flags es)) such) (entries_named e.2.0) (e.2.2 fits.1.2) in
+          record { free = refused_so e.2.0 ∙ beside.free; only = given_so e.2.0 beside.only }),
+    ))
+    (fields_more_such {p = λ t. t ≡ tree.text (owned_text variant)}
+    (λ t fs is one. (fs, ap (λ u. tree.field_then (static_name tag) u fs) is, one))
+    (leaf_such (tree.text (owned_text variant)) refl refl) fields.spelled))
