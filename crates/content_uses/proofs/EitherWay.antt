@@ -1,168 +1,193 @@
--- Which two of three trees are merged first doesn't matter, where no key stands twice and there are
--- maps between maps.
-use Rattle.std.proofs.Common.{◌≡◌, Bool, true, false, List, [], ◌∷◌, Option, Some, None, is_some}
-use Rattle.std.proofs.Common.{option_map, refl, ap, sym, subst, ◌∙◌}
-use Rattle.std.specs.Prelude.{IfSome, IsSome, IsSomeAnd, ⊤}
-use Rattle.serde_content.proofs.Names.{tree_equiv}
-use Rattle.serde_content.specs.Names.Words.{same_tree, pairs_in, Tree}
+-- Which two of three trees are merged first doesn't matter, where no key stands twice and there is
+-- one sort between two of it.
+use Rattle.std.proofs.Common.{◌≡◌, Bool, true, false, List, [], ◌∷◌, Option, Some, None}
+use Rattle.std.proofs.Common.{refl, ap, sym, subst, ◌∙◌}
+use Rattle.std.specs.Prelude.{IfSome, IsSome, ⊤}
+use Rattle.serde_content.specs.Names.Words.{same_tree, Tree}
 use Rattle.serde_content.specs.Names.Tree as tree
-use Rattle.serde_content.specs.Names.Tree.{Pairs, no_pairs, pair_then}
-use Rattle.content_uses.specs.Merged.{has_key, put, merged}
-use Rattle.content_uses.specs.MergingLaws.{behind, IsMap, MapsBetween, KeysOnce, PairsOnce}
-use Rattle.content_uses.specs.MergingLaws.{one_pair, EitherWay, TwiceBetweenMatters, TwiceMatters}
-use Rattle.content_uses.proofs.Changes.{none_at, put_other}
-use Rattle.content_uses.proofs.InTurn.{both_at, MapBetween, PairsBetween, map_of, in_turn}
+use Rattle.serde_content.specs.Names.Tree.{Pairs, no_pairs, pair_then, Fields, no_fields, field_then}
+use Rattle.content_uses.specs.Merged.{as_pairs, parts, with_parts, same_sort, merged, merged_pairs}
+use Rattle.content_uses.specs.MergingLaws.{part, behind, SameSortAlong, SortsBetween, PairsOnce}
+use Rattle.content_uses.specs.MergingLaws.{KeysOnce, one_pair, EitherWay, TwiceMatters}
+use Rattle.content_uses.specs.MergingLaws.{TwiceBetweenMatters, NameMatters, OrderMatters}
+use Rattle.content_uses.proofs.InTurn.{InTurn, pairs_in_turn}
 use Rattle.content_uses.proofs.MergingLaws.{at}
+use Rattle.content_uses.proofs.Parts.{merged_one, merged_other, parts_merged, sort_alike, sort_turned}
+use Rattle.content_uses.proofs.Parts.{sort_with, with_twice}
 
--- no two pairs have one key
-abbrev Once : Pairs → Type 0
-Once no_pairs = ⊤
-Once (pair_then k t ps) = (has_key k ps ≡ false) × Once ps
+-- of each value
+abbrev Each : (Tree → Type 0) → Pairs → Type 0
+Each P no_pairs = ⊤
+Each P (pair_then k t ps) = P t × Each P ps
 
-once : (ps : Pairs) → PairsOnce ps → Once ps
-once no_pairs h = tt
-once (pair_then k t ps) h = (h.0, once ps h.2)
-
--- no key stands twice in what a key finds
-once_at : (k t : Tree) (ps : Pairs) → PairsOnce ps → at k ps ≡ Some t → KeysOnce t
-once_at k t no_pairs h e = absurd (cc e)
-once_at k t (pair_then j u ps) h e =
-    by (at k ps) refl (same_tree j k) refl (once_at k t ps h.2)
+-- so of what a key finds
+found : (P : Tree → Type 0) (ps : Pairs) → Each P ps → (k v : Tree) → at k ps ≡ Some v → P v
+found P no_pairs each k v e = absurd (cc e)
+found P (pair_then j t ps) each k v e =
+    by (at k ps) refl (same_tree j k) refl (found P ps each.1 k v)
   where
-    by : (o : Option Tree) → at k ps ≡ o → (b : Bool) → same_tree j k ≡ b
-        → (at k ps ≡ Some t → KeysOnce t) → KeysOnce t
+    by : (o : Option Tree) → at k ps ≡ o → (b : Bool) → same_tree j k ≡ b → (at k ps ≡ Some v → P v)
+        → P v
     by (Some s) m b n rest = rest (m ∙ (rw m at e))
-    by None m true n rest = let same : u ≡ t = cc (rw (m, n) at e) in subst KeysOnce same h.1
+    by None m true n rest = let same : t ≡ v = cc (rw (m, n) at e) in subst P same each.0
     by None m false n rest = absurd (cc (rw (m, n) at e))
 
--- nor after a change
-once_put : (k x : Tree) (f : Tree → Tree) (ps : Pairs) → Once ps → Once (put k x f ps)
-once_put k x f no_pairs h = (refl, tt)
-once_put k x f (pair_then j t ps) h =
-    by (at k ps) refl (same_tree j k) refl (once_put k x f ps h.1)
-  where
-    new : same_tree j k ≡ false → has_key j (put k x f ps) ≡ false
-    new n = ap is_some (put_other k j x f ps (tree_equiv.symm k j ∙ n)) ∙ h.0
-
-    by : (o : Option Tree) → at k ps ≡ o → (b : Bool) → same_tree j k ≡ b → Once (put k x f ps)
-        → Once (put k x f (pair_then j t ps))
-    by (Some s) m true n rest = absurd (cc (m, none_at j k ps h.0 n))
-    by (Some s) m false n rest = rw m (new n, rest)
-    by None m true n rest = rw (m, n) h
-    by None m false n rest = rw (m, n) (new n, rest)
-
--- the first pair's key finds its value
-found_first : (k u : Tree) (us : Pairs) → has_key k us ≡ false → at k (pair_then k u us) ≡ Some u
-found_first k u us e =
-    let none : at k us ≡ None = none_at k k us e (tree_equiv.refl k) in
-    rw (none, tree_equiv.refl k) refl
-
--- what is found among pairs of other keys has another key
-other_key : (k j v : Tree) (us : Pairs) → has_key k us ≡ false → at j us ≡ Some v
-    → same_tree k j ≡ false
-other_key k j v us e d = by (same_tree k j) refl
-  where
-    by : (b : Bool) → same_tree k j ≡ b → same_tree k j ≡ false
-    by true n = absurd (cc (d, none_at k j us e n))
-    by false n = n
-
--- what the key finds in the middle is put over what it finds in the base
-both_once : (k : Tree) (P : Tree → Tree → Type 0) (ts ss : Pairs) → Once ts
-    → ((t s : Tree) → at k ts ≡ Some t → at k ss ≡ Some s → P t s)
-    → IfSome (both_at k ts ss) (λ b. P b.0 b.1)
-both_once k P no_pairs ss h each = tt
-both_once k P (pair_then j t ts) ss h each =
-    by (at k ts) refl (same_tree j k) refl (both_once k P ts (put j t (merged t) ss) h.1)
-  where
-    here : at k (pair_then j t ts) ≡ Some t → (o : Option Tree) → at k ss ≡ o
-        → IfSome {T = Tree × Tree} (option_map (λ s. (t, s)) o) (λ b. P b.0 b.1)
-    here e (Some s) f = each t s e f
-    here e None f = tt
-
-    by : (o : Option Tree) → at k ts ≡ o → (b : Bool) → same_tree j k ≡ b
-        → (((u s : Tree) → at k ts ≡ Some u → at k (put j t (merged t) ss) ≡ Some s → P u s)
-        → IfSome (both_at k ts (put j t (merged t) ss)) (λ b. P b.0 b.1))
-        → IfSome (both_at k (pair_then j t ts) ss) (λ b. P b.0 b.1)
-    by (Some u) m true n rest = absurd (cc (m, none_at j k ts h.0 n))
-    by (Some u) m false n rest =
-        rw m (rest (λ v s e f. each v s (rw e refl) (sym (put_other j k t (merged t) ss n) ∙ f)))
-    by None m true n rest = rw (m, n) (here (rw (m, n) refl) (at k ss) refl)
-    by None m false n rest =
-        rw (m, n)
-        (rest (λ v s e f. each v s (rw e refl) (sym (put_other j k t (merged t) ss n) ∙ f)))
-
--- a map put over the others, from what holds of pairs
-maps_between : (us : Pairs) (t s : Tree) (o : Option Pairs) → pairs_in s ≡ o
-    → (p : Option Pairs) → pairs_in t ≡ p → KeysOnce t → MapsBetween (tree.map us) t s
-    → ((ts ss : Pairs) → Once ts
-    → ((k u v w : Tree) → at k us ≡ Some u → at k ts ≡ Some v → at k ss ≡ Some w
-    → KeysOnce v × MapsBetween u v w)
-    → PairsBetween us ts ss)
-    → MapBetween (tree.map us) t s
-maps_between us t s None e p f keys h rest = rw e tt
-maps_between us t s (Some ss) e None f keys h rest =
-    let is : IsSome (pairs_in t) = h [] refl (rw e refl) in absurd (cc (rw f at is))
-maps_between us t s (Some ss) e (Some ts) f keys h rest =
-    let each : PairsOnce ts = subst KeysOnce (map_of t ts f) keys in
-    rw (e, f) (rest ts ss (once ts each) (λ k u v w x y z. (
-      once_at k v ts each y,
-      λ path above below. rw (f, y) at (h (k ∷ path) (rw x above) (rw (e, z) below)),
-    )))
+-- what holds of a tree where it holds of what each key finds in it holds of all
+abbrev Step : (Tree → Type 0) → Type 0
+Step P = (t : Tree) → ((k v : Tree) → part k t ≡ Some v → P v) → P t
 
 mutual
-  between : (u t s : Tree) → KeysOnce u → KeysOnce t → MapsBetween u t s → MapBetween u t s
-  between (tree.map us) t s a b h =
-      maps_between us t s (pairs_in s) refl (pairs_in t) refl b h (pairs_between us a)
-  between tree.unit t s a b h = tt
-  between (tree.boolean x) t s a b h = tt
-  between (tree.number x) t s a b h = tt
-  between (tree.character x) t s a b h = tt
-  between (tree.text x) t s a b h = tt
-  between (tree.octets x) t s a b h = tt
-  between (tree.seq ts) t s a b h = tt
-  between tree.absent t s a b h = tt
-  between (tree.present u) t s a b h = tt
-  between (tree.structure n d) t s a b h = tt
-  between (tree.enumeration n i v d) t s a b h = tt
-  between (tree.tuple ts) t s a b h = tt
+  by_parts : (P : Tree → Type 0) → Step P → (t : Tree) → P t
+  by_parts P step (tree.map ps) = step (tree.map ps) (found P ps (each_pair P step ps))
+  by_parts P step (tree.structure n (tree.named fs)) =
+      step (tree.structure n (tree.named fs)) (found P (as_pairs fs) (each_field P step fs))
+  by_parts P step (tree.structure n tree.no_data) = step _ (λ k v e. absurd (cc e))
+  by_parts P step (tree.structure n (tree.one t)) = step _ (λ k v e. absurd (cc e))
+  by_parts P step (tree.structure n (tree.many ts)) = step _ (λ k v e. absurd (cc e))
+  by_parts P step tree.unit = step _ (λ k v e. absurd (cc e))
+  by_parts P step (tree.boolean b) = step _ (λ k v e. absurd (cc e))
+  by_parts P step (tree.number n) = step _ (λ k v e. absurd (cc e))
+  by_parts P step (tree.character c) = step _ (λ k v e. absurd (cc e))
+  by_parts P step (tree.text x) = step _ (λ k v e. absurd (cc e))
+  by_parts P step (tree.octets x) = step _ (λ k v e. absurd (cc e))
+  by_parts P step (tree.seq ts) = step _ (λ k v e. absurd (cc e))
+  by_parts P step tree.absent = step _ (λ k v e. absurd (cc e))
+  by_parts P step (tree.present t) = step _ (λ k v e. absurd (cc e))
+  by_parts P step (tree.enumeration n i v d) = step _ (λ k v e. absurd (cc e))
+  by_parts P step (tree.tuple ts) = step _ (λ k v e. absurd (cc e))
 
-  pairs_between : (us : Pairs) → PairsOnce us → (ts ss : Pairs) → Once ts
-      → ((k u t s : Tree) → at k us ≡ Some u → at k ts ≡ Some t → at k ss ≡ Some s
-      → KeysOnce t × MapsBetween u t s)
-      → PairsBetween us ts ss
-  pairs_between no_pairs a ts ss b each = tt
-  pairs_between (pair_then k u us) a ts ss b each = (
-    both_once k (MapBetween u) ts ss b (λ t s e f.
-        let both = each k u t s (found_first k u us a.0) e f in between u t s a.1 both.0 both.1),
-    pairs_between us a.2 (put k u (merged u) ts) ss (once_put k u (merged u) ts b) (λ j v t s d e f.
-        let stays = put_other k j u (merged u) ts (other_key k j v us a.0 d) in
-        each j v t s (rw d refl) (sym stays ∙ e) f),
-  )
+  each_pair : (P : Tree → Type 0) → Step P → (ps : Pairs) → Each P ps
+  each_pair P step no_pairs = tt
+  each_pair P step (pair_then k t ps) = (by_parts P step t, each_pair P step ps)
+
+  each_field : (P : Tree → Type 0) → Step P → (fs : Fields) → Each P (as_pairs fs)
+  each_field P step no_fields = tt
+  each_field P step (field_then k t fs) = (by_parts P step t, each_field P step fs)
+
+-- the premises for what a key finds
+once_part : (k t v : Tree) → KeysOnce t → part k t ≡ Some v → KeysOnce v
+once_part k t v once e = λ path. rw e at (once (k ∷ path))
+
+between_part : (k u t s v w x : Tree) → SortsBetween u t s → same_sort u s ≡ true
+    → part k u ≡ Some v → part k t ≡ Some w → part k s ≡ Some x → SortsBetween v w x
+between_part k u t s v w x between outer above middle below = λ path along is.
+    let both : SameSortAlong (k ∷ path) u s = (outer, rw (above, below) along) in
+    let there : IsSome (behind (k ∷ path) t) = rw middle is in
+    let all : SameSortAlong (k ∷ path) u t = between (k ∷ path) both there in
+    rw (above, middle) at all.1
+
+-- the sort that is put over others stays
+merged_sort : (u t s : Tree) → same_sort u t ≡ true → same_sort (merged u t) s ≡ same_sort t s
+merged_sort u t s e =
+    ap (λ v. same_sort v s) (merged_one u t e) ∙ sort_with (merged_pairs (parts u) (parts t)) t s
+
+-- where each has one sort
+one_sort : (u t s : Tree) → same_sort u t ≡ true → same_sort t s ≡ true
+    → merged_pairs (merged_pairs (parts u) (parts t)) (parts s)
+    ≡ merged_pairs (parts u) (merged_pairs (parts t) (parts s))
+    → InTurn u t s
+one_sort u t s e f pairs =
+    let first : Pairs = merged_pairs (parts u) (parts t) in
+    let last : Pairs = merged_pairs (parts t) (parts s) in
+    let left : same_sort (with_parts first t) s ≡ true = sort_with first t s ∙ f in
+    let right : same_sort u (with_parts last s) ≡ true
+    = sort_alike u t (with_parts last s) e ∙ sort_turned t (with_parts last s)
+    ∙ sort_with last s t ∙ sort_turned s t ∙ f in
+    ap (λ v. merged v s) (merged_one u t e) ∙ merged_one (with_parts first t) s left
+    ∙ ap (λ ps. with_parts (merged_pairs ps (parts s)) s) (parts_merged u t e)
+    ∙ ap (λ ps. with_parts ps s) pairs
+    ∙ sym (ap (merged u) (merged_one t s f) ∙ merged_one u (with_parts last s) right
+    ∙ ap (λ ps. with_parts (merged_pairs (parts u) ps) (with_parts last s)) (parts_merged t s f)
+    ∙ with_twice (merged_pairs (parts u) last) last s)
+
+-- which two are merged first doesn't matter, under the premises
+abbrev Either : Tree → Type 0
+Either u = (t s : Tree) → KeysOnce u → KeysOnce t → SortsBetween u t s → InTurn u t s
+
+step : Step Either
+step u each t s a b between = by (same_sort u t) refl (same_sort t s) refl (same_sort u s) refl
+  where
+    by : (c : Bool) → same_sort u t ≡ c → (d : Bool) → same_sort t s ≡ d → (o : Bool)
+        → same_sort u s ≡ o → InTurn u t s
+    by true e true f o g =
+        let outer : same_sort u s ≡ true = sort_alike u t s e ∙ f in
+        one_sort u t s e f (pairs_in_turn (parts u) (a []) (parts t) (parts s) (b [])
+        (λ k v w x above middle below. each k v above w x (once_part k u v a above)
+        (once_part k t w b middle) (between_part k u t s v w x between outer above middle below)))
+    by true e false f o g =
+        merged_other (merged u t) s (merged_sort u t s e ∙ f)
+        ∙ ap (merged u) (sym (merged_other t s f))
+    by false e d f true g = absurd (cc (e, between [] g refl))
+    by false e true f false g =
+        let apart : same_sort u (merged t s) ≡ false
+        = sort_turned u (merged t s) ∙ merged_sort t s u f ∙ sort_turned s u ∙ g in
+        ap (λ v. merged v s) (merged_other u t e) ∙ merged_other u s g
+        ∙ sym (merged_other u (merged t s) apart)
+    by false e false f false g =
+        ap (λ v. merged v s) (merged_other u t e) ∙ merged_other u s g
+        ∙ sym (ap (merged u) (merged_other t s f) ∙ merged_other u t e)
 
 pub either_way : EitherWay
-either_way u t s a b h = in_turn u t s (between u t s a b h)
+either_way u t s a b between = by_parts Either step u t s a b between
 
--- in the middle of the example there are only maps
-inside : (path : List Tree) → IfSome (behind path (tree.map no_pairs)) IsMap
-inside [] = refl
+-- in the middle of the example each key stands once
+inside : KeysOnce (tree.map no_pairs)
+inside [] = tt
 inside (k ∷ path) = tt
 
-nested : (path : List Tree) → IfSome (behind path (one_pair tree.unit (tree.map no_pairs))) IsMap
-nested [] = refl
+nested : KeysOnce (one_pair tree.unit (tree.map no_pairs))
+nested [] = (refl, tt)
 nested (k ∷ path) = by (same_tree tree.unit k) refl
   where
     by : (b : Bool) → same_tree tree.unit k ≡ b
-        → IfSome (behind (k ∷ path) (one_pair tree.unit (tree.map no_pairs))) IsMap
+        → IfSome (behind (k ∷ path) (one_pair tree.unit (tree.map no_pairs))) (λ u. PairsOnce (parts u))
     by true e = rw e (inside path)
     by false e = rw e tt
 
-pub twice_matters : TwiceMatters
-twice_matters = ((refl, tt, tt), λ path above below. nested path, λ e. absurd (cc e))
+-- an empty map has nothing behind a key
+only_root : (path : List Tree) (t : Tree) → SameSortAlong path (tree.map no_pairs) t
+    → SameSortAlong path (tree.map no_pairs) (tree.map no_pairs)
+only_root [] t along = refl
+only_root (k ∷ path) t along = absurd along.1
 
--- an empty map has a map behind no key
-only_root : (path : List Tree) (t : Tree) → IsSome (pairs_in t) → IsSomeAnd (behind path (tree.map no_pairs)) IsMap → IfSome (behind path t) IsMap
-only_root [] t is below = is
-only_root (k ∷ path) t is below = absurd below
+-- and a map is between both
+map_between : (path : List Tree)
+    → SameSortAlong path (tree.map (pair_then tree.unit tree.unit
+    (pair_then tree.unit (tree.map no_pairs) no_pairs)))
+    (one_pair tree.unit (one_pair tree.unit tree.unit))
+    → SameSortAlong path (tree.map (pair_then tree.unit tree.unit
+    (pair_then tree.unit (tree.map no_pairs) no_pairs)))
+    (one_pair tree.unit (tree.map no_pairs))
+map_between [] along = refl
+map_between (k ∷ path) along = by (same_tree tree.unit k) refl
+  where
+    by : (b : Bool) → same_tree tree.unit k ≡ b
+        → SameSortAlong (k ∷ path) (tree.map (pair_then tree.unit tree.unit
+        (pair_then tree.unit (tree.map no_pairs) no_pairs)))
+        (one_pair tree.unit (tree.map no_pairs))
+    by true e = (refl, rw e (only_root path _ (rw e at along.1)))
+    by false e = absurd (rw e at along.1)
+
+pub twice_matters : TwiceMatters
+twice_matters = (nested, λ path along there. map_between path along, λ e. absurd (cc e))
+
+none_between : (path : List Tree) (t : Tree) → same_sort (one_pair tree.unit (tree.map no_pairs)) t ≡ true
+    → SameSortAlong path (one_pair tree.unit (tree.map no_pairs)) (tree.map no_pairs)
+    → SameSortAlong path (one_pair tree.unit (tree.map no_pairs)) t
+none_between [] t same along = same
+none_between (k ∷ path) t same along = by (same_tree tree.unit k) refl
+  where
+    by : (b : Bool) → same_tree tree.unit k ≡ b
+        → SameSortAlong (k ∷ path) (one_pair tree.unit (tree.map no_pairs)) t
+    by true e = absurd (rw e at along.1)
+    by false e = absurd (rw e at along.1)
 
 pub twice_between_matters : TwiceBetweenMatters
-twice_between_matters = ((refl, tt, tt), λ path above below. only_root path _ refl below, λ e. absurd (cc e))
+twice_between_matters =
+    (nested, λ path along there. none_between path _ refl along, λ e. absurd (cc e))
+
+pub name_matters : NameMatters
+name_matters = λ e. absurd (cc e)
+
+pub order_matters : OrderMatters
+order_matters = λ e. absurd (cc e)

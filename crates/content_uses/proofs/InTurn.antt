@@ -1,14 +1,16 @@
--- Three trees merged, keys that stand twice too: which two first doesn't matter where each value of
--- the first in turn meets a map between two maps.
-use Rattle.std.proofs.Common.{◌≡◌, Bool, true, false, Option, Some, None, option_map}
+-- Three lists of pairs merged, of which two have each key once: which two first doesn't matter where
+-- it doesn't for the values behind one key.
+use Rattle.std.proofs.Common.{◌≡◌, Bool, true, false, Option, Some, None, is_some, option_map}
 use Rattle.std.proofs.Common.{refl, ap, sym, ◌∙◌, if◌then◌else◌}
-use Rattle.std.specs.Prelude.{IfSome, IsSomeAnd, ⊤}
-use Rattle.serde_content.specs.Names.Words.{same_tree, pairs_in, Tree}
-use Rattle.serde_content.specs.Names.Tree as tree
+use Rattle.std.specs.Prelude.{IfSome}
+use Rattle.serde_content.proofs.Names.{tree_equiv}
+use Rattle.serde_content.specs.Names.Words.{same_tree, Tree}
 use Rattle.serde_content.specs.Names.Tree.{Pairs, no_pairs, pair_then}
-use Rattle.content_uses.specs.Merged.{is_last, put, merged, merged_pairs}
-use Rattle.content_uses.proofs.Changes.{put_there, put_twice, put_agree, merged_swap}
-use Rattle.content_uses.proofs.MergingLaws.{over_no_map_wins, at, at_alike}
+use Rattle.content_uses.specs.Merged.{has_key, is_last, put, merged, merged_pairs}
+use Rattle.content_uses.specs.MergingLaws.{PairsOnce}
+use Rattle.content_uses.proofs.Changes.{none_at, put_other, put_there, put_twice, put_agree}
+use Rattle.content_uses.proofs.Changes.{merged_swap}
+use Rattle.content_uses.proofs.MergingLaws.{at, at_alike}
 
 -- the last value behind the key in the middle, and the one it is put over in the base
 abbrev pub both_at : (key : Tree) → (middle base : Pairs) → Option (Tree × Tree)
@@ -16,20 +18,6 @@ both_at k no_pairs ss = None
 both_at k (pair_then j t ts) ss =
     if is_last k j ts then option_map (λ s. (t, s)) (at k ss)
     else both_at k ts (put j t (merged t) ss)
-
-abbrev mutual
-  -- where the outer two are maps, the middle one is a map
-  pub MapBetween : (over middle base : Tree) → Type 0
-  MapBetween (tree.map us) t s =
-      IfSome (pairs_in s) (λ ss. IsSomeAnd (pairs_in t) (λ ts. PairsBetween us ts ss))
-  MapBetween u t s = ⊤
-
-  -- so for the value of each pair of the first in turn
-  pub PairsBetween : (over middle base : Pairs) → Type 0
-  PairsBetween no_pairs ts ss = ⊤
-  PairsBetween (pair_then k u us) ts ss =
-      IfSome (both_at k ts ss) (λ b. MapBetween u b.0 b.1)
-      × PairsBetween us (put k u (merged u) ts) ss
 
 -- one pair of the first, before the middle is put over the base or after it
 merged_put : (k u : Tree) (P : Tree → Tree → Type 0) (ts ss : Pairs)
@@ -62,57 +50,73 @@ merged_put k u P (pair_then j t ts) ss each both =
         ∙ merged_swap k u (merged u) ts (put j t (merged t) ss) (rw m refl)
         (put_there j k t (merged t) ss n))
 
--- what has pairs is a map of them
-pub map_of : (t : Tree) (ps : Pairs) → pairs_in t ≡ Some ps → t ≡ tree.map ps
-map_of (tree.map qs) ps e = ap tree.map (cc e)
-map_of tree.unit ps e = absurd (cc e)
-map_of (tree.boolean b) ps e = absurd (cc e)
-map_of (tree.number n) ps e = absurd (cc e)
-map_of (tree.character c) ps e = absurd (cc e)
-map_of (tree.text s) ps e = absurd (cc e)
-map_of (tree.octets s) ps e = absurd (cc e)
-map_of (tree.seq ts) ps e = absurd (cc e)
-map_of tree.absent ps e = absurd (cc e)
-map_of (tree.present u) ps e = absurd (cc e)
-map_of (tree.structure n d) ps e = absurd (cc e)
-map_of (tree.enumeration n i v d) ps e = absurd (cc e)
-map_of (tree.tuple ts) ps e = absurd (cc e)
+-- a change leaves each key once
+once_put : (k x : Tree) (f : Tree → Tree) (ps : Pairs) → PairsOnce ps → PairsOnce (put k x f ps)
+once_put k x f no_pairs h = (refl, tt)
+once_put k x f (pair_then j t ps) h =
+    by (at k ps) refl (same_tree j k) refl (once_put k x f ps h.1)
+  where
+    new : same_tree j k ≡ false → has_key j (put k x f ps) ≡ false
+    new n = ap is_some (put_other k j x f ps (tree_equiv.symm k j ∙ n)) ∙ h.0
 
--- a map put over the others, from what holds of pairs
-maps_in_turn : (us : Pairs) (t s : Tree) (o : Option Pairs) → pairs_in s ≡ o
-    → (p : Option Pairs) → pairs_in t ≡ p
-    → ((ts ss : Pairs) → PairsBetween us ts ss
-    → merged_pairs (merged_pairs us ts) ss ≡ merged_pairs us (merged_pairs ts ss))
-    → MapBetween (tree.map us) t s
-    → merged (merged (tree.map us) t) s ≡ merged (tree.map us) (merged t s)
-maps_in_turn us t s None e p f rest h =
-    over_no_map_wins (merged (tree.map us) t) s e
-    ∙ ap (merged (tree.map us)) (sym (over_no_map_wins t s e))
-maps_in_turn us t s (Some ss) e None f rest h = absurd (rw (e, f) at h)
-maps_in_turn us t s (Some ss) e (Some ts) f rest h =
-    rw (map_of t ts f, map_of s ss e) (ap tree.map (rest ts ss (rw (e, f) at h)))
+    by : (o : Option Tree) → at k ps ≡ o → (b : Bool) → same_tree j k ≡ b → PairsOnce (put k x f ps)
+        → PairsOnce (put k x f (pair_then j t ps))
+    by (Some s) m true n rest = absurd (cc (m, none_at j k ps h.0 n))
+    by (Some s) m false n rest = rw m (new n, rest)
+    by None m true n rest = rw (m, n) h
+    by None m false n rest = rw (m, n) (new n, rest)
 
-mutual
-  pub in_turn : (u t s : Tree) → MapBetween u t s
-      → merged (merged u t) s ≡ merged u (merged t s)
-  in_turn (tree.map us) t s h =
-      maps_in_turn us t s (pairs_in s) refl (pairs_in t) refl (pairs_in_turn us) h
-  in_turn tree.unit t s h = refl
-  in_turn (tree.boolean b) t s h = refl
-  in_turn (tree.number n) t s h = refl
-  in_turn (tree.character c) t s h = refl
-  in_turn (tree.text x) t s h = refl
-  in_turn (tree.octets x) t s h = refl
-  in_turn (tree.seq ts) t s h = refl
-  in_turn tree.absent t s h = refl
-  in_turn (tree.present u) t s h = refl
-  in_turn (tree.structure n d) t s h = refl
-  in_turn (tree.enumeration n i v d) t s h = refl
-  in_turn (tree.tuple ts) t s h = refl
+-- the first pair's key finds its value
+found_first : (k u : Tree) (us : Pairs) → has_key k us ≡ false → at k (pair_then k u us) ≡ Some u
+found_first k u us e =
+    let none : at k us ≡ None = none_at k k us e (tree_equiv.refl k) in
+    rw (none, tree_equiv.refl k) refl
 
-  pairs_in_turn : (us ts ss : Pairs) → PairsBetween us ts ss
-      → merged_pairs (merged_pairs us ts) ss ≡ merged_pairs us (merged_pairs ts ss)
-  pairs_in_turn no_pairs ts ss h = refl
-  pairs_in_turn (pair_then k u us) ts ss h =
-      pairs_in_turn us (put k u (merged u) ts) ss h.1
-      ∙ ap (merged_pairs us) (merged_put k u (MapBetween u) ts ss (in_turn u) h.0)
+-- what is found among pairs of other keys has another key
+other_key : (k j v : Tree) (us : Pairs) → has_key k us ≡ false → at j us ≡ Some v
+    → same_tree k j ≡ false
+other_key k j v us e d = by (same_tree k j) refl
+  where
+    by : (b : Bool) → same_tree k j ≡ b → same_tree k j ≡ false
+    by true n = absurd (cc (d, none_at k j us e n))
+    by false n = n
+
+-- what the key finds in the middle is put over what it finds in the base
+both_once : (k : Tree) (P : Tree → Tree → Type 0) (ts ss : Pairs) → PairsOnce ts
+    → ((t s : Tree) → at k ts ≡ Some t → at k ss ≡ Some s → P t s)
+    → IfSome (both_at k ts ss) (λ b. P b.0 b.1)
+both_once k P no_pairs ss h each = tt
+both_once k P (pair_then j t ts) ss h each =
+    by (at k ts) refl (same_tree j k) refl (both_once k P ts (put j t (merged t) ss) h.1)
+  where
+    here : at k (pair_then j t ts) ≡ Some t → (o : Option Tree) → at k ss ≡ o
+        → IfSome {T = Tree × Tree} (option_map (λ s. (t, s)) o) (λ b. P b.0 b.1)
+    here e (Some s) f = each t s e f
+    here e None f = tt
+
+    by : (o : Option Tree) → at k ts ≡ o → (b : Bool) → same_tree j k ≡ b
+        → (((u s : Tree) → at k ts ≡ Some u → at k (put j t (merged t) ss) ≡ Some s → P u s)
+        → IfSome (both_at k ts (put j t (merged t) ss)) (λ b. P b.0 b.1))
+        → IfSome (both_at k (pair_then j t ts) ss) (λ b. P b.0 b.1)
+    by (Some u) m true n rest = absurd (cc (m, none_at j k ts h.0 n))
+    by (Some u) m false n rest =
+        rw m (rest (λ v s e f. each v s (rw e refl) (sym (put_other j k t (merged t) ss n) ∙ f)))
+    by None m true n rest = rw (m, n) (here (rw (m, n) refl) (at k ss) refl)
+    by None m false n rest =
+        rw (m, n)
+        (rest (λ v s e f. each v s (rw e refl) (sym (put_other j k t (merged t) ss n) ∙ f)))
+
+-- it doesn't matter which two of the three are merged first
+abbrev pub InTurn : (over middle base : Tree) → Type 0
+InTurn u t s = merged (merged u t) s ≡ merged u (merged t s)
+
+pub pairs_in_turn : (us : Pairs) → PairsOnce us → (ts ss : Pairs) → PairsOnce ts
+    → ((k u t s : Tree) → at k us ≡ Some u → at k ts ≡ Some t → at k ss ≡ Some s → InTurn u t s)
+    → merged_pairs (merged_pairs us ts) ss ≡ merged_pairs us (merged_pairs ts ss)
+pairs_in_turn no_pairs a ts ss b each = refl
+pairs_in_turn (pair_then k u us) a ts ss b each =
+    pairs_in_turn us a.1 (put k u (merged u) ts) ss (once_put k u (merged u) ts b) (λ j v t s d e f.
+    let stays = put_other k j u (merged u) ts (other_key k j v us a.0 d) in
+    each j v t s (rw d refl) (sym stays ∙ e) f)
+    ∙ ap (merged_pairs us) (merged_put k u (InTurn u) ts ss (λ t s h. h)
+    (both_once k (InTurn u) ts ss b (λ t s e f. each k u t s (found_first k u us a.0) e f)))

@@ -2,6 +2,8 @@ mod Changes
 mod EitherWay
 mod InTurn
 mod MergingLaws
+mod Parts
 mod Placing
 mod Putting
+mod Structs
 mod Loaded

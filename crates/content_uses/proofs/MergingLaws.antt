@@ -1,11 +1,16 @@
 -- The laws of merging.
 use Rattle.std.proofs.Common.{◌≡◌, Bool, true, false, Option, Some, None, refl, ap, sym, ◌∙◌, if◌then◌else◌}
+use Rattle.std.specs.Cmp.Lexicographic.{texts_ties}
 use Rattle.serde_content.proofs.Names.{tree_equiv}
-use Rattle.serde_content.specs.Names.Words.{same_tree, last_value, or_else, pairs_in, Tree}
+use Rattle.serde_content.specs.Names.Words.{same_tree, last_value, last_field, or_else, lookup}
+use Rattle.serde_content.specs.Names.Words.{Tree, Text}
 use Rattle.serde_content.specs.Names.Tree as tree
-use Rattle.serde_content.specs.Names.Tree.{Pairs, no_pairs, pair_then}
-use Rattle.content_uses.specs.Merged.{put, merged}
-use Rattle.content_uses.specs.MergingLaws.{put_over, found_after, NoMapWins, OverNoMapWins, KeysFind}
+use Rattle.serde_content.specs.Names.Tree.{Pairs, no_pairs, pair_then, Fields, no_fields, field_then}
+use Rattle.content_uses.specs.Merged.{put, as_pairs, parts, with_parts, same_sort, merged, merged_pairs}
+use Rattle.content_uses.specs.MergingLaws.{put_over, found_after, EmptyChangesNothing, OtherSortWins}
+use Rattle.content_uses.specs.MergingLaws.{KeysFind}
+use Rattle.content_uses.proofs.Parts.{by_sort, other_right, merged_one, merged_other, parts_merged}
+use Rattle.content_uses.proofs.Parts.{sort_turned, sort_with, with_own}
 
 -- the last value behind a key, or none
 abbrev pub at : Tree → Pairs → Option Tree
@@ -51,51 +56,64 @@ at_put : (j q u : Tree) (ps : Pairs) → at q (put j u (merged u) ps) ≡ (if sa
 at_put j q u no_pairs = refl
 at_put j q u (pair_then i t ps) = here j q u i t ps (at j ps) refl (same_tree i j) refl (same_tree j q) refl (at_put j q u ps)
 
+-- what a key finds in pairs that are put over others
+at_merged : (k : Tree) (qs ps : Pairs) → at k (merged_pairs qs ps) ≡ found_after k qs (at k ps)
+at_merged k no_pairs ps = refl
+at_merged k (pair_then j u qs) ps =
+    at_merged k qs (put j u (merged u) ps) ∙ ap (found_after k qs) (at_put j k u ps)
+
+-- a text finds a field of that name
+text_finds : (x : Text) (fs : Fields) → last_field x.content fs ≡ at (tree.text x) (as_pairs fs)
+text_finds x no_fields = refl
+text_finds x (field_then k t fs) =
+    ap (λ b. or_else (last_field x.content fs) (if b then Some t else None))
+    (texts_ties k.content x.content)
+    ∙ ap (λ o. or_else o (if same_tree (tree.text k) (tree.text x) then Some t else None))
+    (text_finds x fs)
+
+-- another key finds none
+none_finds : (k : Tree) → ((x : Text) → same_tree (tree.text x) k ≡ false) → (fs : Fields)
+    → None ≡ at k (as_pairs fs)
+none_finds k other no_fields = refl
+none_finds k other (field_then x t fs) =
+    ap (λ o. or_else o None) (none_finds k other fs)
+    ∙ ap (λ b. or_else (at k (as_pairs fs)) (if b then Some t else None)) (sym (other x))
+
+-- what a key finds in a struct
+field_finds : (k : Tree) (n : Text) (fs : Fields)
+    → lookup k (tree.structure n (tree.named fs)) ≡ at k (as_pairs fs)
+field_finds (tree.text x) n fs = text_finds x fs
+field_finds (tree.map qs) n fs = none_finds _ (λ x. refl) fs
+field_finds tree.unit n fs = none_finds _ (λ x. refl) fs
+field_finds (tree.boolean b) n fs = none_finds _ (λ x. refl) fs
+field_finds (tree.number m) n fs = none_finds _ (λ x. refl) fs
+field_finds (tree.character c) n fs = none_finds _ (λ x. refl) fs
+field_finds (tree.octets x) n fs = none_finds _ (λ x. refl) fs
+field_finds (tree.seq ts) n fs = none_finds _ (λ x. refl) fs
+field_finds tree.absent n fs = none_finds _ (λ x. refl) fs
+field_finds (tree.present t) n fs = none_finds _ (λ x. refl) fs
+field_finds (tree.structure m d) n fs = none_finds _ (λ x. refl) fs
+field_finds (tree.enumeration m i v d) n fs = none_finds _ (λ x. refl) fs
+field_finds (tree.tuple ts) n fs = none_finds _ (λ x. refl) fs
+
+-- what a key finds stands among the parts
+part_finds : (k u t : Tree) → same_sort u t ≡ true → lookup k t ≡ at k (parts t)
+part_finds k u t =
+    by_sort (λ s. same_sort u s ≡ true → lookup k s ≡ at k (parts s)) (λ ps e. refl)
+    (λ n fs e. field_finds k n fs) (λ s o e. absurd (cc (e, other_right u s o))) t
+
 pub keys_find : KeysFind
-keys_find k no_pairs ps = refl
-keys_find k (pair_then j u qs) ps = keys_find k qs (put j u (merged u) ps) ∙ ap (found_after k qs) (at_put j k u ps)
+keys_find k u t e =
+    let ps : Pairs = merged_pairs (parts u) (parts t) in
+    let still : same_sort u (with_parts ps t) ≡ true
+    = sort_turned u (with_parts ps t) ∙ sort_with ps t u ∙ sort_turned t u ∙ e in
+    ap (lookup k) (merged_one u t e) ∙ part_finds k u (with_parts ps t) still
+    ∙ ap (at k) (parts_merged u t e) ∙ at_merged k (parts u) (parts t)
+    ∙ ap (found_after k (parts u)) (sym (part_finds k u t e))
 
-pub no_map_wins : NoMapWins
-no_map_wins (tree.map qs) t e = absurd (cc e)
-no_map_wins tree.unit t e = refl
-no_map_wins (tree.boolean b) t e = refl
-no_map_wins (tree.number n) t e = refl
-no_map_wins (tree.character c) t e = refl
-no_map_wins (tree.text s) t e = refl
-no_map_wins (tree.octets s) t e = refl
-no_map_wins (tree.seq ts) t e = refl
-no_map_wins tree.absent t e = refl
-no_map_wins (tree.present u) t e = refl
-no_map_wins (tree.structure n d) t e = refl
-no_map_wins (tree.enumeration n i v d) t e = refl
-no_map_wins (tree.tuple ts) t e = refl
+pub empty_changes_nothing : EmptyChangesNothing
+empty_changes_nothing u t e none =
+    merged_one u t e ∙ ap (λ ps. with_parts (merged_pairs ps (parts t)) t) none ∙ with_own t
 
-over_no_map : (qs : Pairs) (t : Tree) → pairs_in t ≡ None → merged (tree.map qs) t ≡ tree.map qs
-over_no_map qs (tree.map ps) e = absurd (cc e)
-over_no_map qs tree.unit e = refl
-over_no_map qs (tree.boolean b) e = refl
-over_no_map qs (tree.number n) e = refl
-over_no_map qs (tree.character c) e = refl
-over_no_map qs (tree.text s) e = refl
-over_no_map qs (tree.octets s) e = refl
-over_no_map qs (tree.seq ts) e = refl
-over_no_map qs tree.absent e = refl
-over_no_map qs (tree.present u) e = refl
-over_no_map qs (tree.structure n d) e = refl
-over_no_map qs (tree.enumeration n i v d) e = refl
-over_no_map qs (tree.tuple ts) e = refl
-
-pub over_no_map_wins : OverNoMapWins
-over_no_map_wins (tree.map qs) t e = over_no_map qs t e
-over_no_map_wins tree.unit t e = refl
-over_no_map_wins (tree.boolean b) t e = refl
-over_no_map_wins (tree.number n) t e = refl
-over_no_map_wins (tree.character c) t e = refl
-over_no_map_wins (tree.text s) t e = refl
-over_no_map_wins (tree.octets s) t e = refl
-over_no_map_wins (tree.seq ts) t e = refl
-over_no_map_wins tree.absent t e = refl
-over_no_map_wins (tree.present u) t e = refl
-over_no_map_wins (tree.structure n d) t e = refl
-over_no_map_wins (tree.enumeration n i v d) t e = refl
-over_no_map_wins (tree.tuple ts) t e = refl
+pub other_sort_wins : OtherSortWins
+other_sort_wins = merged_other

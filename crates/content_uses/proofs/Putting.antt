@@ -3,10 +3,10 @@ use Rattle.std.proofs.Common.{◌≡◌, ℕ, ◌+◌, zero, suc, Bool, true, fa
 use Rattle.std.proofs.Common.{refl, ap, map, sym, ◌∙◌, ◌<◌, ◌≤◌, cond, arith, get_or, set, if◌then◌else◌}
 use Rattle.std.proofs.lemmas.List.{take_more, length-take-le}
 use Rattle.serde_content.specs.Names.Words.{same_tree, last_value, or_else, Tree, tree_of}
-use Rattle.serde_content.specs.Names.Words.{pairs_view, NamedValue}
+use Rattle.serde_content.specs.Names.Words.{NamedValue}
 use Rattle.serde_content.specs.Names.Tree.{Pairs, no_pairs, pair_then}
 use Rattle.content_uses.specs.Merged.{has_key, is_last, put, merged, merged_pairs}
-use Rattle.content_uses.specs.Places.{place, places, value_at, with_value}
+use Rattle.content_uses.specs.Places.{place, places, value_at, with_value, keyed}
 
 -- where the last pair of this key stands
 abbrev pub known : Tree → Pairs → Option ℕ
@@ -75,33 +75,33 @@ place_new k no_pairs e = refl
 place_new k (pair_then j t ps) e = new_place k j t ps (at k ps) refl (same_tree j k) refl (place_new k ps) e
 
 -- one more pair at the end
-more_known : (q : Tree) (x : NamedValue × NamedValue) (xs : List (NamedValue × NamedValue)) (p : NamedValue × NamedValue) (b : Bool) → same_tree (tree_of p.0) q ≡ b
-    → known q (pairs_view (xs ++ p ∷ [])) ≡ (if b then Some (length xs) else known q (pairs_view xs))
-    → known q (pairs_view (x ∷ (xs ++ p ∷ []))) ≡ (if b then Some (suc (length xs)) else known q (pairs_view (x ∷ xs)))
-more_known q x xs p true g rest = known_then q (tree_of x.0) (tree_of x.1) (pairs_view (xs ++ p ∷ [])) ∙ ap (then_at q (tree_of x.0)) rest
-more_known q x xs p false g rest =
-    known_then q (tree_of x.0) (tree_of x.1) (pairs_view (xs ++ p ∷ [])) ∙ ap (then_at q (tree_of x.0)) rest
-    ∙ sym (known_then q (tree_of x.0) (tree_of x.1) (pairs_view xs))
+more_known : {K : Type 0} (key : K → Tree) (q : Tree) (x : K × NamedValue) (xs : List (K × NamedValue)) (p : K × NamedValue) (b : Bool) → same_tree (key p.0) q ≡ b
+    → known q (keyed key (xs ++ p ∷ [])) ≡ (if b then Some (length xs) else known q (keyed key xs))
+    → known q (keyed key (x ∷ (xs ++ p ∷ []))) ≡ (if b then Some (suc (length xs)) else known q (keyed key (x ∷ xs)))
+more_known key q x xs p true g rest = known_then q (key x.0) (tree_of x.1) (keyed key (xs ++ p ∷ [])) ∙ ap (then_at q (key x.0)) rest
+more_known key q x xs p false g rest =
+    known_then q (key x.0) (tree_of x.1) (keyed key (xs ++ p ∷ [])) ∙ ap (then_at q (key x.0)) rest
+    ∙ sym (known_then q (key x.0) (tree_of x.1) (keyed key xs))
 
-pub known_more : (q : Tree) (xs : List (NamedValue × NamedValue)) (p : NamedValue × NamedValue)
-    → known q (pairs_view (xs ++ p ∷ [])) ≡ (if same_tree (tree_of p.0) q then Some (length xs) else known q (pairs_view xs))
-known_more q [] p = known_then q (tree_of p.0) (tree_of p.1) no_pairs
-known_more q (x ∷ xs) p = more_known q x xs p (same_tree (tree_of p.0) q) refl (known_more q xs p)
+pub known_more : {K : Type 0} (key : K → Tree) (q : Tree) (xs : List (K × NamedValue)) (p : K × NamedValue)
+    → known q (keyed key (xs ++ p ∷ [])) ≡ (if same_tree (key p.0) q then Some (length xs) else known q (keyed key xs))
+known_more key q [] p = known_then q (key p.0) (tree_of p.1) no_pairs
+known_more key q (x ∷ xs) p = more_known key q x xs p (same_tree (key p.0) q) refl (known_more key q xs p)
 
-pub count_view : (xs : List (NamedValue × NamedValue)) → count (pairs_view xs) ≡ length xs
-count_view [] = refl
-count_view (x ∷ xs) = ap suc (count_view xs)
+pub count_view : {K : Type 0} (key : K → Tree) (xs : List (K × NamedValue)) → count (keyed key xs) ≡ length xs
+count_view key [] = refl
+count_view key (x ∷ xs) = ap suc (count_view key xs)
 
 -- the last of the pairs is put last
-pub merged_more : (xs : List (NamedValue × NamedValue)) (p : NamedValue × NamedValue) (ps : Pairs)
-    → merged_pairs (pairs_view (xs ++ p ∷ [])) ps ≡ put (tree_of p.0) (tree_of p.1) (merged (tree_of p.1)) (merged_pairs (pairs_view xs) ps)
-merged_more [] p ps = refl
-merged_more (x ∷ xs) p ps = merged_more xs p (put (tree_of x.0) (tree_of x.1) (merged (tree_of x.1)) ps)
+pub merged_more : {K : Type 0} (key : K → Tree) (xs : List (K × NamedValue)) (p : K × NamedValue) (ps : Pairs)
+    → merged_pairs (keyed key (xs ++ p ∷ [])) ps ≡ put (key p.0) (tree_of p.1) (merged (tree_of p.1)) (merged_pairs (keyed key xs) ps)
+merged_more key [] p ps = refl
+merged_more key (x ∷ xs) p ps = merged_more key xs p (put (key x.0) (tree_of x.1) (merged (tree_of x.1)) ps)
 
-pub places_more : (xs : List (NamedValue × NamedValue)) (p : NamedValue × NamedValue) (ps : Pairs)
-    → places (pairs_view (xs ++ p ∷ [])) ps ≡ places (pairs_view xs) ps ++ place (tree_of p.0) (merged_pairs (pairs_view xs) ps) ∷ []
-places_more [] p ps = refl
-places_more (x ∷ xs) p ps = ap (λ is. place (tree_of x.0) ps ∷ is) (places_more xs p (put (tree_of x.0) (tree_of x.1) (merged (tree_of x.1)) ps))
+pub places_more : {K : Type 0} (key : K → Tree) (xs : List (K × NamedValue)) (p : K × NamedValue) (ps : Pairs)
+    → places (keyed key (xs ++ p ∷ [])) ps ≡ places (keyed key xs) ps ++ place (key p.0) (merged_pairs (keyed key xs) ps) ∷ []
+places_more key [] p ps = refl
+places_more key (x ∷ xs) p ps = ap (λ is. place (key x.0) ps ∷ is) (places_more key xs p (put (key x.0) (tree_of x.1) (merged (tree_of x.1)) ps))
 
 -- what is found is changed
 found_put : (k new x j u : Tree) (f : Tree → Tree) (t : Tree) (ps : Pairs)
@@ -118,40 +118,40 @@ put_found k new x f t no_pairs e = absurd (cc e)
 put_found k new x f t (pair_then j u ps) e = found_put k new x j u f t ps (put_found k new x f t ps) (is_last k j ps) e
 
 -- what isn't found is put at the end
-new_put : (f : Tree → Tree) (x : NamedValue × NamedValue) (xs : List (NamedValue × NamedValue)) (p : NamedValue × NamedValue)
-    → (value_at (place (tree_of p.0) (pairs_view xs)) (pairs_view xs) ≡ None → pairs_view (xs ++ p ∷ []) ≡ put (tree_of p.0) (tree_of p.1) f (pairs_view xs))
-    → (b : Bool) → value_at (if b then 0 else suc (place (tree_of p.0) (pairs_view xs))) (pairs_view (x ∷ xs)) ≡ None
-    → pairs_view (x ∷ (xs ++ p ∷ []))
-    ≡ (if b then pair_then (tree_of x.0) (f (tree_of x.1)) (pairs_view xs) else pair_then (tree_of x.0) (tree_of x.1) (put (tree_of p.0) (tree_of p.1) f (pairs_view xs)))
-new_put f x xs p rest true e = absurd (cc e)
-new_put f x xs p rest false e = ap (pair_then (tree_of x.0) (tree_of x.1)) (rest e)
+new_put : {K : Type 0} (key : K → Tree) (f : Tree → Tree) (x : K × NamedValue) (xs : List (K × NamedValue)) (p : K × NamedValue)
+    → (value_at (place (key p.0) (keyed key xs)) (keyed key xs) ≡ None → keyed key (xs ++ p ∷ []) ≡ put (key p.0) (tree_of p.1) f (keyed key xs))
+    → (b : Bool) → value_at (if b then 0 else suc (place (key p.0) (keyed key xs))) (keyed key (x ∷ xs)) ≡ None
+    → keyed key (x ∷ (xs ++ p ∷ []))
+    ≡ (if b then pair_then (key x.0) (f (tree_of x.1)) (keyed key xs) else pair_then (key x.0) (tree_of x.1) (put (key p.0) (tree_of p.1) f (keyed key xs)))
+new_put key f x xs p rest true e = absurd (cc e)
+new_put key f x xs p rest false e = ap (pair_then (key x.0) (tree_of x.1)) (rest e)
 
-pub put_new : (f : Tree → Tree) (xs : List (NamedValue × NamedValue)) (p : NamedValue × NamedValue)
-    → value_at (place (tree_of p.0) (pairs_view xs)) (pairs_view xs) ≡ None → pairs_view (xs ++ p ∷ []) ≡ put (tree_of p.0) (tree_of p.1) f (pairs_view xs)
-put_new f [] p e = refl
-put_new f (x ∷ xs) p e = new_put f x xs p (put_new f xs p) (is_last (tree_of p.0) (tree_of x.0) (pairs_view xs)) e
+pub put_new : {K : Type 0} (key : K → Tree) (f : Tree → Tree) (xs : List (K × NamedValue)) (p : K × NamedValue)
+    → value_at (place (key p.0) (keyed key xs)) (keyed key xs) ≡ None → keyed key (xs ++ p ∷ []) ≡ put (key p.0) (tree_of p.1) f (keyed key xs)
+put_new key f [] p e = refl
+put_new key f (x ∷ xs) p e = new_put key f x xs p (put_new key f xs p) (is_last (key p.0) (key x.0) (keyed key xs)) e
 
 -- one more pair of the base in the index
-pub base_index : (m n : Option ℕ) (q : Tree) (xs : List (NamedValue × NamedValue)) (i : ℕ) (p : NamedValue × NamedValue) → i < length xs → p ≡ get_or xs i p
-    → m ≡ known q (pairs_view (take i xs)) → n ≡ cond (same_tree (tree_of p.0) q) (Some i) m
-    → n ≡ known q (pairs_view (take (i + 1) xs))
-base_index m n q xs i p small is before after =
+pub base_index : {K : Type 0} (key : K → Tree) (m n : Option ℕ) (q : Tree) (xs : List (K × NamedValue)) (i : ℕ) (p : K × NamedValue) → i < length xs → p ≡ get_or xs i p
+    → m ≡ known q (keyed key (take i xs)) → n ≡ cond (same_tree (key p.0) q) (Some i) m
+    → n ≡ known q (keyed key (take (i + 1) xs))
+base_index key m n q xs i p small is before after =
     let more : take (i + 1) xs ≡ take i xs ++ p ∷ [] = take_more xs i p small ∙ ap (λ y. take i xs ++ y ∷ []) (sym is) in
     let long : length (take i xs) ≡ i = length-take-le i xs (omega (arith, small)) in
-    after ∙ ap (λ o. cond (same_tree (tree_of p.0) q) (Some i) o) before
-    ∙ sym (ap (λ ys. known q (pairs_view ys)) more ∙ known_more q (take i xs) p
-    ∙ ap (λ a. if same_tree (tree_of p.0) q then Some a else known q (pairs_view (take i xs))) long)
+    after ∙ ap (λ o. cond (same_tree (key p.0) q) (Some i) o) before
+    ∙ sym (ap (λ ys. known q (keyed key ys)) more ∙ known_more key q (take i xs) p
+    ∙ ap (λ a. if same_tree (key p.0) q then Some a else known q (keyed key (take i xs))) long)
 
 -- what the pairs so far have come to, and one more
-pub step_of : (xs : List (NamedValue × NamedValue)) (i : ℕ) (p : NamedValue × NamedValue) (ps : Pairs) → i < length xs → p ≡ get_or xs i p
-    → merged_pairs (pairs_view (take (i + 1) xs)) ps ≡ put (tree_of p.0) (tree_of p.1) (merged (tree_of p.1)) (merged_pairs (pairs_view (take i xs)) ps)
-step_of xs i p ps small is =
-    ap (λ ys. merged_pairs (pairs_view ys) ps) (take_more xs i p small ∙ ap (λ y. take i xs ++ y ∷ []) (sym is)) ∙ merged_more (take i xs) p ps
+pub step_of : {K : Type 0} (key : K → Tree) (xs : List (K × NamedValue)) (i : ℕ) (p : K × NamedValue) (ps : Pairs) → i < length xs → p ≡ get_or xs i p
+    → merged_pairs (keyed key (take (i + 1) xs)) ps ≡ put (key p.0) (tree_of p.1) (merged (tree_of p.1)) (merged_pairs (keyed key (take i xs)) ps)
+step_of key xs i p ps small is =
+    ap (λ ys. merged_pairs (keyed key ys) ps) (take_more xs i p small ∙ ap (λ y. take i xs ++ y ∷ []) (sym is)) ∙ merged_more key (take i xs) p ps
 
-pub places_step : (xs : List (NamedValue × NamedValue)) (i : ℕ) (p : NamedValue × NamedValue) (ps : Pairs) → i < length xs → p ≡ get_or xs i p
-    → places (pairs_view (take (i + 1) xs)) ps ≡ places (pairs_view (take i xs)) ps ++ place (tree_of p.0) (merged_pairs (pairs_view (take i xs)) ps) ∷ []
-places_step xs i p ps small is =
-    ap (λ ys. places (pairs_view ys) ps) (take_more xs i p small ∙ ap (λ y. take i xs ++ y ∷ []) (sym is)) ∙ places_more (take i xs) p ps
+pub places_step : {K : Type 0} (key : K → Tree) (xs : List (K × NamedValue)) (i : ℕ) (p : K × NamedValue) (ps : Pairs) → i < length xs → p ≡ get_or xs i p
+    → places (keyed key (take (i + 1) xs)) ps ≡ places (keyed key (take i xs)) ps ++ place (key p.0) (merged_pairs (keyed key (take i xs)) ps) ∷ []
+places_step key xs i p ps small is =
+    ap (λ ys. places (keyed key ys) ps) (take_more xs i p small ∙ ap (λ y. take i xs ++ y ∷ []) (sym is)) ∙ places_more key (take i xs) p ps
 
 -- a key that is known
 known_some : (b : Bool) (a i : ℕ) → (if b then Some a else None) ≡ Some i → (b ≡ true) × (a ≡ i)
@@ -197,23 +197,23 @@ place_pushed is js all so_far i p pushed before same whole =
     pushed ∙ ap (λ ks. ks ++ i ∷ []) before ∙ ap (λ a. so_far ++ a ∷ []) (sym same) ∙ sym whole
 
 -- another value in one pair
-pub set_view : (xs : List (NamedValue × NamedValue)) (i : ℕ) (x : NamedValue × NamedValue) (v : NamedValue) → i < length xs → x ≡ get_or xs i x
-    → pairs_view (set xs i (x.0, v)) ≡ with_value i (tree_of v) (pairs_view xs)
-set_view [] i x v h e = absurd (omega (arith, h))
-set_view (y ∷ ys) zero x v h e = ap (λ q. pair_then (tree_of q.0) (tree_of v) (pairs_view ys)) e
-set_view (y ∷ ys) (suc i) x v h e = ap (pair_then (tree_of y.0) (tree_of y.1)) (set_view ys i x v (omega (arith, h)) e)
+pub set_view : {K : Type 0} (key : K → Tree) (xs : List (K × NamedValue)) (i : ℕ) (x : K × NamedValue) (v : NamedValue) → i < length xs → x ≡ get_or xs i x
+    → keyed key (set xs i (x.0, v)) ≡ with_value i (tree_of v) (keyed key xs)
+set_view key [] i x v h e = absurd (omega (arith, h))
+set_view key (y ∷ ys) zero x v h e = ap (λ q. pair_then (key q.0) (tree_of v) (keyed key ys)) e
+set_view key (y ∷ ys) (suc i) x v h e = ap (pair_then (key y.0) (tree_of y.1)) (set_view key ys i x v (omega (arith, h)) e)
 
 -- the value of one pair
-pub value_view : (xs : List (NamedValue × NamedValue)) (i : ℕ) (x : NamedValue × NamedValue) → i < length xs → x ≡ get_or xs i x
-    → Some (tree_of x.1) ≡ value_at i (pairs_view xs)
-value_view [] i x h e = absurd (omega (arith, h))
-value_view (y ∷ ys) zero x h e = ap (λ q. Some (tree_of q.1)) e
-value_view (y ∷ ys) (suc i) x h e = value_view ys i x (omega (arith, h)) e
+pub value_view : {K : Type 0} (key : K → Tree) (xs : List (K × NamedValue)) (i : ℕ) (x : K × NamedValue) → i < length xs → x ≡ get_or xs i x
+    → Some (tree_of x.1) ≡ value_at i (keyed key xs)
+value_view key [] i x h e = absurd (omega (arith, h))
+value_view key (y ∷ ys) zero x h e = ap (λ q. Some (tree_of q.1)) e
+value_view key (y ∷ ys) (suc i) x h e = value_view key ys i x (omega (arith, h)) e
 
-past : (xs : List (NamedValue × NamedValue)) (i : ℕ) → length xs ≤ i → value_at i (pairs_view xs) ≡ None
-past [] i h = refl
-past (y ∷ ys) zero h = absurd (omega (arith, h))
-past (y ∷ ys) (suc i) h = past ys i (omega (arith, h))
+past : {K : Type 0} (key : K → Tree) (xs : List (K × NamedValue)) (i : ℕ) → length xs ≤ i → value_at i (keyed key xs) ≡ None
+past key [] i h = refl
+past key (y ∷ ys) zero h = absurd (omega (arith, h))
+past key (y ∷ ys) (suc i) h = past key ys i (omega (arith, h))
 
 -- one more pair put, where its key is found
 pub changed : (k u x old m : Tree) (ps half next : Pairs) (i : ℕ) → Some old ≡ value_at i ps → half ≡ with_value i x ps → next ≡ with_value i m half
@@ -224,25 +224,40 @@ changed k u x old m ps half next i found taken set_in is_merged at_place =
     ∙ put_found k u x (merged u) old ps (ap (λ n. value_at n ps) (sym at_place) ∙ sym found)
 
 -- and where it is new
-pub added : (p : NamedValue × NamedValue) (xs ys : List (NamedValue × NamedValue)) (i : ℕ) → length xs ≤ i → ys ≡ xs ++ p ∷ [] → i ≡ place (tree_of p.0) (pairs_view xs)
-    → pairs_view ys ≡ put (tree_of p.0) (tree_of p.1) (merged (tree_of p.1)) (pairs_view xs)
-added p xs ys i none pushed at_place =
-    ap pairs_view pushed ∙ put_new (merged (tree_of p.1)) xs p (ap (λ n. value_at n (pairs_view xs)) (sym at_place) ∙ past xs i none)
+pub added : {K : Type 0} (key : K → Tree) (p : K × NamedValue) (xs ys : List (K × NamedValue)) (i : ℕ) → length xs ≤ i → ys ≡ xs ++ p ∷ [] → i ≡ place (key p.0) (keyed key xs)
+    → keyed key ys ≡ put (key p.0) (tree_of p.1) (merged (tree_of p.1)) (keyed key xs)
+added key p xs ys i none pushed at_place =
+    ap (keyed key) pushed ∙ put_new key (merged (tree_of p.1)) xs p (ap (λ n. value_at n (keyed key xs)) (sym at_place) ∙ past key xs i none)
 
 -- what is left to put, after one pair of it
-pub put_step : (p : NamedValue × NamedValue) (rest left : List (NamedValue × NamedValue)) (is js : List ℕ) (i : ℕ) (ps next whole : Pairs)
-    → rest ≡ p ∷ left → is ≡ i ∷ js → is ≡ places (pairs_view rest) ps → merged_pairs (pairs_view rest) ps ≡ whole
-    → (i ≡ place (tree_of p.0) ps → next ≡ put (tree_of p.0) (tree_of p.1) (merged (tree_of p.1)) ps)
-    → (js ≡ places (pairs_view left) next) × (merged_pairs (pairs_view left) next ≡ whole)
-put_step p rest left is js i ps next whole first first_place all so_far is_put =
-    let after : Pairs = put (tree_of p.0) (tree_of p.1) (merged (tree_of p.1)) ps in
-    let both : i ∷ js ≡ place (tree_of p.0) ps ∷ places (pairs_view left) after = sym first_place ∙ all ∙ ap (λ r. places (pairs_view r) ps) first in
-    let head : i ≡ place (tree_of p.0) ps = cc both in
-    let tail : js ≡ places (pairs_view left) after = cc both in
+pub put_step : {K : Type 0} (key : K → Tree) (p : K × NamedValue) (rest left : List (K × NamedValue)) (is js : List ℕ) (i : ℕ) (ps next whole : Pairs)
+    → rest ≡ p ∷ left → is ≡ i ∷ js → is ≡ places (keyed key rest) ps → merged_pairs (keyed key rest) ps ≡ whole
+    → (i ≡ place (key p.0) ps → next ≡ put (key p.0) (tree_of p.1) (merged (tree_of p.1)) ps)
+    → (js ≡ places (keyed key left) next) × (merged_pairs (keyed key left) next ≡ whole)
+put_step key p rest left is js i ps next whole first first_place all so_far is_put =
+    let after : Pairs = put (key p.0) (tree_of p.1) (merged (tree_of p.1)) ps in
+    let both : i ∷ js ≡ place (key p.0) ps ∷ places (keyed key left) after = sym first_place ∙ all ∙ ap (λ r. places (keyed key r) ps) first in
+    let head : i ≡ place (key p.0) ps = cc both in
+    let tail : js ≡ places (keyed key left) after = cc both in
     let same : next ≡ after = is_put head in (
-      tail ∙ ap (places (pairs_view left)) (sym same),
-      ap (merged_pairs (pairs_view left)) same ∙ sym (ap (λ r. merged_pairs (pairs_view r) ps) first) ∙ so_far,
+      tail ∙ ap (places (keyed key left)) (sym same),
+      ap (merged_pairs (keyed key left)) same ∙ sym (ap (λ r. merged_pairs (keyed key r) ps) first) ∙ so_far,
     )
+
+-- nothing is left to put, where there is no place left or no pair
+pub no_place_left : {K : Type 0} (key : K → Tree) (rest : List (K × NamedValue)) (is : List ℕ)
+    (ps whole : Pairs) → is ≡ places (keyed key rest) ps → merged_pairs (keyed key rest) ps ≡ whole
+    → length is ≡ 0 → ps ≡ whole
+no_place_left key [] is ps whole all so_far none = so_far
+no_place_left key (x ∷ rest) is ps whole all so_far none =
+    let after : Pairs = put (key x.0) (tree_of x.1) (merged (tree_of x.1)) ps in
+    let long : length is ≡ suc (length (places (keyed key rest) after)) = ap length all in
+    absurd (omega (arith, long, none))
+
+pub no_pair_left : {K : Type 0} (key : K → Tree) (rest : List (K × NamedValue)) (ps whole : Pairs)
+    → merged_pairs (keyed key rest) ps ≡ whole → length rest ≡ 0 → ps ≡ whole
+no_pair_left key [] ps whole so_far none = so_far
+no_pair_left key (x ∷ rest) ps whole so_far none = absurd (omega (arith, none))
 
 -- one more of the items that an iterator gave
 shifted : {A B : Type 0} (f : A → B) (ys : List A) (y : A) (left : List B) → map f ys ++ (f y ∷ left) ≡ map f (ys ++ y ∷ []) ++ left

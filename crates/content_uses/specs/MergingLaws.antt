@@ -1,22 +1,20 @@
 -- What holds of every merge.
-use Rattle.std.specs.Prelude.{◌≡◌, false, List, [], ◌∷◌, Option, Some, None, if◌then◌else◌}
-use Rattle.std.specs.Prelude.{IfSome, IsSome, IsSomeAnd, ⊤}
+use Rattle.std.specs.Prelude.{◌≡◌, ℕ, false, true, codes, List, [], ◌∷◌, Option, Some, None}
+use Rattle.std.specs.Prelude.{if◌then◌else◌, IfSome, IsSome, IsSomeAnd, ⊤}
 use Rattle.std.specs.Option.{option_and_then}
-use Rattle.serde_content.specs.Names.Words.{same_tree, last_value, pairs_in, lookup, Tree}
-use Rattle.serde_content.specs.Names.Tree.{unit, absent, map, Pairs, no_pairs, pair_then}
-use Rattle.content_uses.specs.Merged.{has_key, merged}
+use Rattle.serde_content.specs.Names.Words.{same_tree, last_value, lookup, static_name, Tree}
+use Rattle.serde_content.specs.Names.Tree.{unit, absent, map, structure, named}
+use Rattle.serde_content.specs.Names.Tree.{Pairs, no_pairs, pair_then, no_fields, field_then}
+use Rattle.content_uses.specs.Merged.{has_key, parts, same_sort, merged}
 
--- an empty map changes no map
+-- a map with no pairs changes no map, and a struct with no fields none of its name
 abbrev pub EmptyChangesNothing : Type 0
-EmptyChangesNothing = (ps : Pairs) → merged (map no_pairs) (map ps) ≡ map ps
+EmptyChangesNothing = (over base : Tree) → same_sort over base ≡ true → parts over ≡ no_pairs
+    → merged over base ≡ base
 
--- what is no map wins whole
-abbrev pub NoMapWins : Type 0
-NoMapWins = (over base : Tree) → pairs_in over ≡ None → merged over base ≡ over
-
--- and so does what is put over no map
-abbrev pub OverNoMapWins : Type 0
-OverNoMapWins = (over base : Tree) → pairs_in base ≡ None → merged over base ≡ over
+-- what is of another sort wins whole
+abbrev pub OtherSortWins : Type 0
+OtherSortWins = (over base : Tree) → same_sort over base ≡ false → merged over base ≡ over
 
 -- what stands behind a key once a value is put there
 abbrev pub put_over : Tree → Option Tree → Option Tree
@@ -30,8 +28,8 @@ found_after k (pair_then j u qs) o = found_after k qs (if same_tree j k then put
 
 -- each key finds what it found in the base, with the values behind it put over that in turn
 abbrev pub KeysFind : Type 0
-KeysFind = (key : Tree) (qs ps : Pairs)
-    → lookup key (merged (map qs) (map ps)) ≡ found_after key qs (lookup key (map ps))
+KeysFind = (key over base : Tree) → same_sort over base ≡ true
+    → lookup key (merged over base) ≡ found_after key (parts over) (lookup key base)
 
 -- a map of one pair
 abbrev pub one_pair : (key value : Tree) → Tree
@@ -42,36 +40,49 @@ abbrev pub OrderMatters : Type 0
 OrderMatters = merged (merged (one_pair unit unit) unit) (one_pair absent unit)
     ≡ merged (one_pair unit unit) (merged unit (one_pair absent unit)) → ⊥
 
--- what stands behind a path of keys, from map to map
+-- and so it does where a struct of another name stands between two of one
+abbrev pub NameMatters : Type 0
+NameMatters =
+    let one_field : (name field : List ℕ) → Tree = λ name field.
+    structure (static_name name) (named (field_then (static_name field) unit no_fields)) in
+    let over : Tree = one_field (codes "a") (codes "x") in
+    let middle : Tree = one_field (codes "b") (codes "x") in
+    let base : Tree = one_field (codes "a") (codes "y") in
+    merged (merged over middle) base ≡ merged over (merged middle base) → ⊥
+
+-- the last value behind a key
+abbrev pub part : (key : Tree) → Tree → Option Tree
+part k t = last_value (λ j. same_tree j k) (parts t)
+
+-- what stands behind a path of keys
 abbrev pub behind : (path : List Tree) → Tree → Option Tree
 behind [] t = Some t
-behind (k ∷ path) t =
-    option_and_then (behind path) (option_and_then (last_value (λ j. same_tree j k)) (pairs_in t))
+behind (k ∷ path) t = option_and_then (behind path) (part k t)
 
--- a map
-abbrev pub IsMap : Tree → Type 0
-IsMap t = IsSome (pairs_in t)
+-- they are of one sort, and so is what stands behind each key of the path
+abbrev pub SameSortAlong : (path : List Tree) → Tree → Tree → Type 0
+SameSortAlong [] u t = same_sort u t ≡ true
+SameSortAlong (k ∷ path) u t = (same_sort u t ≡ true)
+    × IsSomeAnd (part k u) (λ v. IsSomeAnd (part k t) (λ s. SameSortAlong path v s))
 
--- where the outer two have a map behind one path, the middle one has a map there, or nothing
-abbrev pub MapsBetween : (over middle base : Tree) → Type 0
-MapsBetween over middle base = (path : List Tree) → IsSomeAnd (behind path over) IsMap
-    → IsSomeAnd (behind path base) IsMap → IfSome (behind path middle) IsMap
+-- along each path where the outer two are of one sort the middle one is too, or has nothing there
+abbrev pub SortsBetween : (over middle base : Tree) → Type 0
+SortsBetween over middle base = (path : List Tree) → SameSortAlong path over base
+    → IsSome (behind path middle) → SameSortAlong path over middle
 
-abbrev mutual
-  -- in a map, and in each map behind its keys, no key stands twice
-  pub KeysOnce : Tree → Type 0
-  KeysOnce (map ps) = PairsOnce ps
-  KeysOnce t = ⊤
+-- no two pairs have one key
+abbrev pub PairsOnce : Pairs → Type 0
+PairsOnce no_pairs = ⊤
+PairsOnce (pair_then k t ps) = (has_key k ps ≡ false) × PairsOnce ps
 
-  -- no two pairs have one key, and no key stands twice in their values
-  pub PairsOnce : Pairs → Type 0
-  PairsOnce no_pairs = ⊤
-  PairsOnce (pair_then k t ps) = (has_key k ps ≡ false) × KeysOnce t × PairsOnce ps
+-- in what stands behind a path of keys no key stands twice
+abbrev pub KeysOnce : Tree → Type 0
+KeysOnce t = (path : List Tree) → IfSome (behind path t) (λ u. PairsOnce (parts u))
 
--- with maps between maps, and each key once, it doesn't matter which two are merged first
+-- with one sort between two of it, and each key once, it doesn't matter which two are merged first
 abbrev pub EitherWay : Type 0
 EitherWay = (over middle base : Tree) → KeysOnce over → KeysOnce middle
-    → MapsBetween over middle base
+    → SortsBetween over middle base
     → merged (merged over middle) base ≡ merged over (merged middle base)
 
 -- where a key stands twice in what is put over, it matters, though the other premises hold
@@ -81,7 +92,7 @@ TwiceMatters =
     let over : Tree = map (pair_then unit unit (pair_then unit empty no_pairs)) in
     let middle : Tree = one_pair unit empty in
     let base : Tree = one_pair unit (one_pair unit unit) in
-    KeysOnce middle × MapsBetween over middle base
+    KeysOnce middle × SortsBetween over middle base
     × (merged (merged over middle) base ≡ merged over (merged middle base) → ⊥)
 
 -- and so it does where one stands twice in the middle
@@ -90,5 +101,5 @@ TwiceBetweenMatters =
     let empty : Tree = map no_pairs in
     let over : Tree = one_pair unit empty in
     let middle : Tree = map (pair_then unit (one_pair unit unit) (pair_then unit unit no_pairs)) in
-    KeysOnce over × MapsBetween over middle empty
+    KeysOnce over × SortsBetween over middle empty
     × (merged (merged over middle) empty ≡ merged over (merged middle empty) → ⊥)

@@ -1,8 +1,18 @@
 -- Where each pair that is put over a map goes.
-use Rattle.std.specs.Prelude.{ℕ, zero, suc, List, [], ◌∷◌, Option, Some, None, if◌then◌else◌}
-use Rattle.serde_content.specs.Names.Words.{Tree}
-use Rattle.serde_content.specs.Names.Tree.{Pairs, no_pairs, pair_then}
+use Rattle.std.specs.Prelude.{ℕ, zero, suc, List, [], ◌∷◌, map, Option, Some, None}
+use Rattle.std.specs.Prelude.{if◌then◌else◌}
+use Rattle.content_tree.specs.declared.cow.CowStr.{CowStr}
+use Rattle.serde_content.specs.Names.Words.{Tree, tree_of, text_of, pairs_of, NamedValue}
+use Rattle.serde_content.specs.Names.Tree.{text, Pairs, no_pairs, pair_then}
 use Rattle.content_uses.specs.Merged.{is_last, put, merged}
+
+-- pairs, whose keys stand for these trees
+abbrev pub keyed : {K : Type 0} → (K → Tree) → List (K × NamedValue) → Pairs
+keyed tree xs = pairs_of (map (λ p. (tree p.0, tree_of p.1)) xs)
+
+-- the name of a field as a key
+abbrev pub field_key : CowStr → Tree
+field_key name = text (text_of name)
 
 -- where the last pair of this key stands, or after all of them
 abbrev pub place : Tree → Pairs → ℕ

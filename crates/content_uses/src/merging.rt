@@ -1,14 +1,19 @@
 //! Configurations, one put over another.
 
-ghost use Rattle.std.specs.Prelude.{◌≡◌, ◌<◌, Some, None, IfOk, IfErr, IsOk, length};
-ghost use Rattle.serde_content.specs.Names.Words.{IsOutOfMemory, pairs_in, tree_of, pairs_view};
-ghost use Rattle.content_uses.specs.Merged.{merged, merged_pairs};
-ghost use Rattle.content_uses.specs.MergingLaws.{EmptyChangesNothing, NoMapWins, OverNoMapWins};
-ghost use Rattle.content_uses.specs.MergingLaws.{EitherWay, KeysFind, OrderMatters};
+ghost use Rattle.std.specs.Prelude.{◌≡◌, ◌<◌, Some, false, refl, IfOk, IfErr, IsOk, length};
+ghost use Rattle.content_tree.specs.Values.Cases.{struct_name};
+ghost use Rattle.content_tree.specs.Values.Value.{struct_tree};
+ghost use Rattle.serde_content.specs.Names.Words.{IsOutOfMemory, Tree, tree_of, text_of, tree_cmp};
+ghost use Rattle.serde_content.specs.Names.Words.{pairs_view, fields_view};
+ghost use Rattle.serde_content.specs.Names.Tree as tree;
+ghost use Rattle.content_uses.specs.Merged.{parts, same_sort, merged, merged_pairs};
+ghost use Rattle.content_uses.specs.MergingLaws.{EmptyChangesNothing, OtherSortWins, KeysFind};
+ghost use Rattle.content_uses.specs.MergingLaws.{EitherWay, OrderMatters, NameMatters};
 ghost use Rattle.content_uses.specs.MergingLaws.{TwiceBetweenMatters, TwiceMatters};
 ghost use Rattle.content_uses.specs.Places.{places as places_of, value_at, with_value};
+ghost use Rattle.content_uses.specs.Places.{keyed, field_key};
 
-use serde_content::{NamedValue, Result};
+use serde_content::{CowStr, NamedData, NamedStruct, NamedValue, Result};
 use std::alloc::Global;
 use std::collections::BTreeMap;
 use std::mem;
@@ -16,13 +21,37 @@ use std::mem;
 /// A key with its value.
 type Pair<'a, 'n> = (NamedValue<'a, 'n>, NamedValue<'a, 'n>);
 
-/// `over` put over `base`: maps key by key, deeply, and anything else whole, a struct or a variant
-/// too. The base's keys stay in their order, and new ones follow in that of `over`. Of equal keys
-/// in the base the last takes the value, which is the one that [`get`](NamedValue::get) finds;
-/// equal keys in `over` are put there in turn.
+/// The name of a field with its value.
+type Field<'a, 'n> = (CowStr<'n>, NamedValue<'a, 'n>);
+
+/// A key of a map, or the name of a field.
+trait Key: Ord + Drop {
+    /// The tree that it stands for.
+    ghost tree: { Self → Tree };
+
+    /// Keys go as their trees do.
+    ghost as_trees: { (a b : Self) → Self.cmp a b ≡ tree_cmp (tree a) (tree b) };
+}
+
+impl<'a, 'n> Key for NamedValue<'a, 'n> {
+    ghost tree = { tree_of };
+
+    ghost as_trees = { λ a b. refl };
+}
+
+impl<'n> Key for CowStr<'n> {
+    ghost tree = { field_key };
+
+    ghost as_trees = { λ a b. refl };
+}
+
+/// `over` put over `base`: maps key by key, and structs of one name with fields field by field,
+/// deeply; anything else whole, a variant too. The base's keys stay in their order, and new ones
+/// follow in that of `over`. Of equal keys in the base the last takes the value, which is the one
+/// that [`get`](NamedValue::get) finds; equal keys in `over` are put there in turn. So fields.
 ///
-/// The time is n log n in the number of keys, of which none is copied. What is no map, or is put
-/// over no map, takes no memory.
+/// The time is n log n in the number of keys, of which none is copied. Where nothing is merged, it
+/// takes no memory.
 ///
 /// # Errors
 ///
@@ -41,16 +70,84 @@ pub fn merge<'a, 'n>(
     ensures value { IfOk result (λ whole. tree_of whole ≡ merged (tree_of over.entry)
         (tree_of base.entry)) }
     ensures memory { IfErr result (λ e. IsOutOfMemory e) }
-    // what is no map, or put over no map, takes no memory
-    ensures over { pairs_in (tree_of over.entry) ≡ None → IsOk result }
-    ensures base { pairs_in (tree_of base.entry) ≡ None → IsOk result }
+    // what is of another sort wins whole, and takes no memory
+    ensures other { same_sort (tree_of over.entry) (tree_of base.entry) ≡ false → IsOk result }
 {
     match over {
-        NamedValue::Map(over) => match base {
-            NamedValue::Map(base) => Ok(NamedValue::Map(merge_pairs(alloc, over, base)?)),
-            _ => Ok(NamedValue::Map(over)),
-        },
+        NamedValue::Map(over) => merge_map(alloc, over, base),
+        NamedValue::Struct(over) => merge_struct(alloc, over, base),
         other => Ok(other),
+    }
+}
+
+/// A map put over a value. (It stands outside `merge`, as does `merge_struct`: so a level of one
+/// takes no stack for the other.)
+#[cycle(merge)]
+#[inline(never)]
+fn merge_map<'a, 'n>(
+    alloc: Global,
+    over: Vec<Pair<'a, 'n>>,
+    base: NamedValue<'a, 'n>,
+) -> Result<NamedValue<'a, 'n>>
+    ensures value { IfOk result (λ whole. tree_of whole
+        ≡ merged (tree.map (pairs_view over.entry.items)) (tree_of base.entry)) }
+    ensures memory { IfErr result (λ e. IsOutOfMemory e) }
+    ensures other { same_sort (tree.map (pairs_view over.entry.items)) (tree_of base.entry) ≡ false
+        → IsOk result }
+{
+    match base {
+        NamedValue::Map(base) => Ok(NamedValue::Map(merge_pairs(alloc, over, base)?)),
+        _ => Ok(NamedValue::Map(over)),
+    }
+}
+
+/// A struct put over a value.
+#[cycle(merge)]
+#[inline(never)]
+fn merge_struct<'a, 'n>(
+    alloc: Global,
+    over: Box<NamedStruct<'a, 'n>>,
+    base: NamedValue<'a, 'n>,
+) -> Result<NamedValue<'a, 'n>>
+    ensures value { IfOk result (λ whole. tree_of whole
+        ≡ merged (struct_tree over.entry.value) (tree_of base.entry)) }
+    ensures memory { IfErr result (λ e. IsOutOfMemory e) }
+    ensures other { same_sort (struct_tree over.entry.value) (tree_of base.entry) ≡ false
+        → IsOk result }
+{
+    match base {
+        NamedValue::Struct(base) => Ok(NamedValue::Struct(merge_structs(alloc, over, base)?)),
+        _ => Ok(NamedValue::Struct(over)),
+    }
+}
+
+/// One struct put over another.
+#[cycle(merge)]
+fn merge_structs<'a, 'n>(
+    alloc: Global,
+    over: Box<NamedStruct<'a, 'n>>,
+    base: Box<NamedStruct<'a, 'n>>,
+) -> Result<Box<NamedStruct<'a, 'n>>>
+    ensures value { IfOk result (λ whole. struct_tree whole.value
+        ≡ merged (struct_tree over.entry.value) (struct_tree base.entry.value)) }
+    ensures memory { IfErr result (λ e. IsOutOfMemory e) }
+    ensures other { same_sort (struct_tree over.entry.value) (struct_tree base.entry.value) ≡ false
+        → IsOk result }
+{
+    if !is_same_sort(&over, &base) {
+        return Ok(over);
+    }
+    let mut base = base;
+    let NamedStruct { name: _, data } = Box::into_inner(over);
+    match data {
+        NamedData::Struct { fields } => {
+            let among = take_fields(alloc, &mut base);
+            let fields = merge_fields(alloc, fields, among)?;
+            set_fields(&mut base, fields);
+            Ok(base)
+        }
+        // it has fields
+        _ => Ok(base),
     }
 }
 
@@ -79,12 +176,74 @@ fn merge_pairs<'a, 'n>(
     Ok(pairs)
 }
 
+/// The fields of one struct put over those of another. (The functions of a cycle have the same type
+/// parameters: so the loop of `merge_pairs` stands here again.)
+#[cycle(merge)]
+fn merge_fields<'a, 'n>(
+    alloc: Global,
+    over: Vec<Field<'a, 'n>>,
+    base: Vec<Field<'a, 'n>>,
+) -> Result<Vec<Field<'a, 'n>>>
+    ensures value { IfOk result (λ fields. keyed field_key fields.items
+        ≡ merged_pairs (keyed field_key over.entry.items) (keyed field_key base.entry.items)) }
+    ensures memory { IfErr result (λ e. IsOutOfMemory e) }
+{
+    let places = places(alloc, &over, &base)?;
+    let mut fields = base;
+    for (place, (name, value)) in places.into_iter().zip(over) {
+        if place < fields.len() {
+            let old = replace_value(&mut fields, place, NamedValue::Unit);
+            let whole = merge(alloc, value, old)?;
+            set_value(&mut fields, place, name, whole);
+        } else {
+            fields.push((name, value))?;
+        }
+    }
+    Ok(fields)
+}
+
+/// Whether both are structs of one name with fields.
+fn is_same_sort<'a, 'n>(over: &NamedStruct<'a, 'n>, base: &NamedStruct<'a, 'n>) -> bool
+    ensures { result ≡ same_sort (struct_tree over.now) (struct_tree base.now) }
+{
+    match over.data {
+        NamedData::Struct { .. } => match base.data {
+            NamedData::Struct { .. } => over.name == base.name,
+            _ => false,
+        },
+        _ => false,
+    }
+}
+
+/// Takes the fields out of a struct, whose name stays.
+fn take_fields<'a, 'n>(alloc: Global, whole: &mut NamedStruct<'a, 'n>) -> Vec<Field<'a, 'n>>
+    ensures fields { keyed field_key result.items ≡ parts (struct_tree whole.old) }
+    ensures name { struct_name whole.new ≡ struct_name whole.old }
+{
+    match mem::replace(&mut whole.data, NamedData::Unit) {
+        NamedData::Struct { fields } => fields,
+        _ => Vec::new(alloc),
+    }
+}
+
+/// Gives a struct these fields; its name stays.
+fn set_fields<'a, 'n>(whole: &mut NamedStruct<'a, 'n>, fields: Vec<Field<'a, 'n>>)
+    ensures { struct_tree whole.new ≡ tree.structure (text_of (struct_name whole.old))
+        (tree.named (fields_view fields.entry.items)) }
+{
+    whole.data = NamedData::Struct { fields };
+}
+
 /// Where each pair of `over` goes among those of `base`: the place of the last pair of its key, or
 /// that after the last where no pair before it has its key.
 #[inline(never)]
-fn places<'a, 'n>(alloc: Global, over: &[Pair<'a, 'n>], base: &[Pair<'a, 'n>]) -> Result<Vec<usize>>
+fn places<'a, 'n, K: Key>(
+    alloc: Global,
+    over: &[(K, NamedValue<'a, 'n>)],
+    base: &[(K, NamedValue<'a, 'n>)],
+) -> Result<Vec<usize>>
     ensures value { IfOk result (λ places. places.items
-        ≡ places_of (pairs_view over.now) (pairs_view base.now)) }
+        ≡ places_of (keyed K.tree over.now) (keyed K.tree base.now)) }
     ensures memory { IfErr result (λ e. IsOutOfMemory e) }
 {
     let mut index = BTreeMap::new(alloc);
@@ -107,15 +266,16 @@ fn places<'a, 'n>(alloc: Global, over: &[Pair<'a, 'n>], base: &[Pair<'a, 'n>]) -
 }
 
 /// Puts this value at this place, whose key stays; what stood there.
-fn replace_value<'a, 'n>(
-    pairs: &mut Vec<Pair<'a, 'n>>,
+#[inline(never)]
+fn replace_value<'a, 'n, K: Key>(
+    pairs: &mut Vec<(K, NamedValue<'a, 'n>)>,
     place: usize,
     value: NamedValue<'a, 'n>,
 ) -> NamedValue<'a, 'n>
     requires { place < length pairs.old.items }
-    ensures value { Some (tree_of result) ≡ value_at place (pairs_view pairs.old.items) }
-    ensures placed { pairs_view pairs.new.items ≡ with_value place (tree_of value.entry)
-        (pairs_view pairs.old.items) }
+    ensures value { Some (tree_of result) ≡ value_at place (keyed K.tree pairs.old.items) }
+    ensures placed { keyed K.tree pairs.new.items ≡ with_value place (tree_of value.entry)
+        (keyed K.tree pairs.old.items) }
     ensures len { length pairs.new.items ≡ length pairs.old.items }
 {
     let pair = &mut pairs[place];
@@ -123,36 +283,37 @@ fn replace_value<'a, 'n>(
 }
 
 /// Puts this value at this place, whose key stays; the other key is dropped.
-fn set_value<'a, 'n>(
-    pairs: &mut Vec<Pair<'a, 'n>>,
+#[inline(never)]
+fn set_value<'a, 'n, K: Key>(
+    pairs: &mut Vec<(K, NamedValue<'a, 'n>)>,
     place: usize,
-    _key: NamedValue<'a, 'n>,
+    _key: K,
     value: NamedValue<'a, 'n>,
 )
     requires { place < length pairs.old.items }
-    ensures { pairs_view pairs.new.items ≡ with_value place (tree_of value.entry)
-        (pairs_view pairs.old.items) }
+    ensures { keyed K.tree pairs.new.items ≡ with_value place (tree_of value.entry)
+        (keyed K.tree pairs.old.items) }
 {
     let pair = &mut pairs[place];
     pair.1 = value;
 }
 
-/// The laws of merging: an empty map changes no map that it is put over; what is no map wins whole,
-/// and so does what is put over no map; each key finds what its values, put over one another, come
-/// to.
+/// The laws of merging: an empty map changes no map that it is put over, and a struct without
+/// fields none of its name; what is of another sort wins whole; each key finds what its values, put
+/// over one another, come to.
 ///
 /// Of three values it doesn't matter which two are merged first, under two premises: no key stands
-/// twice in the two that are put over, and where both outer ones have a map behind a path of keys,
-/// the middle one has a map there or nothing. Otherwise it may matter, as an example of each shows:
-/// one has something that is no map between two maps, the others a key that stands twice, in what is
-/// put over or in the middle.
+/// twice in the two that are put over, and where both outer ones are of one sort along a path of
+/// keys, the middle one is too, or has nothing there. Otherwise it may matter, as an example of
+/// each shows: one has something that is no map between two maps, one a struct of another name
+/// between two of one, the others a key that stands twice, in what is put over or in the middle.
 pub fn merging_laws()
     ensures empty { EmptyChangesNothing }
-    ensures whole { NoMapWins }
-    ensures over_none { OverNoMapWins }
+    ensures whole { OtherSortWins }
     ensures found { KeysFind }
     ensures either_way { EitherWay }
     ensures order { OrderMatters }
+    ensures name { NameMatters }
     ensures twice { TwiceMatters }
     ensures twice_between { TwiceBetweenMatters }
 {}
