@@ -4,7 +4,10 @@ use content_uses::merging::merge;
 use content_uses::saving::{put_and_reload, save_twice};
 use content_uses::store::{Store, put_and_get};
 use serde_content::samples::Point;
-use serde_content::{Deserializer, Result as Answer, Serializer, Value, value};
+use serde_content::{
+    CowStr, Data, Deserializer, Result as Answer, Serializer, Struct, Value, value,
+};
+use std::alloc::Global;
 use std::test::Fail;
 
 #[test]
@@ -98,12 +101,114 @@ fn configurations_are_merged(rt: HostRuntime) -> Result<(), Fail> {
         r#"{ "name": "serve", "limits": { "depth": 8u8, "size": 200u8 }, "colour": true }"#;
     assert!(rt; text.as_str() == wanted);
 
-    // A user's settings over typed defaults.
+    // A struct of one field over typed defaults.
+    let defaults = Serializer::new().serialize(alloc, &Point { x: 1, y: 2 })?;
+    let fields = vec![in alloc; (CowStr::Borrowed("y"), Value::from(7i32))]?;
+    let user = Struct {
+        name: CowStr::Borrowed("Point"),
+        data: Data::Struct { fields },
+    };
+    let merged = merge(alloc, Value::Struct(Box::new(alloc, user)?), defaults)?;
+    let point: Point = Deserializer::new(merged).deserialize(alloc)?;
+    assert!(rt; point == Point { x: 1, y: 7 });
+    Ok(())
+}
+
+#[test]
+fn maps_are_put_over_plain_structs(rt: HostRuntime) -> Result<(), Fail> {
+    let alloc = rt.alloc();
     let defaults = Serializer::new().serialize(alloc, &Point { x: 1, y: 2 })?;
     let defaults: Value = Deserializer::new(defaults).deserialize(alloc)?;
     let merged = merge(alloc, value!(in alloc; { "y": 7i32 })?, defaults)?;
     let point: Point = Deserializer::new(merged).deserialize(alloc)?;
     assert!(rt; point == Point { x: 1, y: 7 });
+    Ok(())
+}
+
+/// A field of a struct.
+type Field = (CowStr<'static>, Value<'static>);
+
+/// A field with a number.
+fn field(name: &'static str, number: u8) -> Field {
+    (CowStr::Borrowed(name), Value::from(number))
+}
+
+/// A struct with these fields.
+fn structure(alloc: Global, name: &'static str, fields: Vec<Field>) -> Answer<Value<'static>> {
+    let inner = Struct {
+        name: CowStr::Borrowed(name),
+        data: Data::Struct { fields },
+    };
+    Ok(Value::Struct(Box::new(alloc, inner)?))
+}
+
+/// A unit struct.
+fn unit_struct(alloc: Global, name: &'static str) -> Answer<Value<'static>> {
+    let inner = Struct {
+        name: CowStr::Borrowed(name),
+        data: Data::Unit,
+    };
+    Ok(Value::Struct(Box::new(alloc, inner)?))
+}
+
+/// One value put over another, printed.
+fn printed(alloc: Global, over: Value<'static>, base: Value<'static>) -> Answer<String> {
+    Ok(format!(in alloc; "{}", merge(alloc, over, base)?.display())?)
+}
+
+#[test]
+fn structs_of_one_name_are_merged(rt: HostRuntime) -> Result<(), Fail> {
+    let alloc = rt.alloc();
+
+    // What the base has keeps its place, and what is new comes last.
+    let base = structure(alloc, "A", vec![in alloc; field("x", 1), field("y", 2)]?)?;
+    let over = structure(alloc, "A", vec![in alloc; field("z", 3), field("y", 4)]?)?;
+    let text = printed(alloc, over, base)?;
+    assert!(rt; text.as_str() == "A { x: 1u8, y: 4u8, z: 3u8 }");
+
+    // A field twice in the base, and one twice in what is put over it.
+    let base = structure(alloc, "A", vec![in alloc; field("x", 1), field("x", 2)]?)?;
+    let over = structure(alloc, "A", vec![in alloc; field("x", 3), field("x", 4)]?)?;
+    let text = printed(alloc, over, base)?;
+    assert!(rt; text.as_str() == "A { x: 1u8, x: 4u8 }");
+
+    // A map in a struct in a map.
+    let map = value!(in alloc; { "a": 1u8, "b": 2u8 })?;
+    let base = structure(alloc, "A", vec![in alloc; (CowStr::Borrowed("m"), map)]?)?;
+    let base = Value::Map(vec![in alloc; (Value::from("s"), base)]?);
+    let map = value!(in alloc; { "b": 3u8 })?;
+    let over = structure(alloc, "A", vec![in alloc; (CowStr::Borrowed("m"), map)]?)?;
+    let over = Value::Map(vec![in alloc; (Value::from("s"), over)]?);
+    let text = printed(alloc, over, base)?;
+    assert!(rt; text.as_str() == r#"{ "s": A { m: { "a": 1u8, "b": 3u8 } } }"#);
+    Ok(())
+}
+
+#[test]
+fn other_structs_are_put_over_whole(rt: HostRuntime) -> Result<(), Fail> {
+    let alloc = rt.alloc();
+
+    // A struct of another name.
+    let base = structure(alloc, "A", vec![in alloc; field("x", 1)]?)?;
+    let over = structure(alloc, "B", vec![in alloc; field("y", 2)]?)?;
+    let text = printed(alloc, over, base)?;
+    assert!(rt; text.as_str() == "B { y: 2u8 }");
+
+    // One without fields, over one with and below it.
+    let base = structure(alloc, "A", vec![in alloc; field("x", 1)]?)?;
+    let text = printed(alloc, unit_struct(alloc, "A")?, base)?;
+    assert!(rt; text.as_str() == "A");
+    let over = structure(alloc, "A", vec![in alloc; field("x", 1)]?)?;
+    let text = printed(alloc, over, unit_struct(alloc, "A")?)?;
+    assert!(rt; text.as_str() == "A { x: 1u8 }");
+
+    // A struct over a map, and a map over a struct.
+    let over = structure(alloc, "A", vec![in alloc; field("x", 1)]?)?;
+    let text = printed(alloc, over, value!(in alloc; { "y": 2u8 })?)?;
+    assert!(rt; text.as_str() == "A { x: 1u8 }");
+    let base = structure(alloc, "A", vec![in alloc; field("x", 1)]?)?;
+    let text = printed(alloc, value!(in alloc; { "y": 2u8 })?, base)?;
+    assert!(rt; text.as_str() == r#"{ "y": 2u8 }"#);
     Ok(())
 }
 
