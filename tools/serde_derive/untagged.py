@@ -97,18 +97,19 @@ class UntaggedWriter(EnumWriter):
         return v.held().takes()[1]
 
     def back(self, v: Variant, holder: Holder, values: List[str]) -> str:
-        laws = [f.type.typed_back() for f in v.data.fields]
-        free = self.free(v, "one.free", "(tree_under f t)")
-        read = elim([self.read_as(v, w, "one", "f t") for w in self.item.variants])
-        law = self.held(v, holder, values, laws, "back", "parts_end", " f")
-        return f"λ real f. such_seen (λ t one. record {{\nfree = {free};\nonly = {read};\n}})\n{law}"
+        law = self.held(v, holder, values, [f.type.typed_back() for f in v.data.fields], "back", "parts_end", " f")
+        return f"λ real f. such_seen (λ t one. {self.seen_as(v, 'one', 'tree_under f t', 'f t')})\n{law}"
 
     def kept(self, v: Variant, holder: Holder, values: List[str]) -> str:
-        laws = [f.type.typed_kept() for f in v.data.fields]
-        free = self.free(v, "(one fits).free", "(as_read (form t))")
-        read = elim([self.read_as(v, w, "(one fits)", "read_flags (form t)") for w in self.item.variants])
-        law = self.held(v, holder, values, laws, "kept", "parts_end_kept", "")
-        return f"λ real. such_seen (λ t one fits. record {{\nfree = {free};\nonly = {read};\n}})\n{law}"
+        law = self.held(v, holder, values, [f.type.typed_kept() for f in v.data.fields], "kept", "parts_end_kept", "")
+        seen = self.seen_as(v, "(one fits)", "as_read (form t)", "read_flags (form t)")
+        return f"λ real. such_seen (λ t one fits. {seen})\n{law}"
+
+    def seen_as(self, v: Variant, one: str, subject: str, source: str) -> str:
+        """What is read of a source that is read as one of what a variant holds."""
+        free = self.free(v, f"{one}.free", f"({subject})")
+        read = elim([self.read_as(v, w, one, source) for w in self.item.variants])
+        return f"record {{\nfree = {free};\nonly = {read};\n}}"
 
     def held(self, v: Variant, holder: Holder, values: List[str], laws: List[str], member: str, end: str, flags: str) -> str:
         """That what a variant holds comes back."""

@@ -10,11 +10,11 @@ use Rattle.serde_content.specs.RoundTrip.{GivesOnly, SpellsSuch}
 use Rattle.content_cbor.specs.Decoded.{as_read}
 use Rattle.content_cbor.specs.Form.{Fits, form}
 
--- the tree's form isn't refused, and each value that may be given of it is such a one
+-- where the tree fits its form isn't refused, and each value that may be given of it is such a one
 abbrev pub FormGives : {A : Type 0} → Refusal → Gives A → (A → Type 0) → Tree → Type 0
 FormGives refusal gives such t = Fits t → GivesOnly (refusal (as_read (form t))) (gives (as_read (form t))) such
 
--- a value that exists is sent as a tree whose form is read as an equal value
+-- a value that exists is sent as a tree whose form, where it fits, is read as an equal value
 pub record FormComesBack {A : Type 0} (exists : A → Type 0) (script : ScriptOf A) (refusal : Refusal) (gives : Gives A) (eq : A → A → Bool) : Type 0 where
   pub of_value : (x : A) → exists x → SpellsSuch (FormGives refusal gives (λ y. eq x y ≡ true)) (script x false)
 
