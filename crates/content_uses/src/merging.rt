@@ -14,9 +14,10 @@ ghost use Rattle.content_uses.specs.Places.{places as places_of, value_at, with_
 ghost use Rattle.content_uses.specs.Places.{keyed, field_key};
 
 use serde_content::{CowStr, NamedData, NamedStruct, NamedValue, Result};
-use std::alloc::Global;
+use std::alloc::{AllocError, Global};
 use std::collections::BTreeMap;
 use std::mem;
+use std::result::Result as StdResult;
 
 /// A key with its value.
 type Pair<'a, 'n> = (NamedValue<'a, 'n>, NamedValue<'a, 'n>);
@@ -61,7 +62,6 @@ impl<'n> Key for CowStr<'n> {
 /// let user = value!(in alloc; { "colour": true, "limits": { "size": 200u8 } })?;
 /// let merged = merge(alloc, user, common)?;
 /// ```
-#[cycle(merge)]
 pub fn merge<'a, 'n>(
     alloc: Global,
     over: NamedValue<'a, 'n>,
@@ -73,6 +73,20 @@ pub fn merge<'a, 'n>(
     // what is of another sort wins whole, and takes no memory
     ensures other { same_sort (tree_of over.entry) (tree_of base.entry) ≡ false → IsOk result }
 {
+    Ok(put_over(alloc, over, base)?)
+}
+
+/// The same. Its error is small, and so is the stack that a level takes.
+#[cycle(put_over)]
+fn put_over<'a, 'n>(
+    alloc: Global,
+    over: NamedValue<'a, 'n>,
+    base: NamedValue<'a, 'n>,
+) -> StdResult<NamedValue<'a, 'n>, AllocError>
+    ensures value { IfOk result (λ whole. tree_of whole ≡ merged (tree_of over.entry)
+        (tree_of base.entry)) }
+    ensures other { same_sort (tree_of over.entry) (tree_of base.entry) ≡ false → IsOk result }
+{
     match over {
         NamedValue::Map(over) => merge_map(alloc, over, base),
         NamedValue::Struct(over) => merge_struct(alloc, over, base),
@@ -80,18 +94,17 @@ pub fn merge<'a, 'n>(
     }
 }
 
-/// A map put over a value. (It stands outside `merge`, as does `merge_struct`: so a level of one
+/// A map put over a value. (It stands outside `put_over`, as does `merge_struct`: so a level of one
 /// takes no stack for the other.)
-#[cycle(merge)]
+#[cycle(put_over)]
 #[inline(never)]
 fn merge_map<'a, 'n>(
     alloc: Global,
     over: Vec<Pair<'a, 'n>>,
     base: NamedValue<'a, 'n>,
-) -> Result<NamedValue<'a, 'n>>
+) -> StdResult<NamedValue<'a, 'n>, AllocError>
     ensures value { IfOk result (λ whole. tree_of whole
         ≡ merged (tree.map (pairs_view over.entry.items)) (tree_of base.entry)) }
-    ensures memory { IfErr result (λ e. IsOutOfMemory e) }
     ensures other { same_sort (tree.map (pairs_view over.entry.items)) (tree_of base.entry) ≡ false
         → IsOk result }
 {
@@ -102,16 +115,15 @@ fn merge_map<'a, 'n>(
 }
 
 /// A struct put over a value.
-#[cycle(merge)]
+#[cycle(put_over)]
 #[inline(never)]
 fn merge_struct<'a, 'n>(
     alloc: Global,
     over: Box<NamedStruct<'a, 'n>>,
     base: NamedValue<'a, 'n>,
-) -> Result<NamedValue<'a, 'n>>
+) -> StdResult<NamedValue<'a, 'n>, AllocError>
     ensures value { IfOk result (λ whole. tree_of whole
         ≡ merged (struct_tree over.entry.value) (tree_of base.entry)) }
-    ensures memory { IfErr result (λ e. IsOutOfMemory e) }
     ensures other { same_sort (struct_tree over.entry.value) (tree_of base.entry) ≡ false
         → IsOk result }
 {
@@ -122,15 +134,14 @@ fn merge_struct<'a, 'n>(
 }
 
 /// One struct put over another.
-#[cycle(merge)]
+#[cycle(put_over)]
 fn merge_structs<'a, 'n>(
     alloc: Global,
     over: Box<NamedStruct<'a, 'n>>,
     base: Box<NamedStruct<'a, 'n>>,
-) -> Result<Box<NamedStruct<'a, 'n>>>
+) -> StdResult<Box<NamedStruct<'a, 'n>>, AllocError>
     ensures value { IfOk result (λ whole. struct_tree whole.value
         ≡ merged (struct_tree over.entry.value) (struct_tree base.entry.value)) }
-    ensures memory { IfErr result (λ e. IsOutOfMemory e) }
     ensures other { same_sort (struct_tree over.entry.value) (struct_tree base.entry.value) ≡ false
         → IsOk result }
 {
@@ -152,22 +163,21 @@ fn merge_structs<'a, 'n>(
 }
 
 /// The pairs of one map put over those of another.
-#[cycle(merge)]
+#[cycle(put_over)]
 fn merge_pairs<'a, 'n>(
     alloc: Global,
     over: Vec<Pair<'a, 'n>>,
     base: Vec<Pair<'a, 'n>>,
-) -> Result<Vec<Pair<'a, 'n>>>
-    ensures value { IfOk result (λ pairs. pairs_view pairs.items
+) -> StdResult<Vec<Pair<'a, 'n>>, AllocError>
+    ensures { IfOk result (λ pairs. pairs_view pairs.items
         ≡ merged_pairs (pairs_view over.entry.items) (pairs_view base.entry.items)) }
-    ensures memory { IfErr result (λ e. IsOutOfMemory e) }
 {
     let places = places(alloc, &over, &base)?;
     let mut pairs = base;
     for (place, (key, value)) in places.into_iter().zip(over) {
         if place < pairs.len() {
             let old = replace_value(&mut pairs, place, NamedValue::Unit);
-            let merged = merge(alloc, value, old)?;
+            let merged = put_over(alloc, value, old)?;
             set_value(&mut pairs, place, key, merged);
         } else {
             pairs.push((key, value))?;
@@ -178,22 +188,21 @@ fn merge_pairs<'a, 'n>(
 
 /// The fields of one struct put over those of another. (The functions of a cycle have the same type
 /// parameters: so the loop of `merge_pairs` stands here again.)
-#[cycle(merge)]
+#[cycle(put_over)]
 fn merge_fields<'a, 'n>(
     alloc: Global,
     over: Vec<Field<'a, 'n>>,
     base: Vec<Field<'a, 'n>>,
-) -> Result<Vec<Field<'a, 'n>>>
-    ensures value { IfOk result (λ fields. keyed field_key fields.items
+) -> StdResult<Vec<Field<'a, 'n>>, AllocError>
+    ensures { IfOk result (λ fields. keyed field_key fields.items
         ≡ merged_pairs (keyed field_key over.entry.items) (keyed field_key base.entry.items)) }
-    ensures memory { IfErr result (λ e. IsOutOfMemory e) }
 {
     let places = places(alloc, &over, &base)?;
     let mut fields = base;
     for (place, (name, value)) in places.into_iter().zip(over) {
         if place < fields.len() {
             let old = replace_value(&mut fields, place, NamedValue::Unit);
-            let whole = merge(alloc, value, old)?;
+            let whole = put_over(alloc, value, old)?;
             set_value(&mut fields, place, name, whole);
         } else {
             fields.push((name, value))?;
@@ -241,10 +250,9 @@ fn places<'a, 'n, K: Key>(
     alloc: Global,
     over: &[(K, NamedValue<'a, 'n>)],
     base: &[(K, NamedValue<'a, 'n>)],
-) -> Result<Vec<usize>>
-    ensures value { IfOk result (λ places. places.items
+) -> StdResult<Vec<usize>, AllocError>
+    ensures { IfOk result (λ places. places.items
         ≡ places_of (keyed K.tree over.now) (keyed K.tree base.now)) }
-    ensures memory { IfErr result (λ e. IsOutOfMemory e) }
 {
     let mut index = BTreeMap::new(alloc);
     for (place, pair) in base.iter().enumerate() {

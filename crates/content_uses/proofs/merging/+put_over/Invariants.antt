@@ -3,7 +3,7 @@ use Rattle.std.specs.Iterator.Adapters.{zip_first, zip_second}
 use Rattle.serde_content.specs.Names.Words.{pairs_view}
 use Rattle.content_uses.specs.Merged.{merged_pairs}
 use Rattle.content_uses.specs.Places.{places, keyed, field_key}
-use Rattle.content_uses.proofs.merging.+merge.Given as goal
+use Rattle.content_uses.proofs.merging.+put_over.Given as goal
 
 abbrev pub invariant-merge_pairs-loop-place : goal.invariant-merge_pairs-loop-place
 invariant-merge_pairs-loop-place l =

@@ -14,7 +14,7 @@ use Rattle.content_uses.specs.Places.{keyed, field_key}
 use Rattle.content_uses.proofs.Putting.{changed, added, put_step, no_place_left, no_pair_left}
 use Rattle.content_uses.proofs.Putting.{yielded_more}
 use Rattle.content_uses.proofs.Structs.{fields_in, structs_merged}
-use Rattle.content_uses.proofs.merging.+merge.Goals as goal
+use Rattle.content_uses.proofs.merging.+put_over.Goals as goal
 
 pub merge_pairs-loop-place-preserved-then-place-len : goal.merge_pairs-loop-place-preserved-then-place-len
 merge_pairs-loop-place-preserved-then-place-len t c =
@@ -74,8 +74,8 @@ merge_fields-loop-place-preserved t c =
       step.1,
     )
 
-pub merge_pairs-returns-clause-value : goal.merge_pairs-returns-clause-value
-merge_pairs-returns-clause-value t c =
+pub merge_pairs-returns : goal.merge_pairs-returns
+merge_pairs-returns t c =
     elim c.in-None.ensures.steps [
       | inl s ↦ no_place_left tree_of (zip_second c.loop-place.place-iterator).rest.items
           (zip_first c.loop-place.place-iterator).rest.items _ _ c.loop-place.invariant.3
@@ -86,8 +86,8 @@ merge_pairs-returns-clause-value t c =
           (sym (zip_second c.loop-place.place-iterator).rest.ok.0 ∙ s.1.0)
     ]
 
-pub merge_fields-returns-clause-value : goal.merge_fields-returns-clause-value
-merge_fields-returns-clause-value t c =
+pub merge_fields-returns : goal.merge_fields-returns
+merge_fields-returns t c =
     elim c.in-None.ensures.steps [
       | inl s ↦ no_place_left field_key (zip_second c.loop-place.place-iterator).rest.items
           (zip_first c.loop-place.place-iterator).rest.items _ _ c.loop-place.invariant.3
@@ -114,7 +114,7 @@ merge_structs-returns-in-Struct-clause-value t c =
     c.take_fields-among.result.items c.in_ok-fields-in-Struct.fields.items same
     (struct_tree-is c.args.base.value) (fields_in c.args.over.value c.in-Struct.fields is)
     (c.take_fields-among.ensures.fields ∙ ap (λ s. parts (struct_tree s)) lent)
-    c.in_ok-fields-in-Struct.ensures.value
+    c.in_ok-fields-in-Struct.ensures
     (c.set_fields.ensures
     ∙ ap (λ n. tree.structure (text_of n) (tree.named (fields_view c.in_ok-fields-in-Struct.fields.items)))
     name)
