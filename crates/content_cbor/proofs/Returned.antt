@@ -1,5 +1,5 @@
 -- What is read of what CBOR keeps of a value that comes back.
-use Rattle.std.proofs.Common.{◌≡◌, ◌≤◌, ℕ, Bool, true, false, List, None, Some, Ok, Err, Result, IfErr, IsErrAnd, refl, sym, subst, ◌∙◌, ⊎_elim}
+use Rattle.std.proofs.Common.{arith, ◌<◌, IsErr, ◌≡◌, ◌≤◌, ℕ, Bool, true, false, List, None, Some, Ok, Err, Result, IfErr, IsErrAnd, refl, sym, subst, ◌∙◌, ⊎_elim}
 use Rattle.std.specs.declared.alloc.Global.{Global}
 use Rattle.std.specs.declared.vec.Vec.{Vec}
 use Rattle.content_tree.specs.Errors.Kind.{IsOutOfMemory}
@@ -16,6 +16,7 @@ use Rattle.content_cbor.specs.Decoded.{as_read}
 use Rattle.content_cbor.specs.Encoded.{Encoded}
 use Rattle.content_cbor.specs.Form.{depth, form}
 use Rattle.content_cbor.specs.Typed.Kept.{FormComesBack, FormGives, IsKeptOf}
+use Rattle.content_cbor.proofs.Kept.{none_within}
 
 pub kept_back : {A : Type 0} {exists : A → Type 0} {script : ScriptOf A} {refusal : Refusal} {gives : Gives A} {eq : A → A → Bool} → FormComesBack exists script refusal gives eq
     → (x : A) → exists x → (u : Tree) → IsKeptOf (script x false) u → GivesOnly (refusal (as_read u)) (gives (as_read u)) (λ y. eq x y ≡ true)
@@ -41,3 +42,15 @@ pub only_memory : {A : Type 0} {p : Tree → Type 0} (sc : Script) (e : Error) (
 only_memory sc e (Ok y) such s is = absurd is
 only_memory sc e (Err x) such s is =
     subst (λ z. IsOutOfMemory z) (sym is) (⊎_elim (λ memory. memory) (λ stop. let clash : Some stop.0 ≡ None = sym stop.1 ∙ such.free in absurd (cc clash)) s)
+
+-- bytes that a script was encoded as code nothing within a limit that the form of its tree doesn't keep
+pub none_kept : (sc : Script) (limit : ℕ) (bytes : Vec ℕ Global) (lent : List ℕ) (t : Tree) → SpellsWhole (calls_of sc) t → limit < depth (form t) → Encoded sc (Ok bytes) → lent ≡ bytes.items
+    → (u : Tree) → Codes limit u lent → ⊥
+none_kept sc limit bytes lent t spelled past e is u codes =
+    let form_coded : Codes (depth (form e.0)) (form e.0) lent = subst (λ bs. Codes (depth (form e.0)) (form e.0) bs) (sym is) (e.5 (depth (form e.0)) (omega arith)) in
+    none_within limit lent u (form t) past (subst (λ v. Codes (depth (form v)) (form v) lent) (one_tree (calls_of sc) e.0 t e.2 spelled) form_coded) codes
+
+-- such an error is one
+pub is_error : {A : Type 0} (p : Error → Type 0) (r : Result A Error) → IsErrAnd r p → IsErr r
+is_error p (Ok y) is = absurd is
+is_error p (Err e) is = refl

@@ -1,6 +1,6 @@
 //! Typed data that come back from CBOR.
 
-ghost use Rattle.std.specs.Prelude.{◌≡◌, ◌≤◌, true, false, IfOk, IfErr, IsErrAnd};
+ghost use Rattle.std.specs.Prelude.{◌≡◌, ◌≤◌, ◌<◌, true, false, IfOk, IfErr, IsErr, IsErrAnd};
 ghost use Rattle.content_tree.specs.Errors.Kind.{IsOutOfMemory};
 ghost use Rattle.content_tree.specs.Values.Tree.{Tree};
 ghost use Rattle.content_ser.specs.Grammar.Spells.{SpellsWhole};
@@ -78,9 +78,9 @@ pub fn read_back<'de, T: CborRoundTrip<'de>>(
 /// Where the value's item is deeper than the limit; out of memory.
 ///
 /// ```rust
-/// let mut bytes = Vec::new(alloc);
-/// let there = vec![in alloc; Some(1u8), None]?;
-/// assert!(rt; write_and_read_back(alloc, &there, &mut bytes, 2)? == there);
+/// let mut room = Vec::new(alloc);
+/// let list = vec![in alloc; Some(true), None]?;
+/// assert!(rt; write_and_read_back(alloc, &list, &mut room, 2)? == list);
 /// ```
 pub fn write_and_read_back<'de, T: CborRoundTrip<'de>>(
     alloc: Global,
@@ -92,6 +92,8 @@ pub fn write_and_read_back<'de, T: CborRoundTrip<'de>>(
         → depth (form t) ≤ depth_limit → IfOk result (λ back. T.eq value.now back ≡ true) }
     ensures memory { (t : Tree) → SpellsWhole (calls_of (T.script value.now false)) t
         → depth (form t) ≤ depth_limit → IfErr result (λ e. IsOutOfMemory e) }
+    ensures refused { (t : Tree) → SpellsWhole (calls_of (T.script value.now false)) t
+        → depth_limit < depth (form t) → IsErr result }
 {
     value.known();
     *bytes = to_bytes(alloc, value)?;

@@ -1,6 +1,6 @@
 //! What is saved, loaded, and got or saved again.
 
-ghost use Rattle.std.specs.Prelude.{◌≡◌, ◌≤◌, true, IfOk, IfErr};
+ghost use Rattle.std.specs.Prelude.{◌≡◌, ◌≤◌, ◌<◌, true, IfOk, IfErr, IsErr};
 ghost use Rattle.content_cbor.specs.Form.{depth, form};
 ghost use Rattle.content_uses.specs.Records.{records_of};
 ghost use Rattle.content_uses.specs.Saved.{array_of, IsNoMemory, SavedAgain};
@@ -64,6 +64,7 @@ pub fn put_and_reload<'v, 'a, 'n: 'a, T: CborRoundTrip<'v>>(
         → IfOk result (λ back. T.eq item.now back ≡ true) }
     ensures memory { depth (form (array_of (records_of store.new))) ≤ depth_limit
         → IfErr result (λ e. IsNoMemory e) }
+    ensures refused { depth_limit < depth (form (array_of (records_of store.new))) → IsErr result }
 {
     item.known();
     let Ok(number) = store.put(alloc, item) else {

@@ -89,11 +89,11 @@ fn typed_data_come_back(rt: HostRuntime) -> Result<(), Fail> {
     let back: (Option<u8>, i64) = read_back(alloc, &bytes, 2)?;
     assert!(rt; back == (Some(7), -1));
 
-    let mut room = vec![in alloc; 0]?;
+    let mut room = Vec::new(alloc);
     let list = vec![in alloc; Some(true), None]?;
     assert!(rt; write_and_read_back(alloc, &list, &mut room, 2)? == list);
-    let mut room = Vec::new(alloc);
-    assert!(rt; write_and_read_back(alloc, &list, &mut room, 1).is_err());
+    let mut full = vec![in alloc; 0]?;
+    assert!(rt; write_and_read_back(alloc, &list, &mut full, 1).is_err());
 
     let mut map = BTreeMap::new(alloc);
     map.insert(

@@ -1,6 +1,6 @@
 use Rattle.std.proofs.Common.{rules, false}
 use Rattle.serde_content.specs.RoundTrip.{flags}
-use Rattle.content_cbor.proofs.Returned.{kept_in, only_memory}
+use Rattle.content_cbor.proofs.Returned.{is_error, kept_in, none_kept, only_memory}
 use Rattle.content_cbor.proofs.coming_back.write_and_read_back.Goals as goal
 
 pub returns-in_err-bytes-clause-memory : goal.returns-in_err-bytes-clause-memory
@@ -17,3 +17,8 @@ pub returns-clause-memory : goal.returns-clause-memory
 returns-clause-memory g c = λ t spelled le.
     let there = kept_in (g.T.Serialize.script c.args.value.now false) c.args.depth_limit c.in_ok-bytes.field-0 _ t spelled le c.in_ok-bytes.ensures c.deref.ensures.value in
     c.read_back.ensures.memory c.args.value.now there.0 c.known.ensures there.1 there.2
+
+pub returns-clause-refused : goal.returns-clause-refused
+returns-clause-refused g c = λ t spelled past.
+    is_error _ _ (c.read_back.ensures.fault
+    (none_kept (g.T.Serialize.script c.args.value.now false) c.args.depth_limit c.in_ok-bytes.field-0 _ t spelled past c.in_ok-bytes.ensures c.deref.ensures.value))

@@ -1,5 +1,6 @@
-use Rattle.std.proofs.Common.{refl, sym, subst}
-use Rattle.content_cbor.specs.Form.{CodesForm}
+use Rattle.std.proofs.Common.{arith, refl, sym, subst}
+use Rattle.content_cbor.specs.Form.{CodesForm, depth, form}
+use Rattle.content_cbor.proofs.Kept.{none_within}
 use Rattle.content_uses.specs.Records.{records_of}
 use Rattle.content_uses.specs.Saved.{array_of}
 use Rattle.content_uses.proofs.Loaded.{loaded_last, no_memory, put_fits}
@@ -18,3 +19,9 @@ returns-in-Ok-get_loaded-clause-value g c = λ le.
     let codes : CodesForm (array_of rs) c.deref.result.now = subst (CodesForm (array_of rs)) (sym c.deref.ensures.value) c.in-Ok-save.ensures.form in
     let at = loaded_last _ rs _ put.0 _ (c.in_ok-loaded.ensures.saved rs le codes) put.3 put.4 in
     c.in-Ok-get_loaded.ensures.value c.args.item.now _ c.known.ensures at (put.0, put.2, put_fits rs _ put.0 put.3 c.in-Ok-save.ensures.fits, refl)
+
+pub returns-in-Ok-get_loaded-clause-refused : goal.returns-in-Ok-get_loaded-clause-refused
+returns-in-Ok-get_loaded-clause-refused g c = λ past.
+    let rs = records_of c.put.new.self in
+    let codes : CodesForm (array_of rs) c.deref.result.now = subst (CodesForm (array_of rs)) (sym c.deref.ensures.value) c.in-Ok-save.ensures.form in
+    absurd (none_within c.args.depth_limit c.deref.result.now _ (form (array_of rs)) past (codes (depth (form (array_of rs))) (omega arith)) c.in_ok-loaded.ensures.value)
