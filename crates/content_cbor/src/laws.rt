@@ -10,8 +10,8 @@ pub fn one_tree()
 {}
 
 /// The item of a tree codes the tree's form, within each limit that the form keeps, where texts are
-/// UTF-8 and lengths and numbers have room in 64 and 128 bits. Of any value
-/// [`encode`](crate::encode) says so without that premise.
+/// UTF-8, lengths have room in 64 bits and numbers lie in the ranges of their kinds, as those of any
+/// value do: so [`encode`](crate::encode) says it without that premise.
 pub fn items_code_forms()
     ensures { ItemsCodeForms }
 {}
