@@ -104,15 +104,9 @@ fn typed_data_come_back(rt: HostRuntime) -> Result<(), Fail> {
     let mut room = Vec::new(alloc);
     assert!(rt; write_and_read_back(alloc, &map, &mut room, 2)? == map);
 
-    let least = (i8::MIN, i16::MIN, i32::MIN, i64::MIN);
+    let far = (u64::MAX, i64::MIN, u128::MAX, i128::MIN);
     let mut room = Vec::new(alloc);
-    assert!(rt; write_and_read_back(alloc, &least, &mut room, 2)? == least);
-    let most = (u16::MAX, u32::MAX, u64::MAX, u128::MAX);
-    let mut room = Vec::new(alloc);
-    assert!(rt; write_and_read_back(alloc, &most, &mut room, 2)? == most);
-    let sizes = (usize::MAX, isize::MIN, i128::MIN);
-    let mut room = Vec::new(alloc);
-    assert!(rt; write_and_read_back(alloc, &sizes, &mut room, 2)? == sizes);
+    assert!(rt; write_and_read_back(alloc, &far, &mut room, 2)? == far);
 
     // Numbers of another kind that have no room, and bytes that code nothing.
     let refused: serde_content::Result<u8> = read_back(alloc, &[0x19, 1, 0], 1);
