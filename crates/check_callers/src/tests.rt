@@ -8,6 +8,7 @@ mod fields_by_name;
 mod for_people;
 mod hostile;
 mod literals;
+mod merges;
 mod own_structs;
 mod own_types;
 mod readme;

@@ -26,12 +26,12 @@ mod tuple;
 /// A type whose values come back from CBOR: of what [`to_bytes`] wrote of a value, [`read_back`]
 /// reads an equal one.
 ///
-/// So do booleans, `String`, numbers of each kind, and where what they hold does, `Box`, `Vec`,
-/// `BTreeMap`, tuples, and an `Option` of what is [`NotNull`]. Characters, the unit and `Number`
-/// don't, since CBOR has no kinds for them.
+/// It holds of booleans, `String`, whole numbers of each kind, and where it does of what they hold,
+/// of `Box`, `Vec`, `BTreeMap`, tuples, and an `Option` of what is [`NotNull`]. [`from_bytes`] says
+/// of what it doesn't.
 pub trait CborRoundTrip<'de>: RoundTrip<'de> {
-    /// What CBOR keeps of the tree that the calls of a value that exists spell isn't refused, and
-    /// every value that reading it may answer is equal to the value by the type's `==`.
+    /// The calls of a value that exists spell a tree. What CBOR keeps of that, where it fits, isn't
+    /// refused with numbers coerced, and each value that may be read of it is equal by `==`.
     ghost kept: { FormComesBack Self.exists Self.script Self.refusal Self.gives Self.eq };
 }
 
@@ -71,7 +71,8 @@ pub fn read_back<'de, T: CborRoundTrip<'de>>(
     from_bytes(alloc, bytes, depth_limit)
 }
 
-/// A value that is written, to `bytes`, which may hold anything before, and read back: an equal one.
+/// Writes a value, reads it back, and answers an equal one. `bytes` is room for what is written,
+/// which replaces what it held.
 ///
 /// # Errors
 ///

@@ -30,8 +30,8 @@ pub fn heads_are_short()
     ensures { HeadsAreShort }
 {}
 
-/// A form is its own form, and has the item of its tree: so what was decoded and is encoded again
-/// decodes to the same, and encodes to the same.
+/// A form is its own form, and has the item of its tree: so a form that is encoded is decoded as
+/// itself, and what was decoded is encoded as the same bytes each time.
 pub fn forms_stay()
     ensures form { FormsStay }
     ensures item { FormsHaveItems }

@@ -7,7 +7,7 @@ use Rattle.serde_content.specs.Names.Tree.{unit, absent, map, structure, named}
 use Rattle.serde_content.specs.Names.Tree.{Pairs, no_pairs, pair_then, no_fields, field_then}
 use Rattle.content_uses.specs.Merged.{has_key, parts, same_sort, merged}
 
--- a map with no pairs changes no map, and a struct with no fields none of its name
+-- what has no pairs or fields changes nothing of its sort that it is put over
 abbrev pub EmptyChangesNothing : Type 0
 EmptyChangesNothing = (over base : Tree) → same_sort over base ≡ true → parts over ≡ no_pairs
     → merged over base ≡ base
@@ -35,12 +35,12 @@ KeysFind = (key over base : Tree) → same_sort over base ≡ true
 abbrev pub one_pair : (key value : Tree) → Tree
 one_pair k t = map (pair_then k t no_pairs)
 
--- where something that is no map stands between two maps it matters which two are merged first
+-- an example where no map stands between two maps: it matters which two are merged first
 abbrev pub OrderMatters : Type 0
 OrderMatters = merged (merged (one_pair unit unit) unit) (one_pair absent unit)
     ≡ merged (one_pair unit unit) (merged unit (one_pair absent unit)) → ⊥
 
--- and so it does where a struct of another name stands between two of one
+-- and one where a struct of another name stands between two of one
 abbrev pub NameMatters : Type 0
 NameMatters =
     let one_field : (name field : List ℕ) → Tree = λ name field.
@@ -85,7 +85,7 @@ EitherWay = (over middle base : Tree) → KeysOnce over → KeysOnce middle
     → SortsBetween over middle base
     → merged (merged over middle) base ≡ merged over (merged middle base)
 
--- where a key stands twice in what is put over, it matters, though the other premises hold
+-- an example where a key stands twice in what is put over: it matters, with the other premises
 abbrev pub TwiceMatters : Type 0
 TwiceMatters =
     let empty : Tree = map no_pairs in
@@ -95,7 +95,7 @@ TwiceMatters =
     KeysOnce middle × SortsBetween over middle base
     × (merged (merged over middle) base ≡ merged over (merged middle base) → ⊥)
 
--- and so it does where one stands twice in the middle
+-- and one where a key stands twice in the middle
 abbrev pub TwiceBetweenMatters : Type 0
 TwiceBetweenMatters =
     let empty : Tree = map no_pairs in

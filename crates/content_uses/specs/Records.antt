@@ -1,5 +1,6 @@
 -- A store of records: the tree of each, in the order in which they were put.
-use Rattle.std.specs.Prelude.{◌≡◌, ℕ, List, [], ◌∷◌, ◌++◌, None, Result, IsErrAnd, codes, length, map}
+use Rattle.std.specs.Prelude.{◌≡◌, ◌⊎◌, ℕ, List, [], ◌∷◌, ◌++◌, None, Result, IsErrAnd, codes, length}
+use Rattle.std.specs.Prelude.{map}
 use Rattle.serde_content.specs.Names.Words.{IsCustomOrMemory}
 use Rattle.serde_content.specs.Names.Words.{Tree, tree_of, Script, calls_of, stop_of, SpellsWhole}
 use Rattle.serde_content.specs.Names.Words.{Error, kind_of}
@@ -14,6 +15,14 @@ abbrev pub IsPut : Script → (old new : List Tree) → ℕ → Type 0
 IsPut script old new number =
     (t : Tree) × (stop_of script ≡ None) × SpellsWhole (calls_of script) t
     × (new ≡ old ++ t ∷ []) × (number ≡ length old)
+
+-- that tree stands at the end
+abbrev pub IsLast : Script → (old new : List Tree) → Type 0
+IsLast script old new = IsPut script old new (length old)
+
+-- it does, or nothing changed
+abbrev pub MayBeLast : Script → (old new : List Tree) → Type 0
+MayBeLast script old new = (new ≡ old) ⊎ IsLast script old new
 
 -- no record has this number: an error that says so, or memory ran out
 abbrev pub IsUnknown : {A : Type 0} → Result A Error → Type 0

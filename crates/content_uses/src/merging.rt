@@ -46,13 +46,14 @@ impl<'n> Key for CowStr<'n> {
     ghost as_trees = { λ a b. refl };
 }
 
-/// `over` put over `base`: maps key by key, and structs of one name with fields field by field,
-/// deeply; anything else whole, a variant too. The base's keys stay in their order, and new ones
-/// follow in that of `over`. Of equal keys in the base the last takes the value, which is the one
-/// that [`get`](NamedValue::get) finds; equal keys in `over` are put there in turn. So fields.
+/// `over` put over `base`: maps key by key, and structs of one name that have a list of fields
+/// field by field, deeply; anything else whole, a variant too. The base's keys stay in their order,
+/// and new ones follow in that of `over`. Of equal keys in the base the last takes the value, which
+/// is the one that [`get`](NamedValue::get) finds; equal keys in `over` are put there in turn. It
+/// is the same with fields.
 ///
-/// The time is n log n in the number of keys, of which none is copied. Where nothing is merged, it
-/// takes no memory.
+/// It makes n log n comparisons of keys, and copies none. Where nothing is merged, it takes no
+/// memory.
 ///
 /// # Errors
 ///
@@ -70,7 +71,7 @@ pub fn merge<'a, 'n>(
     ensures value { IfOk result (λ whole. tree_of whole ≡ merged (tree_of over.entry)
         (tree_of base.entry)) }
     ensures memory { IfErr result (λ e. IsOutOfMemory e) }
-    // what is of another sort wins whole, and takes no memory
+    // what is of another sort wins whole, and never lacks memory
     ensures other { same_sort (tree_of over.entry) (tree_of base.entry) ≡ false → IsOk result }
 {
     Ok(put_over(alloc, over, base)?)
@@ -306,15 +307,17 @@ fn set_value<'a, 'n, K: Key>(
     pair.1 = value;
 }
 
-/// The laws of merging: an empty map changes no map that it is put over, and a struct without
-/// fields none of its name; what is of another sort wins whole; each key finds what its values, put
-/// over one another, come to.
+/// The laws of merging. Two values are of one sort where both are maps, or structs of one name that
+/// have a list of fields, be it empty. What has no keys changes nothing of its sort that it is put
+/// over; what is of another sort wins whole; each key finds what its values, put over one another,
+/// come to.
 ///
-/// Of three values it doesn't matter which two are merged first, under two premises: no key stands
-/// twice in the two that are put over, and where both outer ones are of one sort along a path of
-/// keys, the middle one is too, or has nothing there. Otherwise it may matter, as an example of
-/// each shows: one has something that is no map between two maps, one a struct of another name
-/// between two of one, the others a key that stands twice, in what is put over or in the middle.
+/// Of three values it doesn't matter which two are merged first, under two premises: in neither of
+/// the two that are put over has any map or struct, however deep, one key twice, and where both
+/// outer ones are of one sort along a path of keys, the middle one is too, or has nothing there.
+/// Otherwise it may matter, as an example of each shows: one has something that is no map between
+/// two maps, one a struct of another name between two of one, the others a key that stands twice,
+/// in what is put over or in the middle.
 pub fn merging_laws()
     ensures empty { EmptyChangesNothing }
     ensures whole { OtherSortWins }

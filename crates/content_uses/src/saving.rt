@@ -1,8 +1,8 @@
 //! What is saved, loaded, and got or saved again.
 
-ghost use Rattle.std.specs.Prelude.{◌≡◌, ◌≤◌, ◌<◌, true, IfOk, IfErr, IsErr};
+ghost use Rattle.std.specs.Prelude.{◌≡◌, ◌≤◌, ◌<◌, true, false, IfOk, IfErr, IsErr};
 ghost use Rattle.content_cbor.specs.Form.{depth, form};
-ghost use Rattle.content_uses.specs.Records.{records_of};
+ghost use Rattle.content_uses.specs.Records.{records_of, IsLast, MayBeLast};
 ghost use Rattle.content_uses.specs.Saved.{array_of, IsNoMemory, SavedAgain};
 
 use crate::load_error::LoadError;
@@ -18,8 +18,7 @@ pub fn saved_again()
     forms_stay();
 }
 
-/// The bytes that a store is saved as, and those that what is loaded from them is saved as: the
-/// same.
+/// The bytes that a store is saved as, and those of what is then loaded and saved again: the same.
 ///
 /// # Errors
 ///
@@ -48,7 +47,8 @@ pub fn save_twice<'v, 'n: 'v>(
 }
 
 /// What is put, saved with its store, loaded and got is equal to what was put, at any type whose
-/// values come back from CBOR. The bytes are written to `bytes`, which may hold anything before.
+/// values come back from CBOR. `bytes` is room for what is saved, which replaces what it held. Where
+/// it fails it may have been put.
 ///
 /// # Errors
 ///
@@ -65,6 +65,10 @@ pub fn put_and_reload<'v, 'a, 'n: 'a, T: CborRoundTrip<'v>>(
     ensures memory { depth (form (array_of (records_of store.new))) ≤ depth_limit
         → IfErr result (λ e. IsNoMemory e) }
     ensures refused { depth_limit < depth (form (array_of (records_of store.new))) → IsErr result }
+    ensures put { IfOk result (λ back. IsLast (T.script item.now false) (records_of store.old)
+        (records_of store.new)) }
+    ensures kept { IfErr result (λ e. MayBeLast (T.script item.now false) (records_of store.old)
+        (records_of store.new)) }
 {
     item.known();
     let Ok(number) = store.put(alloc, item) else {

@@ -5,6 +5,7 @@ ghost use Rattle.std.specs.Prelude.{IfOk, IfErr, OnOk, List, option_map};
 ghost use Rattle.serde_content.specs.Names.Words.{items_in, trees_of, trees_view};
 ghost use Rattle.serde_content.specs.Names.Words.{Tree, IsOutOfMemory, SpellsWhole, calls_of};
 ghost use Rattle.serde_content.specs.Names.Words.{stop_of, tree_of, Reads, no_flags, tree_under};
+ghost use Rattle.content_uses.specs.Records.{records_of, IsLast, IsPut, IsUnknown, MayBeLast};
 
 pub use crate::load_error::LoadError;
 use content_cbor::{CborRoundTrip, decode, encode_array};
@@ -23,10 +24,9 @@ use std::result::Result as StdResult;
 /// assert!(rt; point == Point { x: 1, y: 2 });
 /// ```
 ///
-/// They are saved as CBOR. [`get_loaded`](Store::get_loaded) reads back what was loaded, where the
-/// type's values come back from CBOR, and [`view_coerced`](Store::view_coerced) views it as any
-/// type: a character, the unit and a unit struct are refused then, since they are texts and null by
-/// then, and `Some` of null is `None`.
+/// They are saved as CBOR. [`get_loaded`](Store::get_loaded) gets what was loaded, where the type's
+/// values come back from CBOR. [`view_coerced`](Store::view_coerced) views it as any type: what
+/// CBOR didn't keep is then refused, or another value.
 ///
 /// ```rust
 /// let bytes = store.save(alloc)?;
@@ -39,7 +39,6 @@ pub struct Store<'v, 'n> {
 }
 
 impl<'v, 'n: 'v> Store<'v, 'n> {
-    ghost use Rattle.content_uses.specs.Records.{records_of, IsPut, IsUnknown};
     ghost use Rattle.content_uses.specs.Saved.{array_of};
     ghost use Rattle.content_cbor.specs.Decoded.{as_read};
     ghost use Rattle.content_cbor.specs.Form.{CodesForm, EachFits};
@@ -80,8 +79,8 @@ impl<'v, 'n: 'v> Store<'v, 'n> {
         Ok(number)
     }
 
-    /// The record of this number, of which a copy is read as a type: one of another type is refused
-    /// with what was found and what was expected.
+    /// The record of this number, of which a copy is read as a type. What the type doesn't take is
+    /// refused with what was found and what was expected; names of types aren't compared.
     ///
     /// # Errors
     ///
@@ -134,8 +133,8 @@ impl<'v, 'n: 'v> Store<'v, 'n> {
         from_value(alloc, copy, false)
     }
 
-    /// The record of this number in a store that was loaded, which was put as this type before it
-    /// was saved: an equal one.
+    /// The record of this number, which was put as this type, before the store was saved or since
+    /// it was loaded: an equal one.
     ///
     /// # Errors
     ///
@@ -151,6 +150,13 @@ impl<'v, 'n: 'v> Store<'v, 'n> {
         ensures memory { (x : T) (t : Tree) → T.exists x
             → slice_get (records_of self.now) number ≡ Some t
             → IsKeptOf (T.script x false) t → IfErr result (λ e. IsOutOfMemory e) }
+        // where it is what was put as x since
+        ensures put { (x : T) (t : Tree) → T.exists x
+            → slice_get (records_of self.now) number ≡ Some t
+            → SpellsWhole (calls_of (T.script x false)) t → IfOk result (λ y. T.eq x y ≡ true) }
+        ensures put_memory { (x : T) (t : Tree) → T.exists x
+            → slice_get (records_of self.now) number ≡ Some t
+            → SpellsWhole (calls_of (T.script x false)) t → IfErr result (λ e. IsOutOfMemory e) }
         ensures unknown { slice_get (records_of self.now) number ≡ None → IsUnknown result }
     {
         self.view_coerced(alloc, number)
@@ -191,7 +197,6 @@ impl<'v, 'n: 'v> Store<'v, 'n> {
 impl<'v> Store<'v, 'static> {
     ghost use Rattle.content_cbor.specs.Codes.{Codes};
     ghost use Rattle.content_cbor.specs.Form.{CodesForm, depth, form};
-    ghost use Rattle.content_uses.specs.Records.{records_of};
     ghost use Rattle.content_uses.specs.Saved.{array_of, forms, IsLoadedAs, StopsLoading};
 
     /// The records that one array of CBOR codes, in order, as [`decode`] reads each.
@@ -234,7 +239,8 @@ fn into_items<'v, 'n>(value: NamedValue<'v, 'n>) -> Option<Vec<NamedValue<'v, 'n
     }
 }
 
-/// What is put and then got is equal to what was put, at any type whose values come back.
+/// What is put and then got is equal to what was put, at any type whose values come back. Where it
+/// fails it may have been put.
 pub fn put_and_get<'v, 'n: 'v, T: RoundTrip<'v>>(
     alloc: Global,
     store: &mut Store<'v, 'n>,
@@ -242,6 +248,10 @@ pub fn put_and_get<'v, 'n: 'v, T: RoundTrip<'v>>(
 ) -> Result<T>
     ensures value { IfOk result (λ back. T.eq item.now back ≡ true) }
     ensures memory { IfErr result (λ e. IsOutOfMemory e) }
+    ensures put { IfOk result (λ back. IsLast (T.script item.now false) (records_of store.old)
+        (records_of store.new)) }
+    ensures kept { IfErr result (λ e. MayBeLast (T.script item.now false) (records_of store.old)
+        (records_of store.new)) }
 {
     item.known();
     let number = store.put(alloc, item)?;

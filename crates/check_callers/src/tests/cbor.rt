@@ -33,6 +33,12 @@ fn bytes_of_values(rt: HostRuntime) -> Result<(), Fail> {
     // One item after another.
     let (value, length) = decode_prefix(alloc, &[0x61, b'a', 0x01], 16)?;
     assert!(rt; value == Value::from("a") && length == 2);
+    Ok(())
+}
+
+#[test]
+fn bytes_of_typed_data(rt: HostRuntime) -> Result<(), Fail> {
+    let alloc = rt.alloc();
 
     // What can be serialised, and is read again as typed data.
     let bytes = to_bytes(alloc, &(Some(7u8), "a", false))?;
@@ -64,11 +70,20 @@ fn what_is_kept_of_values(rt: HostRuntime) -> Result<(), Fail> {
             assert!(rt; text.as_str() == "refused at byte 0: items nest too deep");
         }
     }
+    Ok(())
+}
 
+#[test]
+fn several_values_are_one_array(rt: HostRuntime) -> Result<(), Fail> {
+    let alloc = rt.alloc();
     let bytes = encode_array(alloc, &[Value::from(1u8), Value::from("a")])?;
     assert!(rt; bytes.as_slice() == [0x82, 0x01, 0x61, b'a'].as_slice());
+    Ok(())
+}
 
-    // Typed data of bytes that code nothing.
+#[test]
+fn other_bytes_are_no_typed_data(rt: HostRuntime) -> Result<(), Fail> {
+    let alloc = rt.alloc();
     let refused: serde_content::Result<u8> = from_bytes(alloc, &[0xf9, 0, 0], 16);
     match refused {
         Ok(_) => assert!(rt; false),
@@ -89,6 +104,21 @@ fn typed_data_come_back(rt: HostRuntime) -> Result<(), Fail> {
     let back: (Option<u8>, i64) = read_back(alloc, &bytes, 2)?;
     assert!(rt; back == (Some(7), -1));
 
+    let far = (u64::MAX, i64::MIN, u128::MAX, i128::MIN);
+    let mut room = Vec::new(alloc);
+    assert!(rt; write_and_read_back(alloc, &far, &mut room, 2)? == far);
+
+    // Numbers of another kind that have no room, and bytes that code nothing.
+    let refused: serde_content::Result<u8> = read_back(alloc, &[0x19, 1, 0], 1);
+    assert!(rt; refused.is_err());
+    let refused: serde_content::Result<u8> = read_back(alloc, &[0x19, 1], 1);
+    assert!(rt; refused.is_err());
+    Ok(())
+}
+
+#[test]
+fn lists_and_maps_come_back(rt: HostRuntime) -> Result<(), Fail> {
+    let alloc = rt.alloc();
     let mut room = Vec::new(alloc);
     let list = vec![in alloc; Some(true), None]?;
     assert!(rt; write_and_read_back(alloc, &list, &mut room, 2)? == list);
@@ -103,15 +133,5 @@ fn typed_data_come_back(rt: HostRuntime) -> Result<(), Fail> {
     map.insert(String::from_str(alloc, "b")?, Box::new(alloc, 0)?)?;
     let mut room = Vec::new(alloc);
     assert!(rt; write_and_read_back(alloc, &map, &mut room, 2)? == map);
-
-    let far = (u64::MAX, i64::MIN, u128::MAX, i128::MIN);
-    let mut room = Vec::new(alloc);
-    assert!(rt; write_and_read_back(alloc, &far, &mut room, 2)? == far);
-
-    // Numbers of another kind that have no room, and bytes that code nothing.
-    let refused: serde_content::Result<u8> = read_back(alloc, &[0x19, 1, 0], 1);
-    assert!(rt; refused.is_err());
-    let refused: serde_content::Result<u8> = read_back(alloc, &[0x19, 1], 1);
-    assert!(rt; refused.is_err());
     Ok(())
 }

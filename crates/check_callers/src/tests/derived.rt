@@ -84,7 +84,7 @@ fn choices_are_read(rt: HostRuntime) -> Result<(), Fail> {
         Setting::Flag(true),
         Setting::Level(-1),
         Setting::Range(1, 2),
-        Setting::Name(text(alloc, "x")?),
+        Setting::Name(String::from_str(alloc, "x")?),
     ] {
         assert!(rt; round_trip(alloc, &setting, false, false)? == setting);
     }

@@ -7,7 +7,6 @@ use serde_content::samples::Point;
 use serde_content::{
     CowStr, Data, Deserializer, Result as Answer, Serializer, Struct, Value, value,
 };
-use std::alloc::Global;
 use std::test::Fail;
 
 #[test]
@@ -23,18 +22,24 @@ fn records_are_kept(rt: HostRuntime) -> Result<(), Fail> {
     let number: Option<u8> = store.get(alloc, second)?;
     assert!(rt; number == Some(7));
 
-    // One that is viewed as another type is refused.
-    let other: Answer<bool> = store.view(alloc, first);
+    // What the type doesn't take is refused.
+    let other: serde_content::Result<bool> = store.view(alloc, first);
     let text = match other {
         Ok(_) => String::new(alloc),
         Err(error) => format!(in alloc; "{error}")?,
     };
     let wanted = "failed to deserialize; expected a boolean, found Point { x: 1i32, y: 2i32 }";
     assert!(rt; text.as_str() == wanted);
+    Ok(())
+}
 
+#[test]
+fn what_is_put_is_got(rt: HostRuntime) -> Result<(), Fail> {
+    let alloc = rt.alloc();
+    let mut store = Store::new(alloc);
     assert!(rt; put_and_get(alloc, &mut store, &'c')? == 'c');
-    assert!(rt; store.len() == 3);
-    let none: Answer<bool> = store.view(alloc, 3);
+    assert!(rt; store.len() == 1);
+    let none: Answer<bool> = store.view(alloc, 1);
     assert!(rt; none.is_err());
     Ok(())
 }
@@ -43,7 +48,7 @@ fn records_are_kept(rt: HostRuntime) -> Result<(), Fail> {
 fn records_are_saved(rt: HostRuntime) -> Result<(), Fail> {
     let alloc = rt.alloc();
     let mut store = Store::new(alloc);
-    let number = store.put(alloc, &Point { x: 1, y: 2 })?;
+    let first = store.put(alloc, &Point { x: 1, y: 2 })?;
     store.put(alloc, &Some(7u8))?;
 
     // One array of CBOR, and the records from it.
@@ -51,23 +56,46 @@ fn records_are_saved(rt: HostRuntime) -> Result<(), Fail> {
     let wanted = [0x82, 0xa2, 0x61, b'x', 0x01, 0x61, b'y', 0x02, 0x07];
     assert!(rt; bytes.as_slice() == wanted.as_slice());
     let loaded = Store::load(alloc, &bytes, 64)?;
-    let point: Point = loaded.get_loaded(alloc, number)?;
+    let point: Point = loaded.get_loaded(alloc, first)?;
     assert!(rt; point == Point { x: 1, y: 2 });
-
-    let wide: Option<u64> = loaded.view_coerced(alloc, 1)?;
-    assert!(rt; wide == Some(7));
     let none: Answer<Point> = loaded.get_loaded(alloc, 2);
     assert!(rt; none.is_err());
+    Ok(())
+}
 
-    let (first, second) = save_twice(alloc, &store, 64)?;
+#[test]
+fn loaded_records_are_read_and_joined(rt: HostRuntime) -> Result<(), Fail> {
+    let alloc = rt.alloc();
+    let mut loaded = Store::load(alloc, &[0x81, 0x07], 2)?;
+    let wide: Option<u64> = loaded.view_coerced(alloc, 0)?;
+    assert!(rt; wide == Some(7));
+    let since = loaded.put(alloc, &Some(9u16))?;
+    let number: Option<u16> = loaded.get_loaded(alloc, since)?;
+    assert!(rt; number == Some(9));
+
+    let (first, second) = save_twice(alloc, &loaded, 2)?;
+    assert!(rt; first.as_slice() == [0x82, 0x07, 0x09].as_slice());
     assert!(rt; first.as_slice() == second.as_slice());
+    Ok(())
+}
 
-    let mut room = Vec::new(alloc);
+#[test]
+fn what_is_put_is_reloaded(rt: HostRuntime) -> Result<(), Fail> {
+    let alloc = rt.alloc();
+    let mut store = Store::new(alloc);
     let point = Point { x: -3, y: 4 };
-    assert!(rt; put_and_reload(alloc, &mut store, &point, &mut room, 64)? == point);
-    assert!(rt; store.len() == 3);
+    let mut room = Vec::new(alloc);
+    assert!(rt; put_and_reload(alloc, &mut store, &point, &mut room, 2)? == point);
+    assert!(rt; store.len() == 1);
+    let mut full = vec![in alloc; 0]?;
+    assert!(rt; put_and_reload(alloc, &mut store, &point, &mut full, 1).is_err());
+    assert!(rt; store.len() == 2);
+    Ok(())
+}
 
-    // What is no array, and what can't be decoded.
+#[test]
+fn other_bytes_are_no_records(rt: HostRuntime) -> Result<(), Fail> {
+    let alloc = rt.alloc();
     let cases = [
         ([0x07, 0xf6], "refused at byte 1: bytes behind the item"),
         ([0x61, b'a'], "no array of records"),
@@ -100,6 +128,12 @@ fn configurations_are_merged(rt: HostRuntime) -> Result<(), Fail> {
     let wanted =
         r#"{ "name": "serve", "limits": { "depth": 8u8, "size": 200u8 }, "colour": true }"#;
     assert!(rt; text.as_str() == wanted);
+    Ok(())
+}
+
+#[test]
+fn defaults_are_put_under_fields(rt: HostRuntime) -> Result<(), Fail> {
+    let alloc = rt.alloc();
 
     // A struct of one field over typed defaults.
     let defaults = Serializer::new().serialize(alloc, &Point { x: 1, y: 2 })?;
@@ -122,103 +156,5 @@ fn maps_are_put_over_plain_structs(rt: HostRuntime) -> Result<(), Fail> {
     let merged = merge(alloc, value!(in alloc; { "y": 7i32 })?, defaults)?;
     let point: Point = Deserializer::new(merged).deserialize(alloc)?;
     assert!(rt; point == Point { x: 1, y: 7 });
-    Ok(())
-}
-
-/// A field of a struct.
-type Field = (CowStr<'static>, Value<'static>);
-
-/// A field with a number.
-fn field(name: &'static str, number: u8) -> Field {
-    (CowStr::Borrowed(name), Value::from(number))
-}
-
-/// A struct with these fields.
-fn structure(alloc: Global, name: &'static str, fields: Vec<Field>) -> Answer<Value<'static>> {
-    let inner = Struct {
-        name: CowStr::Borrowed(name),
-        data: Data::Struct { fields },
-    };
-    Ok(Value::Struct(Box::new(alloc, inner)?))
-}
-
-/// A unit struct.
-fn unit_struct(alloc: Global, name: &'static str) -> Answer<Value<'static>> {
-    let inner = Struct {
-        name: CowStr::Borrowed(name),
-        data: Data::Unit,
-    };
-    Ok(Value::Struct(Box::new(alloc, inner)?))
-}
-
-/// One value put over another, printed.
-fn printed(alloc: Global, over: Value<'static>, base: Value<'static>) -> Answer<String> {
-    Ok(format!(in alloc; "{}", merge(alloc, over, base)?.display())?)
-}
-
-#[test]
-fn structs_of_one_name_are_merged(rt: HostRuntime) -> Result<(), Fail> {
-    let alloc = rt.alloc();
-
-    // What the base has keeps its place, and what is new comes last.
-    let base = structure(alloc, "A", vec![in alloc; field("x", 1), field("y", 2)]?)?;
-    let over = structure(alloc, "A", vec![in alloc; field("z", 3), field("y", 4)]?)?;
-    let text = printed(alloc, over, base)?;
-    assert!(rt; text.as_str() == "A { x: 1u8, y: 4u8, z: 3u8 }");
-
-    // A field twice in the base, and one twice in what is put over it.
-    let base = structure(alloc, "A", vec![in alloc; field("x", 1), field("x", 2)]?)?;
-    let over = structure(alloc, "A", vec![in alloc; field("x", 3), field("x", 4)]?)?;
-    let text = printed(alloc, over, base)?;
-    assert!(rt; text.as_str() == "A { x: 1u8, x: 4u8 }");
-
-    // A map in a struct in a map.
-    let map = value!(in alloc; { "a": 1u8, "b": 2u8 })?;
-    let base = structure(alloc, "A", vec![in alloc; (CowStr::Borrowed("m"), map)]?)?;
-    let base = Value::Map(vec![in alloc; (Value::from("s"), base)]?);
-    let map = value!(in alloc; { "b": 3u8 })?;
-    let over = structure(alloc, "A", vec![in alloc; (CowStr::Borrowed("m"), map)]?)?;
-    let over = Value::Map(vec![in alloc; (Value::from("s"), over)]?);
-    let text = printed(alloc, over, base)?;
-    assert!(rt; text.as_str() == r#"{ "s": A { m: { "a": 1u8, "b": 3u8 } } }"#);
-    Ok(())
-}
-
-#[test]
-fn other_structs_are_put_over_whole(rt: HostRuntime) -> Result<(), Fail> {
-    let alloc = rt.alloc();
-
-    // A struct of another name.
-    let base = structure(alloc, "A", vec![in alloc; field("x", 1)]?)?;
-    let over = structure(alloc, "B", vec![in alloc; field("y", 2)]?)?;
-    let text = printed(alloc, over, base)?;
-    assert!(rt; text.as_str() == "B { y: 2u8 }");
-
-    // One without fields, over one with and below it.
-    let base = structure(alloc, "A", vec![in alloc; field("x", 1)]?)?;
-    let text = printed(alloc, unit_struct(alloc, "A")?, base)?;
-    assert!(rt; text.as_str() == "A");
-    let over = structure(alloc, "A", vec![in alloc; field("x", 1)]?)?;
-    let text = printed(alloc, over, unit_struct(alloc, "A")?)?;
-    assert!(rt; text.as_str() == "A { x: 1u8 }");
-
-    // A struct over a map, and a map over a struct.
-    let over = structure(alloc, "A", vec![in alloc; field("x", 1)]?)?;
-    let text = printed(alloc, over, value!(in alloc; { "y": 2u8 })?)?;
-    assert!(rt; text.as_str() == "A { x: 1u8 }");
-    let base = structure(alloc, "A", vec![in alloc; field("x", 1)]?)?;
-    let text = printed(alloc, value!(in alloc; { "y": 2u8 })?, base)?;
-    assert!(rt; text.as_str() == r#"{ "y": 2u8 }"#);
-    Ok(())
-}
-
-#[test]
-fn the_last_of_equal_keys_is_put_over(rt: HostRuntime) -> Result<(), Fail> {
-    let alloc = rt.alloc();
-    let base = value!(in alloc; { "a": true, "a": false })?;
-    let merged = merge(alloc, value!(in alloc; { "a": 1u8 })?, base)?;
-    let text = format!(in alloc; "{}", merged.display())?;
-    assert!(rt; text.as_str() == r#"{ "a": true, "a": 1u8 }"#);
-    assert!(rt; merge(alloc, Value::Unit, merged)? == Value::Unit);
     Ok(())
 }
