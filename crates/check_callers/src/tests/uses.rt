@@ -85,10 +85,10 @@ fn what_is_put_is_reloaded(rt: HostRuntime) -> Result<(), Fail> {
     let mut store = Store::new(alloc);
     let point = Point { x: -3, y: 4 };
     let mut room = Vec::new(alloc);
-    assert!(rt; put_and_reload(alloc, &mut store, &point, &mut room, 2)? == point);
+    assert!(rt; put_and_reload(alloc, &mut store, &point, &mut room, 3)? == point);
     assert!(rt; store.len() == 1);
     let mut full = vec![in alloc; 0]?;
-    assert!(rt; put_and_reload(alloc, &mut store, &point, &mut full, 1).is_err());
+    assert!(rt; put_and_reload(alloc, &mut store, &point, &mut full, 2).is_err());
     assert!(rt; store.len() == 2);
     Ok(())
 }
