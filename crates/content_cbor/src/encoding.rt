@@ -30,7 +30,7 @@ use std::result::Result as StdResult;
 /// A struct's fields and a map are a map; a sequence, a tuple and what is held by place an array; a
 /// character is a text; the unit, `None` and a unit struct are null; `Some` and a newtype struct
 /// are what they hold. A unit variant is its name, and any other a map from its name to what it
-/// holds. A number below −2^64 or past 2^64 − 1 goes as bytes under tag 2 or 3.
+/// holds. A number below -2^64 or past 2^64 - 1 goes as bytes under tag 2 or 3.
 ///
 /// It takes memory for the bytes alone, and stack as deep as the value nests.
 ///
