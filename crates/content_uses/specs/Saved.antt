@@ -1,6 +1,6 @@
 -- Records as CBOR.
-use Rattle.std.specs.Prelude.{◌≡◌, ℕ, List, None, Result, Ok, Err, map}
-use Rattle.serde_content.specs.Names.Words.{items_in, Tree}
+use Rattle.std.specs.Prelude.{◌≡◌, ◌⊎◌, ℕ, List, None, Result, Ok, Err, map}
+use Rattle.serde_content.specs.Names.Words.{items_in, Tree, Script, calls_of, SpellsWhole}
 use Rattle.serde_content.specs.Names.Tree.{seq}
 use Rattle.serde_content.specs.Names.Words.{trees_of}
 use Rattle.content_cbor.specs.Codes.{Codes}
@@ -8,6 +8,7 @@ use Rattle.content_cbor.specs.Decoded.{IsPlaced, StopsAt}
 use Rattle.content_cbor.specs.Form.{form}
 use Rattle.content_cbor.specs.Inner.Reading.{whole_at}
 use Rattle.content_cbor.specs.Item.{item}
+use Rattle.content_cbor.specs.Typed.Kept.{IsKeptOf}
 use Rattle.content_cbor.specs.declared.decode_error.DecodeError.TheVariants as decoding
 use Rattle.content_uses.specs.Records.{records_of}
 use Rattle.content_uses.specs.declared.load_error.LoadError.{LoadError}
@@ -21,6 +22,10 @@ array_of ts = seq (trees_of ts)
 -- what CBOR keeps of each record
 abbrev pub forms : List Tree → List Tree
 forms ts = map form ts
+
+-- what a script put since a store was loaded, or what CBOR keeps of what it put before
+abbrev pub IsLoadedOf : Script → Tree → Type 0
+IsLoadedOf script t = SpellsWhole (calls_of script) t ⊎ IsKeptOf script t
 
 -- memory ran out
 abbrev pub IsNoMemory : LoadError → Type 0

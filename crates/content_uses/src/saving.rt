@@ -47,8 +47,8 @@ pub fn save_twice<'v, 'n: 'v>(
 }
 
 /// What is put, saved with its store, loaded and got is equal to what was put, at any type whose
-/// values come back from CBOR. `bytes` is room for what is saved, which replaces what it held. Where
-/// it fails it may have been put.
+/// values come back from CBOR. `bytes` is room for what is saved, which replaces what it held.
+/// Where it fails it may have been put.
 ///
 /// # Errors
 ///

@@ -39,11 +39,10 @@ pub struct Store<'v, 'n> {
 }
 
 impl<'v, 'n: 'v> Store<'v, 'n> {
-    ghost use Rattle.content_uses.specs.Saved.{array_of};
+    ghost use Rattle.content_uses.specs.Saved.{array_of, IsLoadedOf};
     ghost use Rattle.content_cbor.specs.Decoded.{as_read};
     ghost use Rattle.content_cbor.specs.Form.{CodesForm, EachFits};
     ghost use Rattle.content_cbor.specs.Item.{item};
-    ghost use Rattle.content_cbor.specs.Typed.Kept.{IsKeptOf};
 
     /// No records. It takes no memory.
     pub fn new(alloc: Global) -> Store<'v, 'n>
@@ -143,20 +142,13 @@ impl<'v, 'n: 'v> Store<'v, 'n> {
     pub fn get_loaded<T: CborRoundTrip<'v>>(&self, alloc: Global, number: usize) -> Result<T>
         ensures read { (t : Tree) → slice_get (records_of self.now) number ≡ Some t
             → Reads (T.refusal (as_read t)) (T.gives (as_read t)) result }
-        // where it is what CBOR keeps of what was put as x
+        // where it is what was put as x, or what CBOR keeps of that
         ensures value { (x : T) (t : Tree) → T.exists x
             → slice_get (records_of self.now) number ≡ Some t
-            → IsKeptOf (T.script x false) t → IfOk result (λ y. T.eq x y ≡ true) }
+            → IsLoadedOf (T.script x false) t → IfOk result (λ y. T.eq x y ≡ true) }
         ensures memory { (x : T) (t : Tree) → T.exists x
             → slice_get (records_of self.now) number ≡ Some t
-            → IsKeptOf (T.script x false) t → IfErr result (λ e. IsOutOfMemory e) }
-        // where it is what was put as x since
-        ensures put { (x : T) (t : Tree) → T.exists x
-            → slice_get (records_of self.now) number ≡ Some t
-            → SpellsWhole (calls_of (T.script x false)) t → IfOk result (λ y. T.eq x y ≡ true) }
-        ensures put_memory { (x : T) (t : Tree) → T.exists x
-            → slice_get (records_of self.now) number ≡ Some t
-            → SpellsWhole (calls_of (T.script x false)) t → IfErr result (λ e. IsOutOfMemory e) }
+            → IsLoadedOf (T.script x false) t → IfErr result (λ e. IsOutOfMemory e) }
         ensures unknown { slice_get (records_of self.now) number ≡ None → IsUnknown result }
     {
         self.view_coerced(alloc, number)

@@ -42,8 +42,8 @@ fn values_are_put_over_one_another(rt: HostRuntime) -> Result<(), Fail> {
         ),
         // A map in a struct in a map.
         (
-            "map; key; u8 7; value; struct Foo 1; field x; map; key; str b; value; u8 3; end; end; end",
-            "map; key; u8 7; value; struct Foo 1; field x; map; key; str a; value; u8 1; end; end; end",
+            "map; entry; u8 7; struct Foo 1; field x; map; entry; str b; u8 3; end; end; end",
+            "map; entry; u8 7; struct Foo 1; field x; map; entry; str a; u8 1; end; end; end",
             r#"{ 7u8: Foo { x: { "a": 1u8, "b": 3u8 } } }"#,
         ),
         // A number of another kind is another key.

@@ -1,4 +1,4 @@
-use Rattle.std.proofs.Common.{arith, refl, sym, subst}
+use Rattle.std.proofs.Common.{arith, inr, refl, sym, subst}
 use Rattle.content_cbor.specs.Form.{CodesForm, depth, form}
 use Rattle.content_cbor.proofs.Kept.{none_within}
 use Rattle.content_uses.specs.Records.{records_of}
@@ -18,7 +18,7 @@ returns-in-Ok-get_loaded-clause-value g c = λ le.
     let put = c.in-Ok.ensures.put in
     let codes : CodesForm (array_of rs) c.deref.result.now = subst (CodesForm (array_of rs)) (sym c.deref.ensures.value) c.in-Ok-save.ensures.form in
     let at = loaded_last _ rs _ put.0 _ (c.in_ok-loaded.ensures.saved rs le codes) put.3 put.4 in
-    c.in-Ok-get_loaded.ensures.value c.args.item.now _ c.known.ensures at (put.0, put.2, put_fits rs _ put.0 put.3 c.in-Ok-save.ensures.fits, refl)
+    c.in-Ok-get_loaded.ensures.value c.args.item.now _ c.known.ensures at (inr (put.0, put.2, put_fits rs _ put.0 put.3 c.in-Ok-save.ensures.fits, refl))
 
 pub returns-in-Ok-get_loaded-clause-refused : goal.returns-in-Ok-get_loaded-clause-refused
 returns-in-Ok-get_loaded-clause-refused g c = λ past.
