@@ -1,11 +1,13 @@
-//! Makes each call that is promised to take no memory, and calls that say where it ran out: a probe
-//! is wrong where the answer is another, whichever allocations are refused.
+//! Makes each call that is promised to take no memory, calls that say where it ran out, and those
+//! of CBOR and its uses: a probe is wrong where the answer is another, whichever allocations are
+//! refused.
 #![tactic(auto)]
 
 mod lists;
 mod nodes;
 mod reading;
 mod tally;
+mod uses;
 mod values;
 mod variants;
 mod writing;
@@ -20,7 +22,8 @@ fn make_calls(tally: &mut Tally, alloc: Global) -> Made<()> {
     reading::run(tally, alloc)?;
     variants::run(tally, alloc)?;
     writing::run(tally, alloc)?;
-    lists::run(tally, alloc)
+    lists::run(tally, alloc)?;
+    uses::run(tally, alloc)
 }
 
 /// The status: that of [`Tally::end`], or 4 where its write failed.

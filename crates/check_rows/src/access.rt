@@ -4,7 +4,7 @@ use crate::answer::Answer;
 use crate::deserializer::{write_handed, write_inside};
 use crate::flags::{Flags, flags_word};
 use crate::show::{write_comma, write_text};
-use serde_content::de::{Map, Node, Seq, VariantAccess};
+use serde_content::de::{EnumAccess, Map, Node, Seq, VariantAccess};
 use serde_content::{CowStr, Deserializer, Error, ErrorKind, Expected, Found, Result};
 use std::alloc::Global;
 
@@ -59,22 +59,36 @@ fn write_entry(
     Ok(true)
 }
 
-/// The tag of the variant that is there, and what it holds: requested under a name, or as whatever
-/// is there.
+/// The variant that a node is.
+fn enum_of<'de>(node: Node<'de, 'static>) -> Option<EnumAccess<'de, 'static>> {
+    match node {
+        Node::Enum(access) => Some(access),
+        _ => None,
+    }
+}
+
+/// The variant that is there: requested under a name, or as whatever is there.
+fn request_enum<'de>(
+    alloc: Global,
+    from: Deserializer<'de, 'static>,
+    name: Option<&'static str>,
+) -> Result<Option<EnumAccess<'de, 'static>>> {
+    match name {
+        Some(name) => from.deserialize_enum(alloc, name, &[]).map(Some),
+        None => from.deserialize_any(alloc).map(enum_of),
+    }
+}
+
+/// The tag of the variant that is there, and what it holds.
 fn open<'de>(
     alloc: Global,
     from: &Deserializer<'de, 'static>,
     name: Option<&'static str>,
 ) -> Result<Option<(Deserializer<'de, 'static>, VariantAccess<'de, 'static>)>> {
-    let from = from.try_clone(alloc)?;
-    let access = match name {
-        Some(name) => from.deserialize_enum(alloc, name, &[])?,
-        None => match from.deserialize_any(alloc)? {
-            Node::Enum(access) => access,
-            _ => return Ok(None),
-        },
-    };
-    Ok(Some(access.variant_deserializer(alloc)?))
+    match request_enum(alloc, from.try_clone(alloc)?, name)? {
+        Some(access) => access.variant_deserializer(alloc).map(Some),
+        None => Ok(None),
+    }
 }
 
 /// The tag of the variant that is there.
@@ -99,6 +113,16 @@ fn variant_of<'de>(
         Some((_tag, variant)) => Ok(Some(variant)),
         None => Ok(None),
     }
+}
+
+/// The same, twice.
+fn variants_of<'de>(
+    alloc: Global,
+    from: &Deserializer<'de, 'static>,
+    name: Option<&'static str>,
+) -> Result<Option<(VariantAccess<'de, 'static>, VariantAccess<'de, 'static>)>> {
+    let variant = variant_of(alloc, from, name)?;
+    Ok(variant.zip(variant_of(alloc, from, name)?))
 }
 
 /// What a variant answers when it is asked for another sort than its own. Behind that stands what a
@@ -139,24 +163,19 @@ fn told<'de>(
     from: &Deserializer<'de, 'static>,
     name: Option<&'static str>,
 ) -> Result<Option<(Found, String, Option<Deserializer<'de, 'static>>)>> {
-    let Some(variant) = variant_of(alloc, from, name)? else {
-        return Ok(None);
-    };
-    let Some(same) = variant_of(alloc, from, name)? else {
+    let Some((variant, same)) = variants_of(alloc, from, name)? else {
         return Ok(None);
     };
     let (refusal, inner) = refusal_of(alloc, variant, same);
-    match told_by(refusal)? {
-        Some((found, expected)) => Ok(Some((found, expected, inner))),
-        None => Ok(None),
-    }
+    let told = told_by(refusal)?;
+    Ok(told.map(|(found, expected)| (found, expected, inner)))
 }
 
 /// Whether what is read has this image.
 fn has_image(alloc: Global, from: &Deserializer<'_, '_>, image: &Found) -> Result<bool> {
-    match from.try_clone(alloc)?.into_value() {
-        Ok(tree) => Ok(tree.into_found(alloc)? == *image),
-        Err(_name) => Ok(false),
+    match from.as_value() {
+        Some(tree) => Ok(tree.try_clone(alloc)?.into_found(alloc)? == *image),
+        None => Ok(false),
     }
 }
 
@@ -166,13 +185,14 @@ fn write_held(
     out: &mut Answer,
     flags: Flags,
     found: &Found,
-    inner: Option<Deserializer<'_, 'static>>,
-    node: Deserializer<'_, 'static>,
+    inner: Option<&Deserializer<'_, 'static>>,
+    node: &Deserializer<'_, 'static>,
 ) -> Result<()> {
+    let alloc = out.alloc();
     if let Some(inner) = inner {
-        if has_image(out.alloc(), &inner, found)? {
+        if has_image(alloc, inner, found)? {
             out.push_str("value ");
-            return write_inside(out, flags, inner);
+            return write_inside(out, flags, inner.try_clone(alloc)?);
         }
     }
     if matches!(found, Found::Unit) {
@@ -180,8 +200,8 @@ fn write_held(
         return Ok(());
     }
     out.push_str("enum ");
-    if has_image(out.alloc(), &node, found)? {
-        write_inside(out, flags, node)
+    if has_image(alloc, node, found)? {
+        write_inside(out, flags, node.try_clone(alloc)?)
     } else {
         out.push_str("another tree");
         Ok(())
@@ -218,7 +238,5 @@ pub fn write_enum(
         return out.no_row();
     };
     write_tag(out, flags, expected, tag)?;
-    write_held(out, flags, &found, inner, from)?;
-    out.push(')');
-    Ok(())
+    write_held(out, flags, &found, inner.as_ref(), &from).map(|()| out.push(')'))
 }

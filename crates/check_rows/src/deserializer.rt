@@ -3,7 +3,7 @@
 use crate::answer::Answer;
 use crate::flags::{Flags, flags_of, flags_word, with_flags};
 use crate::piece::{Pieces, take_if_word, take_mark, take_name, take_parsed};
-use crate::show::{write_text, write_tree};
+use crate::show::{write_text, write_value};
 use crate::tree::read_tree;
 use serde_content::{CowStr, Data, Deserializer, Enum, Result, Value};
 use std::alloc::Global;
@@ -45,9 +45,14 @@ fn deserializer_of_name<'a>(
     Ok(name)
 }
 
+/// The index that a name tells.
+fn index_of(alloc: Global, name: &Deserializer<'_, 'static>) -> Result<u64> {
+    name.try_clone(alloc)?.deserialize_u64(alloc)
+}
+
 /// Adds what reads a name: its text, and its index.
 fn write_name(out: &mut Answer, name: Deserializer<'_, 'static>) -> Result<()> {
-    let index = name.try_clone(out.alloc())?.deserialize_u64(out.alloc())?;
+    let index = index_of(out.alloc(), &name)?;
     let text = name.deserialize_str(out.alloc())?;
     out.push_str("id(");
     write_text(out, 's', &text);
@@ -66,10 +71,7 @@ pub fn write_handed(out: &mut Answer, from: Deserializer<'_, 'static>) -> Result
 /// Adds what is read.
 fn write_source(out: &mut Answer, from: Deserializer<'_, 'static>) -> Result<()> {
     match from.into_value() {
-        Ok(tree) => {
-            write_tree(out, &tree);
-            Ok(())
-        }
+        Ok(tree) => write_value(out, tree),
         Err(name) => write_name(out, name),
     }
 }

@@ -56,9 +56,14 @@ pub fn write_comma(out: &mut Answer, place: usize) {
     }
 }
 
+/// Adds a tree, which is then dropped.
+pub fn write_whole(out: &mut Answer, value: Value<'_>) {
+    write_tree(out, &value);
+}
+
 /// Adds a tree that the library did not refuse.
 pub fn write_value(out: &mut Answer, value: Value<'_>) -> Result<()> {
-    write_tree(out, &value);
+    write_whole(out, value);
     Ok(())
 }
 

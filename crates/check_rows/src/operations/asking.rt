@@ -7,10 +7,9 @@ use crate::flags::{Flags, read_flags};
 use crate::piece::{Pieces, take_word};
 use crate::printable::write_debug;
 use crate::request::{Request, read_request};
-use crate::show::{write_bytes, write_text, write_tree, write_value};
+use crate::show::write_value;
 use serde_content::de::{Node, VariantAccess};
 use serde_content::{Deserializer, Result, Value};
-use std::alloc::Global;
 use std::fmt::Debug;
 
 /// What is answered to a request.
@@ -100,15 +99,9 @@ fn write_leaf(
     }
 }
 
-/// Whether a variant of an enum is there.
-fn is_enum(alloc: Global, from: &Deserializer<'_, 'static>) -> Result<bool> {
-    let node = from.try_clone(alloc)?.deserialize_any(alloc)?;
-    Ok(matches!(node, Node::Enum(_)))
-}
-
 /// Adds what is there, whatever it is.
 fn write_any(out: &mut Answer, flags: Flags, from: Deserializer<'_, 'static>) -> Result<()> {
-    let is_enum = is_enum(out.alloc(), &from)?;
+    let is_enum = matches!(from.as_value(), Some(Value::Enum(_)));
     out.push_str("node ");
     if is_enum {
         write_enum(out, flags, from, None)
@@ -121,23 +114,22 @@ fn write_any(out: &mut Answer, flags: Flags, from: Deserializer<'_, 'static>) ->
 /// Adds what is there, but a variant of an enum.
 fn write_node(out: &mut Answer, flags: Flags, node: Node<'_, 'static>) -> Result<()> {
     match node {
-        Node::Unit => out.push_str("()"),
-        Node::Bool(flag) => write_tree(out, &Value::Bool(flag)),
-        Node::Number(number) => write_tree(out, &Value::Number(number)),
-        Node::Char(character) => write_tree(out, &Value::Char(character)),
-        Node::Str(text) => write_text(out, 'b', &text),
-        Node::Bytes(bytes) => write_bytes(out, &bytes),
-        Node::NoneNode => return write_option(out, None),
-        Node::SomeNode(held) => return write_option(out, Some(held)),
+        Node::Unit => write_value(out, Value::Unit),
+        Node::Bool(flag) => write_value(out, Value::Bool(flag)),
+        Node::Number(number) => write_value(out, Value::Number(number)),
+        Node::Char(character) => write_value(out, Value::Char(character)),
+        Node::Str(text) => write_value(out, Value::String(text)),
+        Node::Bytes(bytes) => write_value(out, Value::Bytes(bytes)),
+        Node::NoneNode => write_option(out, None),
+        Node::SomeNode(held) => write_option(out, Some(held)),
         Node::Newtype(held) => {
             out.push_str("newtype ");
-            return write_handed(out, held);
+            write_handed(out, held)
         }
-        Node::Seq(items) => return write_seq(out, flags, items),
-        Node::Map(entries) => return write_map(out, flags, entries),
-        Node::Enum(_) => return out.no_row(),
+        Node::Seq(items) => write_seq(out, flags, items),
+        Node::Map(entries) => write_map(out, flags, entries),
+        Node::Enum(_access) => out.no_row(),
     }
-    Ok(())
 }
 
 /// What is answered to a request for a variant, whatever its tag.

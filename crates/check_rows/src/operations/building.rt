@@ -8,18 +8,25 @@ use crate::methods::make_call;
 use crate::piece::{Pieces, take_parsed};
 use crate::printable::write_printed;
 use crate::quoted::take_part;
-use crate::show::write_tree;
+use crate::show::write_whole;
 use crate::tree::{read_image, read_tree};
 use serde_content::ser::{
     Builder, CallsError, Recorder, Serializer as _, from_calls, from_calls_prefix,
     from_calls_within, replay as make_calls,
 };
-use serde_content::{Error, ErrorKind, Result, Serializer, Value};
+use serde_content::{Error, ErrorKind, Found, Result, Serializer, Value};
+use std::alloc::Global;
 
 /// Adds `ok` and the tree.
-fn write_taken(out: &mut Answer, value: &Value<'_>) {
+fn write_taken(out: &mut Answer, value: Value<'_>) {
     out.push_str("ok ");
-    write_tree(out, value);
+    write_whole(out, value);
+}
+
+/// Adds `ok` and the tree that the library did not refuse.
+fn write_answered(out: &mut Answer, answered: Result<Value<'_>>) -> Result<()> {
+    write_taken(out, answered?);
+    Ok(())
 }
 
 /// Adds the name of the error's kind, unless memory is its cause.
@@ -37,7 +44,7 @@ fn write_kind(out: &mut Answer, error: &Error) {
 /// Adds the tree, or where and why calls are refused.
 fn write_spelled(out: &mut Answer, spelled: std::result::Result<Value<'_>, CallsError>) {
     match spelled {
-        Ok(value) => write_taken(out, &value),
+        Ok(value) => write_taken(out, value),
         Err(refusal) => write_refused(out, &refusal),
     }
 }
@@ -60,7 +67,7 @@ pub fn calls_prefix(out: &mut Answer, columns: &mut Cursor<'_, u8>) {
     let calls = read_calls(columns);
     match from_calls_prefix(out.alloc(), calls.as_slice()) {
         Ok((value, length)) => {
-            write_taken(out, &value);
+            write_taken(out, value);
             out.print(format_args!(", {length}"));
         }
         Err(refusal) => write_refused(out, &refusal),
@@ -82,11 +89,16 @@ pub fn calls_within(out: &mut Answer, columns: &mut Cursor<'_, u8>) {
 pub fn refusal(out: &mut Answer, columns: &mut Cursor<'_, u8>) {
     let calls = read_calls(columns);
     match from_calls(out.alloc(), calls.as_slice()) {
-        Ok(value) => write_taken(out, &value),
-        Err(refusal) if matches!(refusal.error.kind(), ErrorKind::OutOfMemory) => {
-            out.fail(Failure::OutOfMemory);
-        }
-        Err(refusal) => write_printed(out, &refusal),
+        Ok(value) => write_taken(out, value),
+        Err(refusal) => write_told(out, &refusal),
+    }
+}
+
+/// Adds what is printed of a refusal, unless memory is its cause.
+fn write_told(out: &mut Answer, refusal: &CallsError) {
+    match refusal.error.kind() {
+        ErrorKind::OutOfMemory => out.fail(Failure::OutOfMemory),
+        _ => write_printed(out, refusal),
     }
 }
 
@@ -101,7 +113,7 @@ fn write_step(out: &mut Answer, answer: Result<()>) {
 /// Adds `ok` and the tree, or the name of the error's kind.
 fn write_made(out: &mut Answer, answer: Result<Value<'_>>) {
     match answer {
-        Ok(value) => write_taken(out, &value),
+        Ok(value) => write_taken(out, value),
         Err(error) => write_kind(out, &error),
     }
 }
@@ -152,17 +164,19 @@ pub fn canonical_within(out: &mut Answer, pieces: &mut Pieces<'_>) {
 /// The canonical form of a tree.
 pub fn canonical(out: &mut Answer, pieces: &mut Pieces<'_>) -> Result<()> {
     let value = read_tree(pieces);
-    write_taken(out, &Serializer::new().serialize(pieces.alloc(), &value)?);
-    Ok(())
+    write_answered(out, Serializer::new().serialize(pieces.alloc(), &value))
 }
 
 /// The tree of the text that an image prints, as a builder collects it.
+fn collected(alloc: Global, image: &Found) -> Result<Value<'static>> {
+    let mut builder: Builder<'static> = Builder::new(alloc, false);
+    builder.collect_str(alloc, image)?;
+    builder.finish()
+}
+
+/// The tree of the text that an image prints.
 pub fn collect(out: &mut Answer, pieces: &mut Pieces<'_>) -> Result<()> {
-    let image = read_image(pieces);
-    let mut builder: Builder<'static> = Builder::new(pieces.alloc(), false);
-    builder.collect_str(pieces.alloc(), &image)?;
-    write_taken(out, &builder.finish()?);
-    Ok(())
+    write_answered(out, collected(pieces.alloc(), &read_image(pieces)))
 }
 
 /// What a builder and a recorder, made with this flag, say of it.

@@ -31,7 +31,12 @@ pub fn values(out: &mut Answer, pieces: &mut Pieces<'_>) {
 
 /// Of what two trees hold: texts, bytes, structs or enums.
 pub fn parts(out: &mut Answer, pieces: &mut Pieces<'_>) {
-    match (&read_tree(pieces), &read_tree(pieces)) {
+    compare_parts(out, &read_tree(pieces), &read_tree(pieces));
+}
+
+/// Adds the order of what two trees hold.
+fn compare_parts<'a>(out: &mut Answer, left: &Value<'a>, right: &Value<'a>) {
+    match (left, right) {
         (Value::String(left), Value::String(right)) => compare(out, left, right),
         (Value::Bytes(left), Value::Bytes(right)) => compare(out, left, right),
         (Value::Struct(left), Value::Struct(right)) => compare(out, &**left, &**right),
@@ -42,7 +47,12 @@ pub fn parts(out: &mut Answer, pieces: &mut Pieces<'_>) {
 
 /// Of what two structs or two enums hold.
 pub fn data(out: &mut Answer, pieces: &mut Pieces<'_>) {
-    match (&read_tree(pieces), &read_tree(pieces)) {
+    compare_data(out, &read_tree(pieces), &read_tree(pieces));
+}
+
+/// Adds the order of what two structs or two enums hold.
+fn compare_data<'a>(out: &mut Answer, left: &Value<'a>, right: &Value<'a>) {
+    match (left, right) {
         (Value::Struct(left), Value::Struct(right)) => compare(out, &left.data, &right.data),
         (Value::Enum(left), Value::Enum(right)) => compare(out, &left.data, &right.data),
         _ => out.fail(Failure::NoRow),
@@ -58,7 +68,12 @@ pub fn images(out: &mut Answer, pieces: &mut Pieces<'_>) {
 
 /// Of what the images of two structs or enums hold.
 pub fn image_data(out: &mut Answer, pieces: &mut Pieces<'_>) {
-    match (&read_image(pieces), &read_image(pieces)) {
+    compare_image_data(out, &read_image(pieces), &read_image(pieces));
+}
+
+/// Adds the order of what the images of two structs or enums hold.
+fn compare_image_data(out: &mut Answer, left: &Found, right: &Found) {
+    match (left, right) {
         (Found::Struct { data: left, .. }, Found::Struct { data: right, .. })
         | (Found::Enum { data: left, .. }, Found::Enum { data: right, .. }) => {
             compare(out, &**left, &**right)
@@ -116,17 +131,25 @@ pub fn serializers(out: &mut Answer, pieces: &mut Pieces<'_>) {
 
 /// Of two deserializers, each under its own flags.
 pub fn deserializers(out: &mut Answer, pieces: &mut Pieces<'_>) {
-    write_order(out, order_of_pieces(pieces));
+    write_order(
+        out,
+        lawful_order(&read_flagged(pieces), &read_flagged(pieces)),
+    );
 }
 
-/// The order of the deserializers of these pieces, each under its flags, where the laws say so too.
-fn order_of_pieces<'a>(pieces: &mut Pieces<'a>) -> Option<Ordering> {
+/// A deserializer under its flags.
+fn read_flagged<'a>(pieces: &mut Pieces<'a>) -> Deserializer<'a, 'static> {
     let flags = read_flags(pieces);
-    let left: Deserializer<'a, 'static> = read_deserializer(pieces, flags);
-    let flags = read_flags(pieces);
-    let right: Deserializer<'a, 'static> = read_deserializer(pieces, flags);
-    let order = if_lawful(order(&left, &right), equal_deserializers(&left, &right));
-    let by_law = compare_deserializers(&left, &right);
+    read_deserializer(pieces, flags)
+}
+
+/// The order of two deserializers, where the laws say so too.
+fn lawful_order<'a>(
+    left: &Deserializer<'a, 'static>,
+    right: &Deserializer<'a, 'static>,
+) -> Option<Ordering> {
+    let order = if_lawful(order(left, right), equal_deserializers(left, right));
+    let by_law = compare_deserializers(left, right);
     order.filter(|order| *order == by_law)
 }
 

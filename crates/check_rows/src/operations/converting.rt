@@ -6,7 +6,7 @@ use crate::failure::Failure;
 use crate::flags::{Flags, read_flags};
 use crate::number::{with_whole, write_number};
 use crate::piece::{Pieces, take_word};
-use crate::show::write_tree;
+use crate::show::write_whole;
 use crate::tree::read_tree;
 use serde_content::de::IntoDeserializer;
 use serde_content::{CowBytes, CowStr, Deserializer, Number, Result, Value};
@@ -15,12 +15,19 @@ use serde_content::{CowBytes, CowStr, Deserializer, Number, Result, Value};
 pub fn from(out: &mut Answer, pieces: &mut Pieces<'_>) {
     let typ = take_word(pieces);
     match read_tree(pieces) {
-        Value::Unit if typ == "unit" => write_tree(out, &Value::from(())),
-        Value::Bool(flag) if typ == "bool" => write_tree(out, &Value::from(flag)),
-        Value::Char(character) if typ == "char" => write_tree(out, &Value::from(character)),
-        Value::Number(number) => from_number(out, typ, number),
         Value::String(text) => from_text(out, typ, text),
         Value::Bytes(bytes) => from_bytes(out, typ, bytes),
+        value => from_leaf(out, typ, &value),
+    }
+}
+
+/// The value from what takes no memory.
+fn from_leaf(out: &mut Answer, typ: &str, value: &Value<'_>) {
+    match (typ, value) {
+        ("unit", Value::Unit) => write_whole(out, Value::from(())),
+        ("bool", Value::Bool(flag)) => write_whole(out, Value::from(*flag)),
+        ("char", Value::Char(character)) => write_whole(out, Value::from(*character)),
+        (_, Value::Number(number)) => from_number(out, typ, *number),
         _ => out.fail(Failure::NoRow),
     }
 }
@@ -28,8 +35,8 @@ pub fn from(out: &mut Answer, pieces: &mut Pieces<'_>) {
 /// The value from a number.
 fn from_number(out: &mut Answer, typ: &str, number: Number) {
     match typ {
-        "Number" => write_tree(out, &Value::from(number)),
-        "whole" => write_tree(out, &with_whole!(number, n => Value::from(n))),
+        "Number" => write_whole(out, Value::from(number)),
+        "whole" => write_whole(out, with_whole!(number, n => Value::from(n))),
         _ => out.fail(Failure::NoRow),
     }
 }
@@ -37,10 +44,10 @@ fn from_number(out: &mut Answer, typ: &str, number: Number) {
 /// The value from a text.
 fn from_text(out: &mut Answer, typ: &str, text: CowStr<'_>) {
     match (typ, text) {
-        ("CowStr", text) => write_tree(out, &Value::from(text)),
-        ("&str", text) => write_tree(out, &Value::from(text.as_str())),
-        ("&String", CowStr::Owned(text)) => write_tree(out, &Value::from(&text)),
-        ("String", CowStr::Owned(text)) => write_tree(out, &Value::from(text)),
+        ("CowStr", text) => write_whole(out, Value::from(text)),
+        ("&str", text) => write_whole(out, Value::from(text.as_str())),
+        ("&String", CowStr::Owned(text)) => write_whole(out, Value::from(&text)),
+        ("String", CowStr::Owned(text)) => write_whole(out, Value::from(text)),
         _ => out.fail(Failure::NoRow),
     }
 }
@@ -48,9 +55,9 @@ fn from_text(out: &mut Answer, typ: &str, text: CowStr<'_>) {
 /// The value from bytes.
 fn from_bytes(out: &mut Answer, typ: &str, bytes: CowBytes<'_>) {
     match (typ, bytes) {
-        ("&slice", bytes) => write_tree(out, &Value::from(bytes.as_bytes())),
-        ("&Vec", CowBytes::Owned(bytes)) => write_tree(out, &Value::from(&bytes)),
-        ("Vec", CowBytes::Owned(bytes)) => write_tree(out, &Value::from(bytes)),
+        ("&slice", bytes) => write_whole(out, Value::from(bytes.as_bytes())),
+        ("&Vec", CowBytes::Owned(bytes)) => write_whole(out, Value::from(&bytes)),
+        ("Vec", CowBytes::Owned(bytes)) => write_whole(out, Value::from(bytes)),
         _ => out.fail(Failure::NoRow),
     }
 }
@@ -65,14 +72,18 @@ pub fn number_from(out: &mut Answer, pieces: &mut Pieces<'_>) {
 
 /// Whether a text or bytes say that they are borrowed, and what they hold, lent.
 pub fn borrowed(out: &mut Answer, pieces: &mut Pieces<'_>) {
-    let value = read_tree(pieces);
-    let (borrowed, lent) = match &value {
+    write_case(out, &read_tree(pieces));
+}
+
+/// Adds whether a text or bytes say that they are borrowed, and what they hold, lent.
+fn write_case(out: &mut Answer, value: &Value<'_>) {
+    let (borrowed, lent) = match value {
         Value::String(text) => (text.is_borrowed(), Value::from(text.as_str())),
         Value::Bytes(bytes) => (bytes.is_borrowed(), Value::from(bytes.as_bytes())),
         _ => return out.fail(Failure::NoRow),
     };
     out.push_str(if borrowed { "borrowed " } else { "owned " });
-    write_tree(out, &lent);
+    write_whole(out, lent);
 }
 
 /// The deserializer that a tree, a number, an enum or a deserializer with these flags becomes.

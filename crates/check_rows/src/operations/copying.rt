@@ -41,11 +41,15 @@ fn read_data<'a>(pieces: &mut Pieces<'a>) -> Data<'a> {
     }
 }
 
+/// Adds data that the library did not refuse.
+fn write_made(out: &mut Answer, data: Result<Data<'_>>) -> Result<()> {
+    write_data(out, &data?);
+    Ok(())
+}
+
 /// What a struct or an enum holds, as data that own what they hold.
 pub fn own_data(out: &mut Answer, pieces: &mut Pieces<'_>) -> Result<()> {
-    let owned = read_data(pieces).into_owned(pieces.alloc())?;
-    write_data(out, &owned);
-    Ok(())
+    write_made(out, read_data(pieces).into_owned(pieces.alloc()))
 }
 
 /// A copy of a tree.
@@ -55,8 +59,13 @@ pub fn copy(out: &mut Answer, pieces: &mut Pieces<'_>) -> Result<()> {
 
 /// A copy of the text, the bytes, the struct or the enum that a tree holds.
 pub fn copy_parts(out: &mut Answer, pieces: &mut Pieces<'_>) -> Result<()> {
-    let alloc = pieces.alloc();
-    match &read_tree(pieces) {
+    write_copied(out, &read_tree(pieces))
+}
+
+/// Adds a copy of the text, the bytes, the struct or the enum that a tree holds.
+fn write_copied(out: &mut Answer, value: &Value<'_>) -> Result<()> {
+    let alloc = out.alloc();
+    match value {
         Value::String(text) => write_text(out, 'b', &text.try_clone(alloc)?),
         Value::Bytes(bytes) => write_bytes(out, &bytes.try_clone(alloc)?),
         Value::Struct(node) => write_struct(out, &node.try_clone(alloc)?),
@@ -68,9 +77,7 @@ pub fn copy_parts(out: &mut Answer, pieces: &mut Pieces<'_>) -> Result<()> {
 
 /// A copy of what a struct or an enum holds.
 pub fn copy_data(out: &mut Answer, pieces: &mut Pieces<'_>) -> Result<()> {
-    let copy = read_data(pieces).try_clone(pieces.alloc())?;
-    write_data(out, &copy);
-    Ok(())
+    write_made(out, read_data(pieces).try_clone(pieces.alloc()))
 }
 
 /// Adds the copy, where it equals the original.

@@ -3,9 +3,9 @@
 use crate::answer::Answer;
 use crate::failure::Failure;
 use crate::piece::{Pieces, take_word};
-use crate::show::{write_items, write_pairs, write_tree};
+use crate::show::{write_items, write_pairs, write_tree, write_whole};
 use crate::tree::read_tree;
-use serde_content::{CowBytes, CowStr, NamedValue, Number, Value};
+use serde_content::{NamedValue, Value};
 
 /// The value behind a key.
 pub fn get(out: &mut Answer, pieces: &mut Pieces<'_>) {
@@ -40,26 +40,24 @@ fn write_inside(out: &mut Answer, typ: &str, value: &Value<'_>) {
             Some(pairs) => write_pairs(out, "{", pairs),
             None => write_lent(out, None),
         },
-        "bool" | "number" | "i64" | "u64" | "i128" | "u128" | "char" | "str" | "bytes" => {
-            write_lent(out, leaf_of(typ, value).as_ref());
-        }
+        "bool" => write_leaf(out, value.as_bool()),
+        "number" => write_leaf(out, value.as_number()),
+        "i64" => write_leaf(out, value.as_i64()),
+        "u64" => write_leaf(out, value.as_u64()),
+        "i128" => write_leaf(out, value.as_i128()),
+        "u128" => write_leaf(out, value.as_u128()),
+        "char" => write_leaf(out, value.as_char()),
+        "str" => write_leaf(out, value.as_str()),
+        "bytes" => write_leaf(out, value.as_bytes()),
         _ => out.fail(Failure::NoRow),
     }
 }
 
-/// What stands right inside a value, as this type of a leaf.
-fn leaf_of<'a>(typ: &str, value: &'a Value<'_>) -> Option<Value<'a>> {
-    match typ {
-        "bool" => Some(Value::Bool(value.as_bool()?)),
-        "number" => Some(Value::Number(value.as_number()?)),
-        "i64" => Some(Value::Number(Number::I64(value.as_i64()?))),
-        "u64" => Some(Value::Number(Number::U64(value.as_u64()?))),
-        "i128" => Some(Value::Number(Number::I128(value.as_i128()?))),
-        "u128" => Some(Value::Number(Number::U128(value.as_u128()?))),
-        "char" => Some(Value::Char(value.as_char()?)),
-        "str" => Some(Value::String(CowStr::Borrowed(value.as_str()?))),
-        "bytes" => Some(Value::Bytes(CowBytes::Borrowed(value.as_bytes()?))),
-        _ => None,
+/// Adds the value of a leaf, or that there is none.
+fn write_leaf<'a, T: Into<Value<'a>> + Drop>(out: &mut Answer, leaf: Option<T>) {
+    match leaf {
+        Some(leaf) => write_whole(out, leaf.into()),
+        None => write_lent(out, None),
     }
 }
 

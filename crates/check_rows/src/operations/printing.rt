@@ -8,13 +8,18 @@ use crate::piece::{Piece, Pieces};
 use crate::printable::{write_printed, write_refusal};
 use crate::tree::{read_image, read_tree};
 use serde_content::{Error, Found, Result, Unexpected, Value};
+use std::alloc::Global;
+
+/// Whether a value prints as its image does.
+fn print_alike(alloc: Global, value: &Value<'_>, image: &Found) -> Result<bool> {
+    let shown = format!(in alloc; "{}", value.display())?;
+    Ok(shown == format!(in alloc; "{image}")?)
+}
 
 /// Whether the value that starts here prints as its image does.
 fn prints_as<'a>(pieces: &mut Pieces<'a>, start: &'a [Piece], image: &Found) -> Result<bool> {
     pieces.move_to(start);
-    let value: Value<'a> = read_tree(pieces);
-    let shown = format!(in pieces.alloc(); "{}", value.display())?;
-    Ok(shown == format!(in pieces.alloc(); "{image}")?)
+    print_alike(pieces.alloc(), &read_tree(pieces), image)
 }
 
 /// Of an image; the value that has it prints the same.

@@ -7,7 +7,7 @@ use crate::named::with_type;
 use crate::piece::{Pieces, take_word};
 use crate::printable::write_debug;
 use crate::samples::{write_point, write_shape};
-use crate::show::{write_comma, write_tree, write_value};
+use crate::show::{write_comma, write_value};
 use serde_content::de::Deserialize;
 use serde_content::{CowStr, Deserializer, Number, Result, Value, ValueVisitor};
 use std::collections::BTreeMap;
@@ -90,8 +90,7 @@ fn write_optional(out: &mut Answer, value: Option<Value<'static>>) -> Result<()>
         None => None,
         Some(value) => Some(Box::new(out.alloc(), value)?),
     };
-    write_tree(out, &Value::Option(held));
-    Ok(())
+    write_value(out, Value::Option(held))
 }
 
 /// Adds a map's keys in order, each with its value.

@@ -7,7 +7,7 @@ use crate::methods::make_call;
 use crate::number::with_whole;
 use crate::piece::{Pieces, take_word};
 use crate::printable::write_refusal;
-use crate::show::write_tree;
+use crate::show::write_whole;
 use crate::show_call::write_calls;
 use crate::tree::read_tree;
 use serde_content::ser::{Call, Recorder, Serialize, from_calls};
@@ -27,19 +27,28 @@ pub fn record(out: &mut Answer, columns: &mut Cursor<'_, u8>) -> Result<()> {
 }
 
 /// A tree as rows have it.
-fn shown(alloc: Global, value: &Value<'_>) -> Result<String> {
+fn shown(alloc: Global, value: Value<'_>) -> Result<String> {
     let mut out = Answer::new(alloc);
-    write_tree(&mut out, value);
+    write_whole(&mut out, value);
     Ok(out.finish().ok().ok_or(AllocError)?)
+}
+
+/// The tree that a `Serializer` makes of it.
+fn built<T: Serialize>(alloc: Global, value: &T) -> Result<String> {
+    shown(alloc, Serializer::new().serialize(alloc, value)?)
+}
+
+/// The tree that the calls spell.
+fn spelled(alloc: Global, calls: &[Call<'_>]) -> Result<String> {
+    match from_calls(alloc, calls) {
+        Ok(value) => shown(alloc, value),
+        Err(refusal) => Err(refusal.error),
+    }
 }
 
 /// Whether the tree that a `Serializer` makes of it is the one that the calls spell.
 fn is_built<T: Serialize>(alloc: Global, value: &T, calls: &[Call<'_>]) -> Result<bool> {
-    let built = Serializer::new().serialize(alloc, value)?;
-    match from_calls(alloc, calls) {
-        Ok(spelled) => Ok(shown(alloc, &built)? == shown(alloc, &spelled)?),
-        Err(refusal) => Err(refusal.error),
-    }
+    Ok(built(alloc, value)? == spelled(alloc, calls)?)
 }
 
 /// Adds the calls by which it is sent, and where it stops the text of that.
@@ -63,19 +72,26 @@ pub fn send(out: &mut Answer, pieces: &mut Pieces<'_>) -> Result<()> {
 /// Of what a tree holds, as the type that is named.
 pub fn send_as(out: &mut Answer, pieces: &mut Pieces<'_>) -> Result<()> {
     let named = take_word(pieces);
-    match read_tree(pieces) {
-        Value::Unit if named == "unit" => write_sent(out, &()),
-        Value::Bool(flag) if named == "bool" => write_sent(out, &flag),
-        Value::Char(character) if named == "char" => write_sent(out, &character),
-        Value::String(CowStr::Owned(text)) if named == "String" => write_sent(out, &text),
-        Value::String(text) if named == "&str" => write_sent(out, &text.as_str()),
-        Value::Number(number) => write_sent_number(out, named, number),
-        Value::Option(held) if named == "Option" => write_sent(out, &held),
-        Value::Struct(node) if named == "Box" => write_sent(out, &node),
-        Value::Enum(node) if named == "Box" => write_sent(out, &node),
-        Value::Seq(items) if named == "Vec" => write_sent(out, &items),
-        Value::Tuple(items) if named == "tuple" => write_sent_tuple(out, items),
-        Value::Map(pairs) if named == "BTreeMap" => write_sent_map(out, pairs),
+    match (named, read_tree(pieces)) {
+        ("tuple", Value::Tuple(items)) => write_sent_tuple(out, items),
+        ("BTreeMap", Value::Map(pairs)) => write_sent_map(out, pairs),
+        (_, value) => write_sent_part(out, named, &value),
+    }
+}
+
+/// Of what a tree holds, but for a tuple or a map.
+fn write_sent_part(out: &mut Answer, named: &str, value: &Value<'_>) -> Result<()> {
+    match (named, value) {
+        ("unit", Value::Unit) => write_sent(out, &()),
+        ("bool", Value::Bool(flag)) => write_sent(out, flag),
+        ("char", Value::Char(character)) => write_sent(out, character),
+        ("String", Value::String(CowStr::Owned(text))) => write_sent(out, text),
+        ("&str", Value::String(text)) => write_sent(out, &text.as_str()),
+        (_, Value::Number(number)) => write_sent_number(out, named, *number),
+        ("Option", Value::Option(held)) => write_sent(out, held),
+        ("Box", Value::Struct(node)) => write_sent(out, node),
+        ("Box", Value::Enum(node)) => write_sent(out, node),
+        ("Vec", Value::Seq(items)) => write_sent(out, items),
         _ => out.no_row(),
     }
 }

@@ -8,7 +8,7 @@ use crate::piece::{Pieces, take_word};
 use crate::printable::write_listed;
 use crate::request::read_request;
 use serde_content::de::{Deserialize, Map, Seq};
-use serde_content::{Error, ErrorKind, Result};
+use serde_content::{ErrorKind, Result};
 use std::alloc::{AllocError, Global};
 use std::fmt::Debug;
 
@@ -38,13 +38,12 @@ fn write_step(out: &mut Answer, place: usize, answer: Result<String>) {
             out.push_str("ok ");
             write_listed(out, text.as_str());
         }
-        Err(error) => write_refused(out, error),
+        Err(error) => write_refused(out, error.kind()),
     }
 }
 
 /// Adds `refused` and why, unless memory is the cause.
-fn write_refused(out: &mut Answer, refused: Error) {
-    let kind = refused.into_kind();
+fn write_refused(out: &mut Answer, kind: &ErrorKind) {
     match format!(in out.alloc(); "{kind}") {
         Ok(text) if !matches!(kind, ErrorKind::OutOfMemory) => {
             out.push_str("refused ");
