@@ -17,7 +17,7 @@ fault_text fault.Float = codes "a float"
 fault_text fault.Simple = codes "an unknown simple value"
 fault_text fault.Tag = codes "an unknown tag"
 fault_text fault.TooWide = codes "a number past 128 bits"
-fault_text fault.Misplaced = codes "an item of a wrong kind"
+fault_text fault.WrongKind = codes "an item of a wrong kind"
 fault_text fault.NotUtf8 = codes "a text that is no UTF-8"
 
 -- where, and what is wrong

@@ -28,7 +28,7 @@ pub enum Fault {
     TooWide,
     /// What can't stand under a tag, or as a chunk of a text or of bytes of indefinite length; a
     /// break under a tag too.
-    Misplaced,
+    WrongKind,
     /// A text that is no UTF-8.
     NotUtf8,
 }
@@ -47,7 +47,7 @@ impl fmt::Display for Fault {
             Fault::Simple => "an unknown simple value",
             Fault::Tag => "an unknown tag",
             Fault::TooWide => "a number past 128 bits",
-            Fault::Misplaced => "an item of a wrong kind",
+            Fault::WrongKind => "an item of a wrong kind",
             Fault::NotUtf8 => "a text that is no UTF-8",
         })
     }

@@ -129,7 +129,7 @@ fn read_magnitude(is_negative: bool, bytes: &[u8]) -> Result<(u128, &[u8]), Stop
 {
     let (first, rest) = read_first(bytes)?;
     if !matches!(first.major, Major::Bytes) {
-        return Err(stop_at(Fault::Misplaced, bytes));
+        return Err(stop_at(Fault::WrongKind, bytes));
     }
     let (head, rest) = read_head_behind(first, rest)?;
     read_digits_behind(is_negative, head.number, rest)

@@ -136,7 +136,7 @@ unfolding length_at
 ends_length t bounds not bs =
     ends_known (first_at bs) _ (ends_first bs) (λ h is.
     ends_if (begins_chunk t h.0.«major» h.0.info) _ _ (ends_argument bounds not h.0.info h.1)
-    (ends_at_first fault.Misplaced bs h is (λ no. absurd cc, λ no. absurd cc)))
+    (ends_at_first fault.WrongKind bs h is (λ no. absurd cc, λ no. absurd cc)))
 
 ends_chunk : (t : Bool) (bs : List ℕ) → Ends (chunk_at t bs)
 unfolding chunk_at
@@ -196,7 +196,7 @@ ends_digits_of : (negative : Bool) (o : Option ℕ) (bs : List ℕ) → Ends (di
 ends_digits_of negative (Some n) bs = ends_digits (room negative) (room_bound negative) n 0 bs
 ends_digits_of negative None bs = ends_digits_until negative 0 (length bs) bs
 
-ends_magnitude_behind : (negative : Bool) (from : List ℕ) (m : Major) (info : ℕ) (bs : List ℕ) → IsInside (record { «fault» = fault.Misplaced; left = length from })
+ends_magnitude_behind : (negative : Bool) (from : List ℕ) (m : Major) (info : ℕ) (bs : List ℕ) → IsInside (record { «fault» = fault.WrongKind; left = length from })
     → Ends (magnitude_behind negative from m info bs)
 ends_magnitude_behind negative from major.Bytes info bs at =
     ends_then (head_behind unbounded (record { «major» = major.Bytes; info = info }) bs) _
@@ -213,7 +213,7 @@ ends_magnitude : (negative : Bool) (bs : List ℕ) → Ends (magnitude_at negati
 unfolding magnitude_at
 ends_magnitude negative bs =
     ends_known (first_at bs) _ (ends_first bs) (λ h is.
-    ends_magnitude_behind negative bs h.0.«major» h.0.info h.1 (ends_at_first fault.Misplaced bs h is (λ no. absurd cc, λ no. absurd cc)))
+    ends_magnitude_behind negative bs h.0.«major» h.0.info h.1 (ends_at_first fault.WrongKind bs h is (λ no. absurd cc, λ no. absurd cc)))
 
 ends_tag : (n : ℕ) (bs : List ℕ) → Ends (tag_at n bs)
 unfolding tag_at

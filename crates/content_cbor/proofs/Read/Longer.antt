@@ -154,7 +154,7 @@ unfolding length_at first_at
 longer_length t bounds [] more = inl (refl, shrinks_length t bounds more)
 longer_length t bounds (b ∷ bs) more =
     settled_then more (first_at (b ∷ bs)) (first_at (b ∷ (bs ++ more))) _ _ (first_settles b bs more) (λ h is.
-    agrees_if more (begins_chunk t h.0.«major» h.0.info) _ _ _ _ (longer_argument bounds h.0.info h.1 more) (agrees_refused more fault.Misplaced (b ∷ bs)))
+    agrees_if more (begins_chunk t h.0.«major» h.0.info) _ _ _ _ (longer_argument bounds h.0.info h.1 more) (agrees_refused more fault.WrongKind (b ∷ bs)))
 
 longer_chunk : (t : Bool) → Longer (chunk_at t)
 unfolding chunk_at
@@ -246,13 +246,13 @@ longer_magnitude_behind negative from major.Bytes info bs more =
     agrees_then more (head_behind unbounded first bs) (head_behind unbounded first (bs ++ more)) _ _ (longer_head_behind unbounded first bs more)
     (λ y less. fewer (length y.1) (length more) (digits_of negative y.0.number y.1) less (shrinks_digits_of negative y.0.number y.1))
     (λ h is. longer_digits_of negative h.0.number h.1 more)
-longer_magnitude_behind negative from major.Unsigned info bs more = agrees_refused more fault.Misplaced from
-longer_magnitude_behind negative from major.Negative info bs more = agrees_refused more fault.Misplaced from
-longer_magnitude_behind negative from major.Text info bs more = agrees_refused more fault.Misplaced from
-longer_magnitude_behind negative from major.Array info bs more = agrees_refused more fault.Misplaced from
-longer_magnitude_behind negative from major.Map info bs more = agrees_refused more fault.Misplaced from
-longer_magnitude_behind negative from major.Tag info bs more = agrees_refused more fault.Misplaced from
-longer_magnitude_behind negative from major.Simple info bs more = agrees_refused more fault.Misplaced from
+longer_magnitude_behind negative from major.Unsigned info bs more = agrees_refused more fault.WrongKind from
+longer_magnitude_behind negative from major.Negative info bs more = agrees_refused more fault.WrongKind from
+longer_magnitude_behind negative from major.Text info bs more = agrees_refused more fault.WrongKind from
+longer_magnitude_behind negative from major.Array info bs more = agrees_refused more fault.WrongKind from
+longer_magnitude_behind negative from major.Map info bs more = agrees_refused more fault.WrongKind from
+longer_magnitude_behind negative from major.Tag info bs more = agrees_refused more fault.WrongKind from
+longer_magnitude_behind negative from major.Simple info bs more = agrees_refused more fault.WrongKind from
 
 longer_magnitude : (negative : Bool) → Longer (magnitude_at negative)
 unfolding magnitude_at first_at

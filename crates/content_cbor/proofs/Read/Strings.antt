@@ -173,11 +173,11 @@ first_of_chunk t m info n bs says same low is =
 pub length_sound : (t : Bool) (bounds : Bounds) → Starts bounds → Sound (LengthIs t bounds) (length_at t bounds)
 unfolding length_at
 length_sound t bounds starts bs n rest fits is =
-    let a = bind_ok (first_at bs) (λ h. cond (begins_chunk t h.0.«major» h.0.info) (argument_at bounds h.0.info h.1) (refused fault.Misplaced bs)) (n, rest) is in
+    let a = bind_ok (first_at bs) (λ h. cond (begins_chunk t h.0.«major» h.0.info) (argument_at bounds h.0.info h.1) (refused fault.WrongKind bs)) (n, rest) is in
     let m = a.0.0.«major» in
     let info = a.0.0.info in
     let f = first_sound bs a.0.0 a.0.1 fits a.1 in
-    let g = failed (begins_chunk t m info) (record { «fault» = fault.Misplaced; left = length bs }) (argument_at bounds info a.0.1) (n, rest) a.2 in
+    let g = failed (begins_chunk t m info) (record { «fault» = fault.WrongKind; left = length bs }) (argument_at bounds info a.0.1) (n, rest) a.2 in
     let b = begins_is t m info g.0 in
     let x = argument_sound bounds starts info (below_28 m info f.part.0 (λ e. omega (arith, b.1, e))) a.0.1 n rest f.fits g.1 in
     record {
@@ -191,8 +191,8 @@ pub length_admitted : (t : Bool) (bounds : Bounds) → ((due : ℕ) → bounds.a
     → bounds.admits 0 n ≡ true
 unfolding length_at
 length_admitted t bounds starts bs n rest is =
-    let a = bind_ok (first_at bs) (λ h. cond (begins_chunk t h.0.«major» h.0.info) (argument_at bounds h.0.info h.1) (refused fault.Misplaced bs)) (n, rest) is in
-    let g = failed (begins_chunk t a.0.0.«major» a.0.0.info) (record { «fault» = fault.Misplaced; left = length bs }) (argument_at bounds a.0.0.info a.0.1) (n, rest) a.2 in
+    let a = bind_ok (first_at bs) (λ h. cond (begins_chunk t h.0.«major» h.0.info) (argument_at bounds h.0.info h.1) (refused fault.WrongKind bs)) (n, rest) is in
+    let g = failed (begins_chunk t a.0.0.«major» a.0.0.info) (record { «fault» = fault.WrongKind; left = length bs }) (argument_at bounds a.0.0.info a.0.1) (n, rest) a.2 in
     argument_admitted bounds starts a.0.0.info a.0.1 n rest g.1
 
 length_again : (t : Bool) (bounds : Bounds) (info n : ℕ) (back rest : List ℕ) → Says (string_major t) info → info < 31 → argument_at bounds info (back ++ rest) ≡ Ok (n, rest)
@@ -215,13 +215,13 @@ pub length_placed : (t : Bool) (bounds : Bounds) → Fair IsByte bounds → Star
     → (length bs ≡ e.left) ⊎ Before (Opens (LengthIs t bounds)) bs e.left
 unfolding length_at
 length_placed t bounds fair starts bs e fits is =
-    elim (bind_err (first_at bs) (λ h. cond (begins_chunk t h.0.«major» h.0.info) (argument_at bounds h.0.info h.1) (refused fault.Misplaced bs)) e is) [
+    elim (bind_err (first_at bs) (λ h. cond (begins_chunk t h.0.«major» h.0.info) (argument_at bounds h.0.info h.1) (refused fault.WrongKind bs)) e is) [
       | inl w ↦ inl (first_placed bs e w)
       | inr a ↦
           let m = a.0.0.«major» in
           let info = a.0.0.info in
-          elim (chosen (begins_chunk t m info) (argument_at bounds info a.0.1) (refused fault.Misplaced bs) (Err e) a.2) [
-            | inr w ↦ inl (same_left {A = ℕ × List ℕ} (record { «fault» = fault.Misplaced; left = length bs }) e w.1)
+          elim (chosen (begins_chunk t m info) (argument_at bounds info a.0.1) (refused fault.WrongKind bs) (Err e) a.2) [
+            | inr w ↦ inl (same_left {A = ℕ × List ℕ} (record { «fault» = fault.WrongKind; left = length bs }) e w.1)
             | inl w ↦
                 let f = first_sound bs a.0.0 a.0.1 fits a.1 in
                 let b = begins_is t m info w.0 in

@@ -467,13 +467,13 @@ behind_placed negative from major.Bytes info bs e fits says long is =
           opens_behind (λ n body. TaggedBody negative n (byte ∷ body)) h.front front o.1 o.0 (p.0, string_whole false a.0.0.number p.0 head (front ++ o.1) is_head p.1, p.2, p.3))
           (digits_of_placed negative a.0.0.number a.0.1 e h.fits a.2))
     ]
-behind_placed negative from major.Unsigned info bs e fits says long is = inl (same_left {A = ℕ × List ℕ} (record { «fault» = fault.Misplaced; left = length from }) e is)
-behind_placed negative from major.Negative info bs e fits says long is = inl (same_left {A = ℕ × List ℕ} (record { «fault» = fault.Misplaced; left = length from }) e is)
-behind_placed negative from major.Text info bs e fits says long is = inl (same_left {A = ℕ × List ℕ} (record { «fault» = fault.Misplaced; left = length from }) e is)
-behind_placed negative from major.Array info bs e fits says long is = inl (same_left {A = ℕ × List ℕ} (record { «fault» = fault.Misplaced; left = length from }) e is)
-behind_placed negative from major.Map info bs e fits says long is = inl (same_left {A = ℕ × List ℕ} (record { «fault» = fault.Misplaced; left = length from }) e is)
-behind_placed negative from major.Tag info bs e fits says long is = inl (same_left {A = ℕ × List ℕ} (record { «fault» = fault.Misplaced; left = length from }) e is)
-behind_placed negative from major.Simple info bs e fits says long is = inl (same_left {A = ℕ × List ℕ} (record { «fault» = fault.Misplaced; left = length from }) e is)
+behind_placed negative from major.Unsigned info bs e fits says long is = inl (same_left {A = ℕ × List ℕ} (record { «fault» = fault.WrongKind; left = length from }) e is)
+behind_placed negative from major.Negative info bs e fits says long is = inl (same_left {A = ℕ × List ℕ} (record { «fault» = fault.WrongKind; left = length from }) e is)
+behind_placed negative from major.Text info bs e fits says long is = inl (same_left {A = ℕ × List ℕ} (record { «fault» = fault.WrongKind; left = length from }) e is)
+behind_placed negative from major.Array info bs e fits says long is = inl (same_left {A = ℕ × List ℕ} (record { «fault» = fault.WrongKind; left = length from }) e is)
+behind_placed negative from major.Map info bs e fits says long is = inl (same_left {A = ℕ × List ℕ} (record { «fault» = fault.WrongKind; left = length from }) e is)
+behind_placed negative from major.Tag info bs e fits says long is = inl (same_left {A = ℕ × List ℕ} (record { «fault» = fault.WrongKind; left = length from }) e is)
+behind_placed negative from major.Simple info bs e fits says long is = inl (same_left {A = ℕ × List ℕ} (record { «fault» = fault.WrongKind; left = length from }) e is)
 
 magnitude_placed : (negative : Bool) → PlacedBehind (TaggedBody negative) (magnitude_at negative)
 unfolding magnitude_at

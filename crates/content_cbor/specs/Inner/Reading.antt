@@ -87,7 +87,7 @@ begins_chunk is_text m info = false
 unfoldable pub length_at : Bool → Bounds → Reader ℕ
 length_at is_text bounds bs = first_at bs >>= λ h.
     if begins_chunk is_text h.0.«major» h.0.info then argument_at bounds h.0.info h.1
-    else refused fault.Misplaced bs
+    else refused fault.WrongKind bs
 
 -- a chunk of a text or of bytes
 unfoldable pub chunk_at : Bool → Reader (List ℕ)
@@ -157,7 +157,7 @@ abbrev pub magnitude_behind : Bool → List ℕ → Major → ℕ → Reader ℕ
 magnitude_behind is_negative from major.Bytes info bs =
     head_behind unbounded (record { major = major.Bytes; info = info }) bs >>= λ h.
     digits_of is_negative h.0.number h.1
-magnitude_behind is_negative from m info bs = refused fault.Misplaced from
+magnitude_behind is_negative from m info bs = refused fault.WrongKind from
 
 -- the number under tag 2 or 3, from its bytes
 unfoldable pub magnitude_at : Bool → Reader ℕ
