@@ -190,6 +190,19 @@ class Type:
         """The class of trees that it takes, where it takes one, and the law."""
         return self.arguments[0].takes() if self.name == "Box" else self.record or CLASSES.get(self.name)
 
+    def is_apart(self, other: "Type") -> bool:
+        """Whether no tree is taken by both, where each takes trees of one class."""
+        lengths = {self.length(), other.length()}
+        return self.takes()[0] != other.takes()[0] or (None not in lengths and len(lengths) == 2)
+
+    def length(self) -> Optional[int]:
+        """How many values the trees have that it takes, where all have as many."""
+        return self.arguments[0].length() if self.name == "Box" else len(self.arguments) if self.name == "tuple" else None
+
+    def counts(self) -> str:
+        """The law that it takes trees of so many values."""
+        return f"(tuple_counts {'(part_counts ' * self.length()}parts_end_counts{')' * self.length()})"
+
     def ordered(self) -> Dict[str, str]:
         """Of a map, the order of its keys: that it is total, and that equal keys are its ties."""
         if self.name != "BTreeMap":
