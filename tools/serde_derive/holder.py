@@ -35,9 +35,9 @@ BY_PLACE = Row(
     ("tuple_field_fits {inner}", "tuple_end_fits"),
     ("part_then {count} {place} {inner}", "(end_of_parts {count})"),
     ("PartThen {inner}", "NoPart"),
-    ("tuple_field_back {inner} {see} {count} {place}", "parts_end"),
-    ("part_keeps {see} {count} {place} {inner}", "parts_end_keeps"),
-    ("tuple_field_kept {inner} {see} {count} {place}", "parts_end_kept"))
+    ("tuple_field_back {inner} {see} {count} {place}", "(parts_end {count})"),
+    ("part_keeps {see} {count} {place} {inner}", "(parts_end_keeps {count})"),
+    ("tuple_field_kept {inner} {see} {count} {place}", "(parts_end_kept {count})"))
 BY_NAME = Row(
     ("field_first {name} {inner}", "end_script"),
     ("field_fits {inner}", "struct_end_fits"),

@@ -78,7 +78,7 @@ def module(source: str, name: str, crate: str, place: str, cbor: bool = False) -
     for item in items:
         homes.settle(item)
     body = "\n".join(text for item in items for text in (item.declared(), "", *impls(item, cbor)))
-    seen = " ".join(re.findall(r"λ (?:o )?\([xz] : (.*?)\)\. ", body))
+    seen = " ".join(re.findall(r"λ (?:o )?\([xz] : (.*?)\)\.\s", body))
     owns = {own.declared: own for item in items for own in item.owns()}
     ghosts = words_of(body, WORDS) + words_of(seen, SEEN)
     ghosts += [f"ghost use Rattle.{path} as {name};" for name, path in ALIASES.items()

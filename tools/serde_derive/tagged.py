@@ -69,8 +69,17 @@ class TaggedWriter(EnumWriter):
         heads = [f"variant_or {codes(v.wire)}{holder.refusal_row()}" for v, holder in self.variants]
         return nest(heads, self.no_variant())
 
+    @property
+    def buffered(self) -> str:
+        """What the words say where the fields beside the tag are read out of a buffer."""
+        return "" if self.content else "buffered"
+
+    def by_tag(self) -> str:
+        """What is refused of the tag, and then of the variant that it names."""
+        return f"tag_then{'_buffered' * bool(self.buffered)} {codes(self.tag)}{self.refusals()}"
+
     def given(self, v: Variant, holder: Holder, values: List[str]) -> str:
-        return f"TagThen {codes(self.tag)} {codes(v.wire)}{holder.gives_row(values)}"
+        return f"TagThen{self.buffered.title()} {codes(self.tag)} {codes(v.wire)}{holder.gives_row(values)}"
 
     def tag_reader(self) -> List[str]:
         """The function that reads the tag, and then the variant."""
@@ -84,13 +93,14 @@ class TaggedWriter(EnumWriter):
         gives = self.each(lambda v, holder, x: f"{self.given(v, holder, x)} (fields_left fields.entry)")
         return [fields_reader(
             "The variant that its tag names.", self.reader_name, self.item.name,
-            f"tag_then {codes(self.tag)}{self.refusals()}", gives,
-            [f'let tag = tag_field(alloc, &mut fields, "{self.tag}")?;', "match tag.as_str() {", *arms,
+            self.by_tag(), gives,
+            [f'let tag = tag_field(alloc, &mut fields, "{self.tag}")?;',
+             *["let fields = fields.buffered();"] * bool(self.buffered), "match tag.as_str() {", *arms,
              self.unknown(), "}"])]
 
     def deserialize(self) -> List[str]:
         name = codes(self.item.wire)
-        read = f"read_by_name (tag_then {codes(self.tag)}{self.refusals()})"
+        read = f"read_by_name ({self.by_tag()})"
         request = f'from.deserialize_struct(alloc, "{self.item.wire}", &["{self.tag}"])?'
         return [ghost("refusal", f"struct_refusal {name} ({read})"),
                 ghost("gives", "λ s. " + self.each(
@@ -105,17 +115,27 @@ class TaggedWriter(EnumWriter):
 
     def back(self, v: Variant, holder: Holder, values: List[str]) -> str:
         row = self.unit(v, holder.back_row(values, self.sees(holder)))
-        return (f"λ real f. tagged_back Self.refusal Self.gives{row}\nf (λ fs. refl)\n"
+        beside = "(buffering f)" if self.buffered else "f"
+        return (f"λ real f. tagged_back Self.refusal Self.gives{row}\nf {beside} refl (λ fs. refl)\n"
                 f"(λ fs only. {elim([self.read(v, w) for w in self.item.variants])})")
 
     def kept(self, v: Variant, holder: Holder, values: List[str]) -> str:
         row = self.unit(v, holder.kept_row(values, self.sees(holder)))
-        return (f"λ real. tagged_kept Self.refusal Self.gives{row}\n(λ b fs. refl)\n"
+        inside = "true" if self.buffered else "b"
+        return (f"λ real. tagged_kept Self.refusal Self.gives{row}\n(λ b. {inside}) (λ b fs. refl)\n"
                 f"(λ b fs only. {elim([self.read(v, w) for w in self.item.variants])})")
 
     def keeps(self, v: Variant, holder: Holder, values: List[str]) -> str:
-        row = self.unit(v, holder.keeps_row(self.sees(holder)))
         return (f"λ p.\nlet q = (struct_keeps {codes(self.item.wire)} (by_name_keeps\n"
-                f"(tag_keeps {codes(self.tag)} {codes(v.wire)}{self.refusals()} (λ f. refl){row}))).of_origin o people"
+                f"({self.tag_keeps(v, holder)}))).of_origin o people"
                 f" {together(values)}\n(record {{ free = p.free; given = p.given }}) in\n"
                 "record { free = q.free; given = q.given }")
+
+    def tag_keeps(self, v: Variant, holder: Holder) -> str:
+        """The law that what the fields give without coercion they give with it."""
+        words = f"{codes(self.tag)} {codes(v.wire)}{self.refusals()}"
+        if not self.buffered:
+            return f"tag_keeps {words} (λ f. refl){self.unit(v, holder.keeps_row(self.sees(holder)))}"
+        values = ["z"] if holder.count == 1 else [f"z.{i}" for i in range(holder.count)]
+        seen = " × ".join(f.type.seen() for f in holder.fields) or "Unit {0}"
+        return f"tag_keeps_buffered {words}\n(λ (z : {seen}).{holder.gives_row(values)})"

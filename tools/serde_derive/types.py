@@ -125,7 +125,7 @@ class Type:
         if self.name != "tuple":
             return self.laws.back.format(*inside, own=snake(self.declared), **self.ordered())
         parts = nest([f"element_back {law} x.{i} real{f'.{i}' * (count > 1)} (λ y. y.{i}) {count} {i}"
-                      for i, law in enumerate(inside)], "parts_end")
+                      for i, law in enumerate(inside)], f"(parts_end {count})")
         return f"(record {{ of_value = λ x real f. tuple_back{parts}\nf (λ y h. {both(count, 'h')}) }})"
 
     def kept(self) -> str:
@@ -134,7 +134,7 @@ class Type:
             null = self.arguments[0].not_null() if self.name == "Option" else ""
             return self.laws.kept.format(*inside, own=snake(self.declared), null=null, **self.ordered())
         parts = nest([f"element_kept {law} x.{i} real{f'.{i}' * (count > 1)} (λ y. y.{i}) {count} {i}"
-                      for i, law in enumerate(inside)], "parts_end_kept")
+                      for i, law in enumerate(inside)], f"(parts_end_kept {count})")
         return f"(record {{ of_value = λ x real. tuple_kept{parts}\n(λ y h. {both(count, 'h')}) }})"
 
     def not_null(self) -> str:
@@ -162,7 +162,7 @@ class Type:
             return self.laws.keeps.format(*inside, own=snake(self.declared), **self.ordered())
         return f"(tuple_keeps {count}" + nest(
             [f"part_keeps (λ y. y.{i}) {count} {i} {law}" for i, law in enumerate(inside)],
-            "parts_end_keeps") + ")"
+            f"(parts_end_keeps {count})") + ")"
 
     def typed_back(self) -> str:
         """The same with its type, where the term alone does not tell it."""
@@ -201,7 +201,9 @@ class Type:
 
     def counts(self) -> str:
         """The law that it takes trees of so many values."""
-        return f"(tuple_counts {'(part_counts ' * self.length()}parts_end_counts{')' * self.length()})"
+        count = self.length()
+        parts = "".join(f"(part_counts _ {count} {place} " for place in range(count))
+        return f"(tuple_counts {parts}(parts_end_counts {count}){')' * (count + 1)}"
 
     def ordered(self) -> Dict[str, str]:
         """Of a map, the order of its keys: that it is total, and that equal keys are its ties."""

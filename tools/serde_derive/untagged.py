@@ -122,7 +122,7 @@ class UntaggedWriter(EnumWriter):
         if len(laws) == 1:
             return f"({laws[0]}.of_value {values[0]} {real[0]}{flags})"
         parts = nest([f"element_{member} {law} {x} {r} {see} {len(laws)} {i}" for i, (law, x, r, see) in enumerate(
-            zip(laws, values, real, self.sees(holder)))], end)
+            zip(laws, values, real, self.sees(holder)))], f"({end} {len(laws)})")
         return f"(tuple_{member}{parts}\n{flags.lstrip()}{' ' * bool(flags)}(λ y h. h))"
 
     def read_as(self, sent: Variant, read: Variant, one: str, source: str) -> str:

@@ -41,7 +41,7 @@ content_de.specs.Reads.Read Reads
 content_de.specs.Reads.Attempts IsTakenAs or_next
 content_de.specs.Reads.ByName read_by_name named_then named_or_then others_skipped no_others
 content_de.specs.Reads.ByName ReadByName NamedThen NamedOrThen NoOthers
-content_de.specs.Reads.Tagged tag_then TagThen
+content_de.specs.Reads.Tagged tag_then TagThen tag_then_buffered TagThenBuffered
 content_de.specs.Reads.Own enum_refusal variant_or no_variant_of EnumGives
 content_de.specs.Reads.Own {' '.join(f'{s}_refusal {pascal(s)}Gives' for s in STYLES)}
 serde_content.specs.RoundTrip ComesBack CoercionKeeps
@@ -58,7 +58,7 @@ serde_content.specs.Laws.ByName by_name_keeps named_keeps named_or_keeps skipped
 serde_content.specs.Laws.Flattened flattened_script flattened_first flattened_fits flattened_end_fits
 serde_content.specs.Laws.Flattened flattened_lawful flattened_refusal FlattenedGives flattened_end_back
 serde_content.specs.Laws.Flattened flattened_named_back flattened_named_or_back flattened_back flattened_keeps
-serde_content.specs.Laws.Tagged tagged_script tagged_back tag_keeps
+serde_content.specs.Laws.Tagged tagged_script tagged_back tag_keeps tag_keeps_buffered
 serde_content.specs.Laws.Untagged such_seen first_taken later_taken taken_by_one not_refused
 serde_content.specs.Laws.Untagged unit_takes bool_takes number_takes char_takes text_takes seq_takes tuple_takes
 serde_content.specs.Laws.Untagged map_takes struct_takes tuple_counts part_counts parts_end_counts
@@ -102,8 +102,8 @@ USES = {
     "std::alloc": "Global",
     "std::collections": "BTreeMap",
 }
-IN_TEXT = {"[]": "[]", "form": "(form t)", "custom": "(custom ", "Some": "(Some (", "None": "≡ None", "true": "fits true",
-           "false": "≡ false"}
+IN_TEXT = {"[]": r"\[\]", "form": r"\(form t\)", "custom": r"\(custom ", "Some": r"\(Some \(", "None": "≡ None",
+           "true": r"(?:fits|λ b\.) true", "false": "≡ false"}
 METHODS = {"Parts": r"\.(?:with|around)\("}
 TAKEN = {name for names in USES.values() for name in names.split()} | set(HOLDERS) | {"String", "Ok", "Err"}
 
@@ -114,7 +114,7 @@ def words_of(text: str, table: Dict[str, str]) -> List[str]:
     used = set(re.findall(r"[^\W\d]\w*|[^\w\s]", text))
     by_module: Dict[str, List[str]] = {}
     for word, module in table.items():
-        if IN_TEXT[word] in text if word in IN_TEXT else word.strip("◌") in used:
+        if re.search(IN_TEXT[word], text) if word in IN_TEXT else word.strip("◌") in used:
             by_module.setdefault(module, []).append(word)
     lines = []
     for module, words in by_module.items():

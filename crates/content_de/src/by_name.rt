@@ -14,6 +14,7 @@ ghost use Rattle.content_de.specs.declared.map.Entries.TheVariants as entries;
 ghost use Rattle.content_de.specs.Sources.Deserializer.{flags_of, subject};
 ghost use Rattle.content_de.specs.Accesses.Map.{map_view, entries_under, entries_view};
 ghost use Rattle.content_de.specs.Accesses.ByName.{by_name, entries_of, field_named, fields_left};
+ghost use Rattle.content_de.specs.Accesses.ByName.{buffered_fields};
 ghost use Rattle.content_de.specs.Accesses.ByName.{without_field, rest_of, PassesFirst};
 ghost use Rattle.content_de.specs.Accesses.ByName.{keyless_entry, field_entry};
 ghost use Rattle.content_de.specs.Reads.Read.{Reads};
@@ -172,6 +173,24 @@ impl<'de, 'n> FieldsByName<'de, 'n> {
                 left: Left::Fields(left),
                 flags,
             },
+        }
+    }
+
+    /// The same entries, read out of a [buffer](crate::Deserializer::buffered), as Serde reads what
+    /// an enum with a tag among its fields has beside the tag. It takes no memory.
+    #[inline(always)]
+    pub fn buffered(self) -> FieldsByName<'de, 'n>
+        ensures { fields_left result ≡ buffered_fields (fields_left self.entry) }
+    {
+        let FieldsByName {
+            keyless,
+            left,
+            flags,
+        } = self;
+        FieldsByName {
+            keyless,
+            left,
+            flags: flags.buffering(),
         }
     }
 

@@ -29,8 +29,8 @@ pub record PartsKept {Y : Type 0} (m : ItemCall) (script : Bool → Script) (ref
   pub spelled : Spelled (RowSuch m (λ ts. EachFits ts → (b : Bool) → GivesOnly (refusal (items_under (flags_in b) (each_form ts))) (λ y. given y (items_under (flags_in b) (each_form ts))) such)) (script false)
 
 -- no part
-pub parts_end_kept : {Y : Type 0} {m : ItemCall} {n : ℕ} → PartsKept {Y = Y} m (only event.end) (end_of_parts n) (λ y. NoPart) (λ y. ⊤)
-parts_end_kept {n} = record { spelled = row_end (λ fits b. record { free = nothing_left n (flags_in b); only = λ y h. tt }) }
+pub parts_end_kept : {Y : Type 0} {m : ItemCall} (n : ℕ) → PartsKept {Y = Y} m (only event.end) (end_of_parts n) (λ y. NoPart) (λ y. ⊤)
+parts_end_kept n = record { spelled = row_end (λ fits b. record { free = nothing_left n (flags_in b); only = λ y h. tt }) }
 
 -- a part after its call, and then the others
 part_kept : {A Y : Type 0} {exists : A → Type 0} {script : ScriptOf A} {refusal : Refusal} {gives : Gives A} {eq : A → A → Bool} {m : ItemCall} {rest : Bool → Script} {others : SeqLeft → Option Cause}

@@ -153,17 +153,17 @@ none_left : (n : ℕ) (f : Flags) (ts : Trees) → end_of_parts n (items_under (
 none_left n f tree.no_trees free = refl
 none_left n f (tree.tree_then t ts) free = absurd (cc free)
 
-pub parts_end_counts : {n : ℕ} → PartsCount 0 (end_of_parts n)
-parts_end_counts {n} = record { of_items = none_left n }
+pub parts_end_counts : (n : ℕ) → PartsCount 0 (end_of_parts n)
+parts_end_counts n = record { of_items = none_left n }
 
 -- one part, and then the others
-one_more : {refusal : Refusal} {others : SeqLeft → Option Cause} {n : ℕ} (expected found : ℕ) → PartsCount n others → (f : Flags) (ts : Trees)
+one_more : {others : SeqLeft → Option Cause} {n : ℕ} (refusal : Refusal) (expected found : ℕ) → PartsCount n others → (f : Flags) (ts : Trees)
     → part_then expected found refusal others (items_under (buffering f) ts) ≡ None → count ts ≡ n + 1
-one_more expected found more f tree.no_trees free = absurd (cc free)
-one_more expected found more f (tree.tree_then t ts) free = ap (λ k. k + 1) (more.of_items f ts (second_free _ _ free))
+one_more refusal expected found more f tree.no_trees free = absurd (cc free)
+one_more refusal expected found more f (tree.tree_then t ts) free = ap (λ k. k + 1) (more.of_items f ts (second_free _ _ free))
 
-pub part_counts : {refusal : Refusal} {others : SeqLeft → Option Cause} {n expected found : ℕ} → PartsCount n others → PartsCount (n + 1) (part_then expected found refusal others)
-part_counts {expected = expected} {found = found} more = record { of_items = one_more expected found more }
+pub part_counts : {others : SeqLeft → Option Cause} {n : ℕ} (refusal : Refusal) (expected found : ℕ) → PartsCount n others → PartsCount (n + 1) (part_then expected found refusal others)
+part_counts refusal expected found more = record { of_items = one_more refusal expected found more }
 
 -- a tuple of these parts
 row_counts : {n : ℕ} {parts : SeqLeft → Option Cause} (len : ℕ) → PartsCount n parts → (f : Flags) (t : Tree)

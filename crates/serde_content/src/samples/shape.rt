@@ -181,7 +181,7 @@ impl<'de> RoundTrip<'de> for Shape {
             (tuple_variant_back
             (tuple_field_back i32_back a tt (λ (z : ℤ × ℤ). z.0) 2 0
             (tuple_field_back i32_back b tt (λ (z : ℤ × ℤ). z.1) 2 1
-            parts_end)))
+            (parts_end 2))))
             f (λ d. refl)
             (λ d only. elim [
               | shape.Dot ↦ λ it. other_variant it.0 refl
@@ -219,7 +219,7 @@ impl<'de> RoundTrip<'de> for Shape {
             (tuple_variant_keeps
             (part_keeps (λ (z : ℤ × ℤ). z.0) 2 0 (integer_keeps kind.i32)
             (part_keeps (λ (z : ℤ × ℤ). z.1) 2 1 (integer_keeps kind.i32)
-            parts_end_keeps)))
+            (parts_end_keeps 2))))
             o people (a, b) p.free p.given in
             record { free = q.0; given = q.1 }
         | shape.Area w h ↦ λ p.
