@@ -3,18 +3,18 @@ from typing import Callable, List
 
 from .declarations import Data, Item, Variant
 from .holder import Holder
-from .text import DESERIALIZE, KNOWN, SERIALIZE, alias, all_hold, arm, bracketed, clause, codes, elim
+from .text import DESERIALIZE, KNOWN, SERIALIZE, all_hold, arm, bracketed, clause, codes, elim
 from .text import facts, function, ghost, listed, quoted, together
-from .types import nest, snake
+from .types import nest
 
 
 class EnumWriter:
     """The impls of an enum, each member by cases."""
 
     def __init__(self, item: Item):
-        self.item, self.name, self.cases = item, codes(item.wire), alias(item.name)
+        self.item, self.name, self.cases = item, codes(item.wire), item.cases
         self.sends, self.reads = "Serialize" in item.derives, "Deserialize" in item.derives
-        self.variants = [(v, Holder("Variant", [item.wire, i, v.wire], v.data, item.name + v.name))
+        self.variants = [(v, Holder("Variant", [item.wire, i, v.wire], v.data, v.owner))
                          for i, v in enumerate(item.variants)]
 
     @staticmethod
@@ -70,7 +70,7 @@ class EnumWriter:
                 + clause("ensures", f"result ≡ {made}") + f"{{\n{self.made(v, places)}\n}}\n"]
 
     def maker_name(self, v: Variant) -> str:
-        return f"make_{snake(self.item.name + v.name)}"
+        return f"make_{v.owner}"
 
     def match(self, arms: List[str]) -> List[str]:
         return ["match self {"] + arms + ["}"]

@@ -17,7 +17,7 @@ class TaggedHolder(Holder):
 
     def __init__(self, item: Item, tag: str, v: Variant, fields: List[Field]):
         data, name = Data("Struct", fields, v.data.closed), (v.beside or item).wire
-        super().__init__("Struct", [name], data, item.name + v.name)
+        super().__init__("Struct", [name], data, v.owner)
         self.names_known = [tag] + self.names_known
         self.tag, self.variant = tag, v.wire
         self.call = f'Call::Struct("{name}", {self.count + 1})'
@@ -41,7 +41,7 @@ class TaggedWriter(EnumWriter):
         super().__init__(item)
         self.tag, self.content = item.serde["tag"], item.serde.get("content")
         self.variants = [(v, TaggedHolder(item, self.tag, v, self.fields_of(v))) for v in item.variants]
-        self.reader_name = f"read_{self.cases}"
+        self.reader_name = f"read_{item.owner}"
 
     def fields_of(self, v: Variant) -> List[Field]:
         """The fields beside the tag: the variant's own, or the one that holds its value."""

@@ -2,7 +2,7 @@
 import re
 from typing import Dict, List
 
-from .names import pascal
+from .cases import pascal
 from .types import HOLDERS, LEAVES
 
 
@@ -102,6 +102,11 @@ USES = {
     "std::alloc": "Global",
     "std::collections": "BTreeMap",
 }
+# what contracts can name nothing by, and what else code names no value by
+RESERVED = set("""abbrev as axiom coe com data deriving do elim fcoe hcom in infix infixl infixr let module mutual open
+package pub record ruleset tcoe unfold unfoldable unfolding use where""".split())
+NO_PLACES = RESERVED | {"alloc", "fields", "serializer", "result"} | {
+    name for names in USES.values() for name in names.split() if name.islower()}
 IN_TEXT = {"[]": r"\[\]", "form": r"\(form t\)", "custom": r"\(custom ", "Some": r"\(Some \(", "None": "≡ None",
            "true": r"(?:fits|λ b\.) true", "false": "≡ false"}
 METHODS = {"Parts": r"\.(?:with|around)\("}
