@@ -74,6 +74,10 @@ class TaggedWriter(EnumWriter):
         """What the words say where the fields beside the tag are read out of a buffer."""
         return "" if self.content else "buffered"
 
+    def tag_taker(self) -> str:
+        """The function that takes the tag."""
+        return "internal_tag" if self.buffered else "tag_field"
+
     def by_tag(self) -> str:
         """What is refused of the tag, and then of the variant that it names."""
         return f"tag_then{'_buffered' * bool(self.buffered)} {codes(self.tag)}{self.refusals()}"
@@ -94,8 +98,7 @@ class TaggedWriter(EnumWriter):
         return [fields_reader(
             "The variant that its tag names.", self.reader_name, self.item.name,
             self.by_tag(), gives,
-            [f'let tag = tag_field(alloc, &mut fields, "{self.tag}")?;',
-             *["let fields = fields.buffered();"] * bool(self.buffered), "match tag.as_str() {", *arms,
+            [f'let tag = {self.tag_taker()}(alloc, &mut fields, "{self.tag}")?;', "match tag.as_str() {", *arms,
              self.unknown(), "}"])]
 
     def deserialize(self) -> List[str]:

@@ -96,7 +96,7 @@ USES = {
     "content_cbor": "CborRoundTrip NotNull",
     "serde_content": "CowStr Deserializer Error Result RoundTrip",
     "serde_content::de": f"Deserialize FieldsByName {' '.join(sorted(one for _, one in CHOICES))} attempt end_fields"
-                         f" field_or finish_parts {' '.join(sorted(first for first, _ in CHOICES))} named_field next_part"
+                         f" field_or finish_parts internal_tag {' '.join(sorted(first for first, _ in CHOICES))} named_field next_part"
                          f" {' '.join(sorted(READERS))} skip_fields tag_field two_parts unknown_variant",
     "serde_content::ser": f"Call Parts Serialize Serializer {' '.join(sorted(SENDERS))}",
     "std::alloc": "Global",

@@ -51,8 +51,8 @@ ghost use Rattle.check_derive.specs.declared.choices.Color.TheVariants as color;
 
 use content_cbor::{CborRoundTrip, NotNull};
 use serde_content::de::{
-    Deserialize, FieldsByName, OneOfFour, OneOfTwo, first_of_four, first_of_two, read_two,
-    skip_fields, tag_field, unknown_variant,
+    Deserialize, FieldsByName, OneOfFour, OneOfTwo, first_of_four, first_of_two, internal_tag,
+    read_two, skip_fields, unknown_variant,
 };
 use serde_content::ser::{Call, Serialize, Serializer, send_four, send_one, send_three, send_two};
 use serde_content::{Deserializer, Result, RoundTrip};
@@ -156,8 +156,7 @@ fn read_command<'de, 'n: 'de>(alloc: Global, mut fields: FieldsByName<'de, 'n>) 
               NoOthers)) (fields_left fields.entry)
         ]) result }
 {
-    let tag = tag_field(alloc, &mut fields, "kind")?;
-    let fields = fields.buffered();
+    let tag = internal_tag(alloc, &mut fields, "kind")?;
     match tag.as_str() {
         "stop" => {
             skip_fields(alloc, fields, &["kind"])?;
@@ -371,6 +370,31 @@ fn make_setting_level(x1: i32) -> Setting
     Setting::Level(x1)
 }
 
+/// Sends values of any types, so that its proof looks into none.
+fn send_setting_range<S: Serializer, T1: Serialize, T2: Serialize>(
+    alloc: Global,
+    serializer: &mut S,
+    x1: &T1,
+    x2: &T2,
+) -> Result<()>
+    ensures { Sends S.step S.refuses (S.seen serializer.old)
+        (tuple_script 2
+        (element_first (T1.script x1.now)
+        (element_first (T2.script x2.now)
+        end_script)))
+        result (S.seen serializer.new) }
+{
+    send_two(
+        alloc,
+        serializer,
+        Call::Tuple(2),
+        Call::Element,
+        x1,
+        Call::Element,
+        x2,
+    )
+}
+
 impl Serialize for Setting {
     ghost script = { elim [
       | setting.Flag x1 ↦ ⟦<bool as Serialize>⟧.script x1
@@ -396,17 +420,7 @@ impl Serialize for Setting {
         match self {
             Setting::Flag(x1) => x1.serialize(alloc, serializer),
             Setting::Level(x1) => x1.serialize(alloc, serializer),
-            Setting::Range(x1, x2) => {
-                send_two(
-                    alloc,
-                    serializer,
-                    Call::Tuple(2),
-                    Call::Element,
-                    x1,
-                    Call::Element,
-                    x2,
-                )
-            }
+            Setting::Range(x1, x2) => send_setting_range(alloc, serializer, x1, x2),
             Setting::Name(x1) => x1.serialize(alloc, serializer),
         }
     }
@@ -605,6 +619,31 @@ pub enum Steps {
     List(Vec<u8>),
 }
 
+/// Sends values of any types, so that its proof looks into none.
+fn send_steps_pair<S: Serializer, T1: Serialize, T2: Serialize>(
+    alloc: Global,
+    serializer: &mut S,
+    x1: &T1,
+    x2: &T2,
+) -> Result<()>
+    ensures { Sends S.step S.refuses (S.seen serializer.old)
+        (tuple_script 2
+        (element_first (T1.script x1.now)
+        (element_first (T2.script x2.now)
+        end_script)))
+        result (S.seen serializer.new) }
+{
+    send_two(
+        alloc,
+        serializer,
+        Call::Tuple(2),
+        Call::Element,
+        x1,
+        Call::Element,
+        x2,
+    )
+}
+
 impl Serialize for Steps {
     ghost script = { elim [
       | steps.Pair x1 x2 ↦ tuple_script 2
@@ -624,17 +663,7 @@ impl Serialize for Steps {
 
     fn serialize<S: Serializer>(&self, alloc: Global, serializer: &mut S) -> Result<()> {
         match self {
-            Steps::Pair(x1, x2) => {
-                send_two(
-                    alloc,
-                    serializer,
-                    Call::Tuple(2),
-                    Call::Element,
-                    x1,
-                    Call::Element,
-                    x2,
-                )
-            }
+            Steps::Pair(x1, x2) => send_steps_pair(alloc, serializer, x1, x2),
             Steps::List(x1) => x1.serialize(alloc, serializer),
         }
     }
@@ -676,6 +705,68 @@ pub enum Color {
     Rgba(u8, u8, u8, u8),
 }
 
+/// Sends values of any types, so that its proof looks into none.
+fn send_color_rgb<S: Serializer, T1: Serialize, T2: Serialize, T3: Serialize>(
+    alloc: Global,
+    serializer: &mut S,
+    x1: &T1,
+    x2: &T2,
+    x3: &T3,
+) -> Result<()>
+    ensures { Sends S.step S.refuses (S.seen serializer.old)
+        (tuple_script 3
+        (element_first (T1.script x1.now)
+        (element_first (T2.script x2.now)
+        (element_first (T3.script x3.now)
+        end_script))))
+        result (S.seen serializer.new) }
+{
+    send_three(
+        alloc,
+        serializer,
+        Call::Tuple(3),
+        Call::Element,
+        x1,
+        Call::Element,
+        x2,
+        Call::Element,
+        x3,
+    )
+}
+
+/// Sends values of any types, so that its proof looks into none.
+fn send_color_rgba<S: Serializer, T1: Serialize, T2: Serialize, T3: Serialize, T4: Serialize>(
+    alloc: Global,
+    serializer: &mut S,
+    x1: &T1,
+    x2: &T2,
+    x3: &T3,
+    x4: &T4,
+) -> Result<()>
+    ensures { Sends S.step S.refuses (S.seen serializer.old)
+        (tuple_script 4
+        (element_first (T1.script x1.now)
+        (element_first (T2.script x2.now)
+        (element_first (T3.script x3.now)
+        (element_first (T4.script x4.now)
+        end_script)))))
+        result (S.seen serializer.new) }
+{
+    send_four(
+        alloc,
+        serializer,
+        Call::Tuple(4),
+        Call::Element,
+        x1,
+        Call::Element,
+        x2,
+        Call::Element,
+        x3,
+        Call::Element,
+        x4,
+    )
+}
+
 impl Serialize for Color {
     ghost script = { elim [
       | color.Rgb x1 x2 x3 ↦ tuple_script 3
@@ -707,34 +798,8 @@ impl Serialize for Color {
 
     fn serialize<S: Serializer>(&self, alloc: Global, serializer: &mut S) -> Result<()> {
         match self {
-            Color::Rgb(x1, x2, x3) => {
-                send_three(
-                    alloc,
-                    serializer,
-                    Call::Tuple(3),
-                    Call::Element,
-                    x1,
-                    Call::Element,
-                    x2,
-                    Call::Element,
-                    x3,
-                )
-            }
-            Color::Rgba(x1, x2, x3, x4) => {
-                send_four(
-                    alloc,
-                    serializer,
-                    Call::Tuple(4),
-                    Call::Element,
-                    x1,
-                    Call::Element,
-                    x2,
-                    Call::Element,
-                    x3,
-                    Call::Element,
-                    x4,
-                )
-            }
+            Color::Rgb(x1, x2, x3) => send_color_rgb(alloc, serializer, x1, x2, x3),
+            Color::Rgba(x1, x2, x3, x4) => send_color_rgba(alloc, serializer, x1, x2, x3, x4),
         }
     }
 }

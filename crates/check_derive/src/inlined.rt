@@ -51,7 +51,7 @@ ghost use Rattle.check_derive.specs.declared.inlined.Change.TheVariants as chang
 
 use content_cbor::{CborRoundTrip, NotNull};
 use serde_content::de::{
-    Deserialize, FieldsByName, read_four, read_two, tag_field, unknown_variant,
+    Deserialize, FieldsByName, internal_tag, read_four, read_two, unknown_variant,
 };
 use serde_content::ser::{Call, Serialize, Serializer, send_eight, send_three, send_two};
 use serde_content::{Deserializer, Result, RoundTrip};
@@ -477,8 +477,7 @@ fn read_change<'de, 'n: 'de>(alloc: Global, mut fields: FieldsByName<'de, 'n>) -
               NoOthers)) (fields_left fields.entry)
         ]) result }
 {
-    let tag = tag_field(alloc, &mut fields, "op")?;
-    let fields = fields.buffered();
+    let tag = internal_tag(alloc, &mut fields, "op")?;
     match tag.as_str() {
         "add" => {
             let x1 = read_change_add(alloc, fields)?;

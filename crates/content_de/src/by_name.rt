@@ -176,22 +176,13 @@ impl<'de, 'n> FieldsByName<'de, 'n> {
         }
     }
 
-    /// The same entries, read out of a [buffer](crate::Deserializer::buffered), as Serde reads what
-    /// an enum with a tag among its fields has beside the tag. It takes no memory.
+    /// From here on the entries are read out of a [buffer](crate::Deserializer::buffered). It takes
+    /// no memory.
     #[inline(always)]
-    pub fn buffered(self) -> FieldsByName<'de, 'n>
-        ensures { fields_left result ≡ buffered_fields (fields_left self.entry) }
+    pub(crate) fn buffer(&mut self)
+        ensures { fields_left self.new ≡ buffered_fields (fields_left self.old) }
     {
-        let FieldsByName {
-            keyless,
-            left,
-            flags,
-        } = self;
-        FieldsByName {
-            keyless,
-            left,
-            flags: flags.buffering(),
-        }
+        self.flags = self.flags.buffering();
     }
 
     /// Whether an entry has this name.
