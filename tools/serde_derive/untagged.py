@@ -22,7 +22,8 @@ class UntaggedWriter(EnumWriter):
         self.last = f"data did not match any variant of untagged enum {item.name}"
 
     def functions(self) -> List[str]:
-        return [text for v in self.item.variants for text in self.maker(v) * self.reads + self.sender(v) * self.sends]
+        return [text for v in self.item.variants
+                for text in self.maker(v) * self.reads + (self.sender(v) + self.whole_sender(v)) * self.sends]
 
     def sender(self, v: Variant) -> List[str]:
         """The function that sends the values of a variant as a tuple."""
@@ -37,6 +38,21 @@ class UntaggedWriter(EnumWriter):
                 + clause("ensures", f"Sends S.step S.refuses (S.seen serializer.old)\n({script})\n"
                          "result (S.seen serializer.new)")
                 + f"{{\n{sending(f'Call::Tuple({count})', [('Call::Element', p) for p in v.data.places()])}\n}}\n"]
+
+    def whole_sender(self, v: Variant) -> List[str]:
+        """The function that sends a variant of several values, whose contract speaks of the whole enum."""
+        places = v.data.places()
+        if len(places) == 1:
+            return []
+        given = "".join(f", {place}: &{f.type.rust()}" for place, f in zip(places, v.data.fields))
+        whole = " ".join([f"{self.cases}.{v.name}"] + [f"{place}.now" for place in places])
+        name = self.item.name
+        return [f"/// Sends that variant.\nfn {self.sender_name(v)}_whole<S: Serializer>(alloc: Global, serializer: &mut S,"
+                f" whole: &{name}{given}) -> Result<()>\n"
+                + clause("requires", f"whole.now ≡ {whole}")
+                + clause("ensures", f"Sends S.step S.refuses (S.seen serializer.old)\n"
+                         f"(⟦<{name} as Serialize>⟧.script whole.now)\nresult (S.seen serializer.new)")
+                + f"{{\n{self.sender_name(v)}(alloc, serializer, {', '.join(places)})\n}}\n"]
 
     def sender_name(self, v: Variant) -> str:
         return dict((w.name, holder) for w, holder in self.variants)[v.name].sender
@@ -68,7 +84,7 @@ class UntaggedWriter(EnumWriter):
         places = v.data.places()
         if len(places) == 1:
             return f"{places[0]}.serialize(alloc, serializer)"
-        return f"{self.sender_name(v)}(alloc, serializer, {', '.join(places)})"
+        return f"{self.sender_name(v)}_whole(alloc, serializer, self, {', '.join(places)})"
 
     def deserialize(self) -> List[str]:
         refusals = [f"({v.held().member(READ, 'refusal')} (in_buffer s))" for v in self.item.variants]

@@ -395,6 +395,22 @@ fn send_setting_range<S: Serializer, T1: Serialize, T2: Serialize>(
     )
 }
 
+/// Sends that variant.
+fn send_setting_range_whole<S: Serializer>(
+    alloc: Global,
+    serializer: &mut S,
+    whole: &Setting,
+    x1: &u8,
+    x2: &u8,
+) -> Result<()>
+    requires { whole.now ≡ setting.Range x1.now x2.now }
+    ensures { Sends S.step S.refuses (S.seen serializer.old)
+        (⟦<Setting as Serialize>⟧.script whole.now)
+        result (S.seen serializer.new) }
+{
+    send_setting_range(alloc, serializer, x1, x2)
+}
+
 impl Serialize for Setting {
     ghost script = { elim [
       | setting.Flag x1 ↦ ⟦<bool as Serialize>⟧.script x1
@@ -420,7 +436,7 @@ impl Serialize for Setting {
         match self {
             Setting::Flag(x1) => x1.serialize(alloc, serializer),
             Setting::Level(x1) => x1.serialize(alloc, serializer),
-            Setting::Range(x1, x2) => send_setting_range(alloc, serializer, x1, x2),
+            Setting::Range(x1, x2) => send_setting_range_whole(alloc, serializer, self, x1, x2),
             Setting::Name(x1) => x1.serialize(alloc, serializer),
         }
     }
@@ -644,6 +660,22 @@ fn send_steps_pair<S: Serializer, T1: Serialize, T2: Serialize>(
     )
 }
 
+/// Sends that variant.
+fn send_steps_pair_whole<S: Serializer>(
+    alloc: Global,
+    serializer: &mut S,
+    whole: &Steps,
+    x1: &u8,
+    x2: &u8,
+) -> Result<()>
+    requires { whole.now ≡ steps.Pair x1.now x2.now }
+    ensures { Sends S.step S.refuses (S.seen serializer.old)
+        (⟦<Steps as Serialize>⟧.script whole.now)
+        result (S.seen serializer.new) }
+{
+    send_steps_pair(alloc, serializer, x1, x2)
+}
+
 impl Serialize for Steps {
     ghost script = { elim [
       | steps.Pair x1 x2 ↦ tuple_script 2
@@ -663,7 +695,7 @@ impl Serialize for Steps {
 
     fn serialize<S: Serializer>(&self, alloc: Global, serializer: &mut S) -> Result<()> {
         match self {
-            Steps::Pair(x1, x2) => send_steps_pair(alloc, serializer, x1, x2),
+            Steps::Pair(x1, x2) => send_steps_pair_whole(alloc, serializer, self, x1, x2),
             Steps::List(x1) => x1.serialize(alloc, serializer),
         }
     }
@@ -734,6 +766,23 @@ fn send_color_rgb<S: Serializer, T1: Serialize, T2: Serialize, T3: Serialize>(
     )
 }
 
+/// Sends that variant.
+fn send_color_rgb_whole<S: Serializer>(
+    alloc: Global,
+    serializer: &mut S,
+    whole: &Color,
+    x1: &u8,
+    x2: &u8,
+    x3: &u8,
+) -> Result<()>
+    requires { whole.now ≡ color.Rgb x1.now x2.now x3.now }
+    ensures { Sends S.step S.refuses (S.seen serializer.old)
+        (⟦<Color as Serialize>⟧.script whole.now)
+        result (S.seen serializer.new) }
+{
+    send_color_rgb(alloc, serializer, x1, x2, x3)
+}
+
 /// Sends values of any types, so that its proof looks into none.
 fn send_color_rgba<S: Serializer, T1: Serialize, T2: Serialize, T3: Serialize, T4: Serialize>(
     alloc: Global,
@@ -767,6 +816,24 @@ fn send_color_rgba<S: Serializer, T1: Serialize, T2: Serialize, T3: Serialize, T
     )
 }
 
+/// Sends that variant.
+fn send_color_rgba_whole<S: Serializer>(
+    alloc: Global,
+    serializer: &mut S,
+    whole: &Color,
+    x1: &u8,
+    x2: &u8,
+    x3: &u8,
+    x4: &u8,
+) -> Result<()>
+    requires { whole.now ≡ color.Rgba x1.now x2.now x3.now x4.now }
+    ensures { Sends S.step S.refuses (S.seen serializer.old)
+        (⟦<Color as Serialize>⟧.script whole.now)
+        result (S.seen serializer.new) }
+{
+    send_color_rgba(alloc, serializer, x1, x2, x3, x4)
+}
+
 impl Serialize for Color {
     ghost script = { elim [
       | color.Rgb x1 x2 x3 ↦ tuple_script 3
@@ -798,8 +865,10 @@ impl Serialize for Color {
 
     fn serialize<S: Serializer>(&self, alloc: Global, serializer: &mut S) -> Result<()> {
         match self {
-            Color::Rgb(x1, x2, x3) => send_color_rgb(alloc, serializer, x1, x2, x3),
-            Color::Rgba(x1, x2, x3, x4) => send_color_rgba(alloc, serializer, x1, x2, x3, x4),
+            Color::Rgb(x1, x2, x3) => send_color_rgb_whole(alloc, serializer, self, x1, x2, x3),
+            Color::Rgba(x1, x2, x3, x4) => {
+                send_color_rgba_whole(alloc, serializer, self, x1, x2, x3, x4)
+            }
         }
     }
 }

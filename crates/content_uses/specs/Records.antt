@@ -1,7 +1,7 @@
 -- A store of records: the tree of each, in the order in which they were put.
-use Rattle.std.specs.Prelude.{◌≡◌, ◌⊎◌, ℕ, List, [], ◌∷◌, ◌++◌, None, Result, IsErrAnd, codes, length}
+use Rattle.std.specs.Prelude.{◌≡◌, ◌⊎◌, ℕ, List, [], ◌∷◌, ◌++◌, None, Some, Result, IsErrAnd, codes, length}
 use Rattle.std.specs.Prelude.{map}
-use Rattle.serde_content.specs.Names.Words.{IsCustomOrMemory}
+use Rattle.serde_content.specs.Names.Words.{IsCustomOrMemory, IsOutOfMemory}
 use Rattle.serde_content.specs.Names.Words.{Tree, tree_of, Script, calls_of, stop_of, SpellsWhole}
 use Rattle.serde_content.specs.Names.Words.{Error, kind_of}
 use Rattle.content_uses.specs.declared.store.Store.{Store}
@@ -15,6 +15,11 @@ abbrev pub IsPut : Script → (old new : List Tree) → ℕ → Type 0
 IsPut script old new number =
     (t : Tree) × (stop_of script ≡ None) × SpellsWhole (calls_of script) t
     × (new ≡ old ++ t ∷ []) × (number ≡ length old)
+
+-- memory ran out, or the script stops with this text
+abbrev pub IsRefusalOf : Script → Error → Type 0
+IsRefusalOf script e = IsOutOfMemory e
+    ⊎ ((message : List ℕ) × (stop_of script ≡ Some message) × IsCustomOrMemory message (kind_of e))
 
 -- that tree stands at the end
 abbrev pub IsLast : Script → (old new : List Tree) → Type 0

@@ -3,7 +3,8 @@
 ghost use Rattle.std.specs.Prelude.{◌≡◌, ◌≤◌, ◌<◌, true, false, IfOk, IfErr, IsErr};
 ghost use Rattle.content_cbor.specs.Form.{depth, form};
 ghost use Rattle.content_uses.specs.Records.{records_of, IsLast, MayBeLast};
-ghost use Rattle.content_uses.specs.Saved.{array_of, IsNoMemory, SavedAgain};
+ghost use Rattle.content_cbor.specs.Item as cbor;
+ghost use Rattle.content_uses.specs.Saved.{array_of, IsNoMemory, SavedAgain, StopsLoading};
 
 use crate::load_error::LoadError;
 use crate::store::Store;
@@ -28,10 +29,16 @@ pub fn save_twice<'v, 'n: 'v>(
     store: &Store<'v, 'n>,
     depth_limit: usize,
 ) -> Result<(Vec<u8>, Vec<u8>), LoadError>
+    ensures first { IfOk result (λ saved. saved.0.items
+        ≡ cbor.item (array_of (records_of store.now))) }
     ensures same { depth (form (array_of (records_of store.now))) ≤ depth_limit
         → IfOk result (λ saved. saved.1.items ≡ saved.0.items) }
     ensures memory { depth (form (array_of (records_of store.now))) ≤ depth_limit
         → IfErr result (λ e. IsNoMemory e) }
+    ensures refused { depth_limit < depth (form (array_of (records_of store.now)))
+        → IsErr result }
+    ensures fault { IfErr result (λ e. StopsLoading depth_limit
+        (cbor.item (array_of (records_of store.now))) e) }
 {
     saved_again();
     let Ok(first) = store.save(alloc) else {
@@ -65,6 +72,8 @@ pub fn put_and_reload<'v, 'a, 'n: 'a, T: CborRoundTrip<'v>>(
     ensures memory { depth (form (array_of (records_of store.new))) ≤ depth_limit
         → IfErr result (λ e. IsNoMemory e) }
     ensures refused { depth_limit < depth (form (array_of (records_of store.new))) → IsErr result }
+    ensures fault { IfErr result (λ e. StopsLoading depth_limit
+        (cbor.item (array_of (records_of store.new))) e) }
     ensures put { IfOk result (λ back. IsLast (T.script item.now false) (records_of store.old)
         (records_of store.new)) }
     ensures kept { IfErr result (λ e. MayBeLast (T.script item.now false) (records_of store.old)

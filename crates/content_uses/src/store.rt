@@ -5,7 +5,8 @@ ghost use Rattle.std.specs.Prelude.{IfOk, IfErr, OnOk, List, option_map};
 ghost use Rattle.serde_content.specs.Names.Words.{items_in, trees_of, trees_view};
 ghost use Rattle.serde_content.specs.Names.Words.{Tree, IsOutOfMemory, SpellsWhole, calls_of};
 ghost use Rattle.serde_content.specs.Names.Words.{stop_of, tree_of, Reads, no_flags, tree_under};
-ghost use Rattle.content_uses.specs.Records.{records_of, IsLast, IsPut, IsUnknown, MayBeLast};
+ghost use Rattle.content_uses.specs.Records.{records_of, IsLast, IsPut, IsRefusalOf};
+ghost use Rattle.content_uses.specs.Records.{IsUnknown, MayBeLast};
 
 pub use crate::load_error::LoadError;
 use content_cbor::{CborRoundTrip, decode, encode_array};
@@ -68,6 +69,7 @@ impl<'v, 'n: 'v> Store<'v, 'n> {
     pub fn put<T: Serialize>(&mut self, alloc: Global, item: &T) -> Result<usize>
         ensures put { IfOk result (λ number. IsPut (T.script item.now false)
             (records_of self.old) (records_of self.new) number) }
+        ensures refused { IfErr result (λ e. IsRefusalOf (T.script item.now false) e) }
         ensures memory { stop_of (T.script item.now false) ≡ None
             → IfErr result (λ e. IsOutOfMemory e) }
         ensures kept { IfErr result (λ e. records_of self.new ≡ records_of self.old) }
