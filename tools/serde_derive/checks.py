@@ -2,13 +2,14 @@
 from typing import Iterator, List
 
 from .declarations import Item, NotRust, Refused
-from .homes import placed
+from .homes import extent, placed
 from .types import LEAVES
 from .words import SEEN, TAKEN, WORDS
 
 # what names no type, field or variant: words of Rattle's, and names that it makes itself
 NOT_TYPES = {*TAKEN, *WORDS, *SEEN, *LEAVES, "str", "f32", "f64", "tuple", "Lib", "Prim", "Self", "deriving", "TheOwn",
              "TheVariants", "TheBound", "TheImpl", "TheLinks", "TheLaws"}
+MOST_WORK = 1_000_000
 NO_FIELDS = {"ghost", "requires", "ensures", "deriving"}
 NO_VARIANTS = NO_FIELDS | {"the_row", "the_data", "TheLaws", "TheVariants"}
 
@@ -68,6 +69,20 @@ def check_parts(item: Item) -> Iterator[Refused]:
             if one.name in seen:
                 yield NotRust(one.line, f"two are called `{one.name}`", where)
             seen.add(one.name)
+
+
+def check_work(items: List[Item]) -> Iterator[Refused]:
+    """Refuses the first type with which a file would take minutes to write: the text grows with the square
+    of fields and variants."""
+    work = 0
+    for item in items:
+        inside = [f for data in item.parts() for f in data.leaves()]
+        work += len(item.variants) ** 2 + max([len(data.leaves()) for data in item.parts()]) * sum(
+            parts * levels for parts, levels in (extent(f.type) for f in inside))
+        if work > MOST_WORK:
+            yield Refused(item.line, "with this type the file has too many fields and variants: move it to another",
+                          item.name)
+            return
 
 
 def check(items: List[Item]) -> Iterator[Refused]:

@@ -4,6 +4,7 @@ from typing import Callable, List, Optional
 
 from .cases import CASES, same
 from .declarations import Data, Item, Named, Refused
+from .tokens import LONGEST
 from .types import DEFAULTS
 
 
@@ -41,6 +42,8 @@ def name_each(all_named: List[Named], by_case: Callable[[str], str]) -> None:
         where = "" if isinstance(one, Item) else one.name
         if not re.fullmatch(r"[ !#-\[\]-~]+", one.wire):
             raise Refused(one.line, f"the name `{one.wire}` is not covered: printable ASCII but \" and \\ is", where)
+        if len(one.wire) > LONGEST:
+            raise Refused(one.line, f"a name of more than {LONGEST} letters is not covered: shorten it", where)
         if one.wire in taken:
             raise Refused(one.line, f"two are called `{one.wire}`: give one another name by `rename`", where)
         taken.add(one.wire)

@@ -33,6 +33,7 @@ TOKEN = re.compile(r"""
 KEYWORDS = set("""as async await break const continue crate dyn else enum extern false fn for if impl in let loop match
 mod move mut pub ref return self Self static struct super trait true type unsafe use where while""".split())
 ROOTS = {"crate", "self", "super", "Self"}
+LONGEST = 100
 CLOSES = {"(": ")", "[": "]", "{": "}"}
 ESCAPES = {"n": "\n", "r": "\r", "t": "\t", "0": "\0", "\\": "\\", "'": "'", '"': '"'}
 
@@ -163,6 +164,8 @@ class Cursor:
         if not token.text.isascii():
             raise Refused(token.line, f"the name `{token.text}` is not covered, as Rattle takes names in ASCII alone:"
                           " give it another")
+        if len(token.text) > LONGEST:
+            raise Refused(token.line, f"a name of more than {LONGEST} letters is not covered: shorten it")
         return self.take().text
 
     def path(self) -> List[str]:
