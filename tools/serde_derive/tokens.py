@@ -106,9 +106,12 @@ def apart(text: str, after: str) -> bool:
 def escaped(found: "re.Match[str]") -> str:
     """What an escape in a text stands for."""
     word = found.group(1)
-    if word[0] in "ux":
-        return chr(int(re.sub(r"\W", "", word[1:]).replace("_", ""), 16))
-    return ESCAPES.get(word, "")
+    if word[0] not in "ux":
+        return ESCAPES.get(word, "")
+    number = int(re.sub(r"[{}_]", "", word[1:]), 16)
+    if number > 0x10FFFF or 0xD800 <= number < 0xE000:
+        raise ValueError
+    return chr(number)
 
 
 def text_of(token: Token) -> str:
