@@ -154,7 +154,7 @@ struct A {
     x: char,
 }
 
-// 3: A: the name `é` is not covered: printable ASCII but " and \ is
+// 3: A: the name `\xe9` is not covered: printable ASCII but " and \ is
 #[derive(Serialize)]
 #[serde(rename = "é")]
 struct A(u8);
@@ -379,3 +379,12 @@ enum A { X(u8, u8) }
 #[derive(Serialize, Deserialize)]
 #[serde(untagged)]
 enum B { X, Y { x: u8 } }
+
+// 3: A: the name `a"b` is not covered: printable ASCII but " and \ is
+// 6: B: the name `\x00` is not covered: printable ASCII but " and \ is
+#[derive(Serialize)]
+#[serde(tag = "a\"b")]
+enum A { X }
+#[derive(Serialize)]
+#[serde(tag = "a", content = "\0")]
+enum B { X }

@@ -2,6 +2,7 @@
 import re
 from typing import Dict, Iterator, List, Optional, Set, Tuple, Union
 
+from .attributes import doc_line
 from .checks import check, check_work
 from .declarations import Item, Refusals, Refused
 from .derives import check_derives
@@ -144,5 +145,5 @@ def module(source: str, name: str, crate: str, place: str, cbor: bool = False,
     writers = settled(file, homes)
     texts = [text for item in file.items for text in texts_of(item, writers[item.name], cbor)]
     docs = file.docs or ["//! Types that are sent and read."]
-    docs += ["//!", f"//! Written by `tools/derive` from `{name}`: change that file, and write this one anew."]
+    docs += ["//!", f"//! Written by `tools/derive` from `{doc_line(name)}`: change that file, and write this one anew."]
     return "\n".join([*docs, "", *uses(file, homes, texts), "", *texts])
