@@ -129,7 +129,7 @@ struct A {
 #[derive(Serialize)]
 struct A(B);
 
-// 4: B.0: `A` does not derive Eq, PartialEq
+// 4: B.0: `A` does not derive Eq, PartialEq, as what holds it does: derive that too
 #[derive(Serialize, Deserialize)]
 struct A(u8);
 #[derive(Serialize, Deserialize, PartialEq, Eq)]
@@ -275,7 +275,7 @@ struct A(u8);
 
 // 2: A.x: `derive(Copy)` is not covered beside `String`, which has memory of its own: delete Copy
 // 2: A.y: `derive(Copy)` is not covered beside `Vec<u8>`, which has memory of its own: delete Copy
-// 2: A.z: `B` does not derive Copy, as what holds it does
+// 2: A.z: `B` does not derive Copy, as what holds it does: derive it there too
 #[derive(Serialize, Clone, Copy)]
 struct A { x: Option<String>, y: (u8, Vec<u8>), z: B }
 #[derive(Serialize, Clone)]
@@ -283,7 +283,7 @@ struct B(u8);
 
 // 2: A.x: `derive(Default)` is not covered beside `String`, which takes an allocator: delete Default, and write a `new(alloc)`
 // 2: A.y: `derive(Default)` is not covered beside `Box<u8>`, which takes an allocator: delete Default, and write a `new(alloc)`
-// 2: A.b: `B` does not derive Default, as what holds it does
+// 2: A.b: `B` does not derive Default, as what holds it does: derive it there too
 #[derive(Serialize, Default)]
 struct A { x: String, y: (u8, Box<u8>), z: Option<Box<u8>>, b: B }
 #[derive(Serialize)]
@@ -388,3 +388,14 @@ enum A { X }
 #[derive(Serialize)]
 #[serde(tag = "a", content = "\0")]
 enum B { X }
+
+// 7: passed over: `impl std::fmt::Debug for C`
+// 4: B.0: `A` does not derive Hash, as what holds it does: derive it there too
+// 4: B.0: `A` does not derive Debug, as what holds it does: derive it there too
+#[derive(Serialize, Deserialize, PartialEq, Eq)]
+struct A(u8);
+#[derive(Hash, Deserialize, PartialEq, Eq, Debug)]
+struct B(Vec<(A, Option<C>)>);
+#[derive(Deserialize, PartialEq, Eq, Hash)]
+struct C(u8);
+impl std::fmt::Debug for C {}

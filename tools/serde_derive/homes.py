@@ -206,7 +206,7 @@ class Homes:
         if part.derives_all() and not part.comes_back() and holder.derives_all() and "untagged" not in holder.serde:
             raise ValueError(f"`{name}` is untagged and does not come back, so what holds it derives no Eq")
         if lacking:
-            raise ValueError(f"`{name}` does not derive {', '.join(sorted(lacking))}")
+            raise ValueError(f"`{name}` does not derive {', '.join(sorted(lacking))}, as what holds it does: derive that too")
         law = ("records", "map_takes" if part.flattens() else "struct_takes")
         self.known(name, self.here, name)
         return Type(name, home=self.here, declared=name, plain=not part.asked(), lost=not part.comes_back_from_cbor(),
