@@ -76,6 +76,8 @@ class Homes:
         """What an alias stands for."""
         if name in self.opened:
             raise ValueError(f"the alias `{name}` stands for itself")
+        if len(self.opened) > DEEPEST:
+            raise ValueError(f"more than {DEEPEST} aliases of aliases are not covered: write the type that they stand for")
         if name not in self.aliases:
             self.opened.add(name)
             try:
