@@ -399,3 +399,9 @@ struct B(Vec<(A, Option<C>)>);
 #[derive(Deserialize, PartialEq, Eq, Hash)]
 struct C(u8);
 impl std::fmt::Debug for C {}
+
+// 2: alloc: a struct with no fields and a small first letter would stand for variables of its name: give the type another name, and this one by `#[serde(rename = "alloc")]`
+#[derive(Serialize)]
+struct alloc;
+#[derive(Serialize)]
+struct small(u8);

@@ -24,6 +24,9 @@ def check_names(item: Item) -> Iterator[Refused]:
     if item.name in NOT_TYPES or (item.name == "S" and item.variants):
         yield Refused(item.line, f"the name `{item.name}` is one that the module uses itself:"
                       f" {renamed(item.name, 'type')}", item.name)
+    if item.sort == "struct" and item.data.style == "Unit" and not item.name[0].isupper():
+        yield Refused(item.line, "a struct with no fields and a small first letter would stand for variables of its name:"
+                      f" {renamed(item.name, 'type')}", item.name)
     for where, f in placed(item):
         if f.name in NO_FIELDS:
             yield Refused(f.line, f"`{f.name}` is a word of Rattle's: {renamed(f.name, 'field')}", where)
