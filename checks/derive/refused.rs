@@ -227,7 +227,7 @@ struct A {
 }
 
 // 1: passed over: `type List<T> = Vec<T>`
-// 2: passed over: `type Loop = Option<Loop>`, which is written as the type that it stands for
+// 2: passed over: `type Loop = Option<Loop>`, whose type is written in its place
 // 5: A.x: the type `List<u8>` is not covered: the types that are stand in docs/OWN_TYPES.md
 // 6: A.y: the alias `Loop` stands for itself
 type List<T> = Vec<T>;
@@ -238,11 +238,11 @@ struct A {
     y: Loop,
 }
 
-// 1: passed over: `type A1 = (u8, u8, u8, u8)`, which is written as the type that it stands for
-// 2: passed over: `type A2 = (A1, A1, A1, A1)`, which is written as the type that it stands for
-// 3: passed over: `type A3 = (A2, A2, A2, A2)`, which is written as the type that it stands for
-// 4: passed over: `type A4 = (A3, A3, A3, A3)`, which is written as the type that it stands for
-// 5: passed over: `type A5 = (A4, A4, A4, A4)`, which is written as the type that it stands for
+// 1: passed over: `type A1 = (u8, u8, u8, u8)`, whose type is written in its place
+// 2: passed over: `type A2 = (A1, A1, A1, A1)`, whose type is written in its place
+// 3: passed over: `type A3 = (A2, A2, A2, A2)`, whose type is written in its place
+// 4: passed over: `type A4 = (A3, A3, A3, A3)`, whose type is written in its place
+// 5: passed over: `type A5 = (A4, A4, A4, A4)`, whose type is written in its place
 // 7: A.0: a type of more than 48 levels or 500 parts is not covered: divide it into structs
 type A1 = (u8, u8, u8, u8);
 type A2 = (A1, A1, A1, A1);
@@ -405,3 +405,7 @@ impl std::fmt::Debug for C {}
 struct alloc;
 #[derive(Serialize)]
 struct small(u8);
+
+// 2: A.0: `A` contains itself, which is not covered, as its contract would speak of itself: write its impls by hand
+#[derive(Serialize)]
+struct A(Option<Box<crate::types::A>>);

@@ -34,8 +34,8 @@ enum A {
 // 21: passed over: `std::thread_local!`
 // 23: passed over: `pub enum Plain`, which derives neither Serialize nor Deserialize
 // 25: passed over: `struct Other`, which derives neither Serialize nor Deserialize
-// 26: passed over: `type Id = (u8, Alias)`, which is written as the type that it stands for
-// 27: passed over: `type Alias = Option<Vec<u32>>`, which is written as the type that it stands for
+// 26: passed over: `type Id = (u8, Alias)`, whose type is written in its place
+// 27: passed over: `type Alias = Option<Vec<u32>>`, whose type is written in its place
 // 29: left out: `#[must_use]`
 // 30: left out: `#[non_exhaustive]`
 // 32: left out: `#[deprecated = "old"]`
@@ -206,7 +206,27 @@ struct A(std::collections::BTreeMap<std::string::String, core::option::Option<Bo
 #[derive(Serialize)]
 struct A { #[serde(rename = "a\u{62}\x63", default)] x: u8, #[serde(rename = r"r#w")] y: u8 }
 
-#[derive(Serialize)]
+// + Ok(A { b: B { c: b_c_field }, b_c })
+#[derive(Serialize, Deserialize)]
 struct A { #[serde(flatten)] b: B, b_c: u8 }
-#[derive(Serialize)]
+#[derive(Serialize, Deserialize)]
 struct B { c: u8 }
+
+// + { Upper: upper_field_field, Global: global_field, low, read_a_from_3: read_a_from_3_field, upper_field }
+#[derive(Deserialize)]
+struct A { Upper: u8, Global: u8, low: u8, read_a_from_3: u8, upper_field: Upper }
+#[derive(Deserialize)]
+struct Upper;
+
+// 6: passed over: `type Number = u8`, whose type is written in its place
+// + x: B, y: B, z: B, w: u8,
+use self::B as Other;
+#[derive(Serialize)]
+struct A { x: self::B, y: crate::types::B, z: Other, w: self::Number }
+#[derive(Serialize)]
+struct B(u8);
+type Number = u8;
+
+/// A direction‮, a separator .
+#[derive(Serialize)]
+struct A(u8);

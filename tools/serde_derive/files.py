@@ -131,7 +131,8 @@ class Reader(Parser):
             self.into.passed[name] = f"is an alias that is not covered (line {self.tokens[start].line}):" \
                                      " write the type that it stands for"
         self.pass_to(";")
-        self.note_passed(start, "" if name in self.into.passed else ", which is written as the type that it stands for")
+        known = name in self.into.aliases
+        self.note_passed(start, ", whose type is written in its place" if known else "")
         self.expect(";")
 
     def plain(self, start: int) -> None:

@@ -35,7 +35,8 @@ class Homes:
 
     def __init__(self, crate: str, module: str, file: File):
         self.crate, self.file, self.items = crate, file, {item.name: item for item in file.items}
-        self.here = self.specs(crate, module.split("::"))
+        self.module = module.split("::")
+        self.here = self.specs(crate, self.module)
         self.used: Set[str] = set()
         self.aliases: Dict[str, Type] = {}
         self.opened: Set[str] = set()
@@ -62,9 +63,9 @@ class Homes:
                     f.type = Type("()")
 
     def resolved(self, t: Type, holder: Item) -> Type:
-        if t.name in self.file.aliases and not t.arguments:
-            return self.alias(t.name, holder)
-        name = holder.name if t.name == "Self" else self.standard(t.name)
+        name = holder.name if t.name == "Self" else self.short(t.name)
+        if name in self.file.aliases and not t.arguments:
+            return self.alias(name, holder)
         whole = replace(t, name=name, arguments=tuple(self.resolved(a, holder) for a in t.arguments))
         parts, levels = extent(whole)
         if parts > MOST_PARTS or levels > DEEPEST:
@@ -91,9 +92,11 @@ class Homes:
         first, *rest = name.split("::")
         return self.file.uses.get(first, [first]) + rest
 
-    def standard(self, name: str) -> str:
-        """The short name of a type of std, where it is covered or known not to be."""
+    def short(self, name: str) -> str:
+        """The short name of a type of this file, or of std, where it is covered or known not to be."""
         path = self.path(name)
+        if path[:-1] in (["self"], ["crate", *self.module]):
+            return path[-1]
         known = path[-1] in LEAVES or path[-1] in HOLDERS or path[-1] in NOT_COVERED
         if path[0] in STANDARD and len(path) > 1:
             return path[-1] if known else "::".join(path)
