@@ -409,3 +409,10 @@ struct small(u8);
 // 2: A.0: `A` contains itself, which is not covered, as its contract would speak of itself: write its impls by hand
 #[derive(Serialize)]
 struct A(Option<Box<crate::types::A>>);
+
+// 3: passed over: `mod inner`
+// 2: A.0: `inner` is a module that is passed over (line 3): import the type by its path from `crate`
+// 2: A.1: `inner` is a module that is passed over (line 3): import the type by its path from `crate`
+#[derive(Serialize)]
+struct A(inner::B, Option<inner::deep::C>);
+mod inner { #[derive(Serialize)] pub struct B(u8); }

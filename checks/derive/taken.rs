@@ -19,29 +19,29 @@ enum A {
     Z { x: u8 } = (3 < 4) as isize,
 }
 
-// 6: passed over: `pub use std::fmt::{self, Display}`, but for what it brings into this file
-// 7: passed over: `use super::other::*`
-// 10: passed over: `const N`
-// 11: passed over: `static mut S`
-// 12: passed over: `extern crate alloc`
-// 13: passed over: `extern "C"`
-// 14: passed over: `pub(crate) const unsafe extern "C" fn g`
-// 15: passed over: `mod x`
-// 17: passed over: `mod tests`
-// 18: passed over: `trait T`
-// 19: passed over: `macro_rules! m`
-// 20: passed over: `m!`
-// 21: passed over: `std::thread_local!`
-// 23: passed over: `pub enum Plain`, which derives neither Serialize nor Deserialize
-// 25: passed over: `struct Other`, which derives neither Serialize nor Deserialize
-// 26: passed over: `type Id = (u8, Alias)`, whose type is written in its place
-// 27: passed over: `type Alias = Option<Vec<u32>>`, whose type is written in its place
-// 29: left out: `#[must_use]`
-// 30: left out: `#[non_exhaustive]`
-// 32: left out: `#[deprecated = "old"]`
-// 47: passed over: `impl fmt::Display for A`
-// 48: passed over: `impl<'a> From<&'a str> for A`
-// 49: passed over: `unsafe impl Send for A`
+// 7: passed over: `pub use std::fmt::{self, Display}`, but for what it brings into this file
+// 8: passed over: `use super::other::*`
+// 11: passed over: `const N`
+// 12: passed over: `static mut S`
+// 13: passed over: `extern crate alloc`
+// 14: passed over: `extern "C"`
+// 15: passed over: `pub(crate) const unsafe extern "C" fn g`
+// 16: passed over: `mod x`
+// 18: passed over: `mod tests`
+// 19: passed over: `trait T`
+// 20: passed over: `macro_rules! m`
+// 21: passed over: `m!`
+// 22: passed over: `std::thread_local!`
+// 24: passed over: `pub enum Plain`, which derives neither Serialize nor Deserialize
+// 26: passed over: `struct Other`, which derives neither Serialize nor Deserialize
+// 27: passed over: `type Id = (u8, Alias)`, whose type is written in its place
+// 28: passed over: `type Alias = Option<Vec<u32>>`, whose type is written in its place
+// 30: left out: `#[must_use]`
+// 31: left out: `#[non_exhaustive]`
+// 33: left out: `#[deprecated = "old"]`
+// 48: passed over: `impl fmt::Display for A`
+// 49: passed over: `impl<'a> From<&'a str> for A`
+// 50: passed over: `unsafe impl Send for A`
 // + //! A whole file. //! With documentation. //! //! Written by
 // + use crate::other; use crate::other::Thing; use crate::other::deep::Third as Drei;
 // - fmt
@@ -51,6 +51,7 @@ enum A {
 //! A whole file.
 #![allow(dead_code)]
 #![doc = "With documentation."]
+#![doc = include_str!("README.md")]
 use serde::*;
 use std::collections::BTreeMap as Map;
 pub use std::fmt::{self, Display};

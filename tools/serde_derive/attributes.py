@@ -118,7 +118,7 @@ class Attributes(Cursor):
 
     def documentation(self, lines: List[str]) -> None:
         """`#[doc = ".."]` as lines of documentation; `#[doc(..)]` is passed over."""
-        if self.eat("="):
+        if self.eat("=") and self.next.sort == "text":
             lines += [doc_line(f"/// {line.strip()}") for line in text_of(self.take()).split("\n")]
         else:
             self.pass_to(",")

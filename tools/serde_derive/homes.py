@@ -220,8 +220,8 @@ class Homes:
     def own(self, name: str) -> Type:
         """An own type of another file."""
         path = self.path(name)
-        if name in self.file.passed:
-            raise ValueError(f"`{name}` {self.file.passed[name]}")
+        if path[0] in self.file.passed:
+            raise ValueError(f"`{path[0]}` {self.file.passed[path[0]]}")
         if path[0] in STANDARD | {"serde"} and len(path) > 1:
             raise ValueError(f"the type `{'::'.join(path)}` is not covered: hold what it is made of, as a number or"
                              " a String")

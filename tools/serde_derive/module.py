@@ -127,6 +127,8 @@ def texts_of(item: Item, writer: Writer, cbor: bool) -> List[str]:
     """The declaration and the impls of an item."""
     try:
         return [item.declared(), "", *impls(item, writer, cbor)]
+    except Refused as refused:
+        raise Refusals([refused.inside(item.name)]) from None
     except RecursionError:
         raise Refusals([Refused(item.line, "what it holds has too many or too long names: divide it", item.name)]) from None
 
