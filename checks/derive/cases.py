@@ -6,6 +6,7 @@ import re
 import subprocess
 import sys
 import tempfile
+import time
 from pathlib import Path
 from typing import Iterator, List, Tuple
 
@@ -45,6 +46,39 @@ def faults(status: int, wanted: List[str], source: str, written: List[str]) -> I
         if line[:2] in ("+ ", "- ") and (line[2:] in " ".join(text.split())) != (line[0] == "+"):
             yield f"{'lacks' if line[0] == '+' else 'has'} {line[2:]}"
     written.append(text)
+
+
+def large() -> Iterator[Tuple[str, int, str]]:
+    """Large files: what each has, the status that it ends with, and its text."""
+    derive = "#[derive(Serialize, Deserialize)]\n"
+    for opens, closes in (("Option<", ">"), ("(", ",)"), ("Vec<(u8, ", ")>")):
+        yield f"1,000 of {opens}", 2, f"{derive}struct A({opens * 1000}u8{closes * 1000});\n"
+    yield "1,000 aliases", 2, f"{derive}struct A(T999);\ntype T0 = u8;\n" + "".join(
+        f"type T{i} = T{i - 1};\n" for i in range(1, 1000))
+    yield "a chain of 1,000 structs", 0, "".join(
+        f"{derive}struct A{i} {{\n    x: A{i + 1},\n}}\n" for i in range(1000)) + f"{derive}struct A1000;\n"
+    yield "a ring of 1,000 structs", 2, "".join(f"{derive}struct A{i}(A{(i + 1) % 1000});\n" for i in range(1000))
+    yield "1,000 structs that are flattened", 2, "".join(
+        f"{derive}struct A{i} {{ x{i}: u8, #[serde(flatten)] y: A{i + 1} }}\n" for i in range(1000)) + (
+        f"{derive}struct A1000 {{ z: u8 }}\n")
+    yield "1,000 fields", 2, f"{derive}struct A {{\n{''.join(f'    x{i}: u8,{chr(10)}' for i in range(1000))}}}\n"
+    yield "1,000 variants", 2, f"{derive}enum A {{\n{''.join(f'    X{i},{chr(10)}' for i in range(1000))}}}\n"
+    yield "a name of 1,000 letters", 2, f"{derive}struct A{'a' * 1000};\n"
+    yield "2,000 conditions", 2, f"#[{'cfg_attr(a, ' * 2000}derive(Serialize){')' * 2000}]\nstruct A;\n"
+    yield "2,000 braces of a use", 2, f"use {'a::{' * 2000}b{'}' * 2000};\n"
+    yield "100,000 brackets", 1, "(" * 100000 + ")" * 100000
+    yield "100,000 open comments", 1, "/*" * 100000
+    yield "100,000 lines of functions", 0, f"{derive}struct A;\n" + "fn f() {\n    g(1);\n}\n\n" * 25000
+
+
+def slow_or_wrong() -> Iterator[str]:
+    """Which large files end otherwise than they should, or in more than 20 seconds."""
+    for what, status, source in large():
+        start = time.monotonic()
+        got, lines, _ = outcome(source)
+        seconds = time.monotonic() - start
+        if got != status or seconds > 20:
+            yield f"{what}: wanted {status}, found {got} in {seconds:.0f} seconds: {lines[-1:]}"
 
 
 def command(room: Path, *words: str) -> Tuple[int, str]:
@@ -100,6 +134,7 @@ def main() -> int:
         for wanted, source in blocks(name):
             count += 1
             wrong += [f"{name}: {fault}\n{source}" for fault in faults(status, wanted, source, written)]
+    wrong += slow_or_wrong()
     with tempfile.TemporaryDirectory() as room:
         wrong += commands(Path(room))
     with tempfile.TemporaryDirectory() as room:

@@ -129,7 +129,7 @@ struct A {
 #[derive(Serialize)]
 struct A(B);
 
-// 4: B.0: `A` does not derive Eq, PartialEq
+// 4: B.0: `A` does not derive Eq, PartialEq, as what holds it does: derive that too
 #[derive(Serialize, Deserialize)]
 struct A(u8);
 #[derive(Serialize, Deserialize, PartialEq, Eq)]
@@ -154,7 +154,7 @@ struct A {
     x: char,
 }
 
-// 3: A: the name `é` is not covered: printable ASCII but " and \ is
+// 3: A: the name `\xe9` is not covered: printable ASCII but " and \ is
 #[derive(Serialize)]
 #[serde(rename = "é")]
 struct A(u8);
@@ -227,7 +227,7 @@ struct A {
 }
 
 // 1: passed over: `type List<T> = Vec<T>`
-// 2: passed over: `type Loop = Option<Loop>`, which is written as the type that it stands for
+// 2: passed over: `type Loop = Option<Loop>`, whose type is written in its place
 // 5: A.x: the type `List<u8>` is not covered: the types that are stand in docs/OWN_TYPES.md
 // 6: A.y: the alias `Loop` stands for itself
 type List<T> = Vec<T>;
@@ -238,11 +238,11 @@ struct A {
     y: Loop,
 }
 
-// 1: passed over: `type A1 = (u8, u8, u8, u8)`, which is written as the type that it stands for
-// 2: passed over: `type A2 = (A1, A1, A1, A1)`, which is written as the type that it stands for
-// 3: passed over: `type A3 = (A2, A2, A2, A2)`, which is written as the type that it stands for
-// 4: passed over: `type A4 = (A3, A3, A3, A3)`, which is written as the type that it stands for
-// 5: passed over: `type A5 = (A4, A4, A4, A4)`, which is written as the type that it stands for
+// 1: passed over: `type A1 = (u8, u8, u8, u8)`, whose type is written in its place
+// 2: passed over: `type A2 = (A1, A1, A1, A1)`, whose type is written in its place
+// 3: passed over: `type A3 = (A2, A2, A2, A2)`, whose type is written in its place
+// 4: passed over: `type A4 = (A3, A3, A3, A3)`, whose type is written in its place
+// 5: passed over: `type A5 = (A4, A4, A4, A4)`, whose type is written in its place
 // 7: A.0: a type of more than 48 levels or 500 parts is not covered: divide it into structs
 type A1 = (u8, u8, u8, u8);
 type A2 = (A1, A1, A1, A1);
@@ -275,7 +275,7 @@ struct A(u8);
 
 // 2: A.x: `derive(Copy)` is not covered beside `String`, which has memory of its own: delete Copy
 // 2: A.y: `derive(Copy)` is not covered beside `Vec<u8>`, which has memory of its own: delete Copy
-// 2: A.z: `B` does not derive Copy, as what holds it does
+// 2: A.z: `B` does not derive Copy, as what holds it does: derive it there too
 #[derive(Serialize, Clone, Copy)]
 struct A { x: Option<String>, y: (u8, Vec<u8>), z: B }
 #[derive(Serialize, Clone)]
@@ -283,7 +283,7 @@ struct B(u8);
 
 // 2: A.x: `derive(Default)` is not covered beside `String`, which takes an allocator: delete Default, and write a `new(alloc)`
 // 2: A.y: `derive(Default)` is not covered beside `Box<u8>`, which takes an allocator: delete Default, and write a `new(alloc)`
-// 2: A.b: `B` does not derive Default, as what holds it does
+// 2: A.b: `B` does not derive Default, as what holds it does: derive it there too
 #[derive(Serialize, Default)]
 struct A { x: String, y: (u8, Box<u8>), z: Option<Box<u8>>, b: B }
 #[derive(Serialize)]
@@ -379,3 +379,40 @@ enum A { X(u8, u8) }
 #[derive(Serialize, Deserialize)]
 #[serde(untagged)]
 enum B { X, Y { x: u8 } }
+
+// 3: A: the name `a"b` is not covered: printable ASCII but " and \ is
+// 6: B: the name `\x00` is not covered: printable ASCII but " and \ is
+#[derive(Serialize)]
+#[serde(tag = "a\"b")]
+enum A { X }
+#[derive(Serialize)]
+#[serde(tag = "a", content = "\0")]
+enum B { X }
+
+// 7: passed over: `impl std::fmt::Debug for C`
+// 4: B.0: `A` does not derive Hash, as what holds it does: derive it there too
+// 4: B.0: `A` does not derive Debug, as what holds it does: derive it there too
+#[derive(Serialize, Deserialize, PartialEq, Eq)]
+struct A(u8);
+#[derive(Hash, Deserialize, PartialEq, Eq, Debug)]
+struct B(Vec<(A, Option<C>)>);
+#[derive(Deserialize, PartialEq, Eq, Hash)]
+struct C(u8);
+impl std::fmt::Debug for C {}
+
+// 2: alloc: a struct with no fields and a small first letter would stand for variables of its name: give the type another name, and this one by `#[serde(rename = "alloc")]`
+#[derive(Serialize)]
+struct alloc;
+#[derive(Serialize)]
+struct small(u8);
+
+// 2: A.0: `A` contains itself, which is not covered, as its contract would speak of itself: write its impls by hand
+#[derive(Serialize)]
+struct A(Option<Box<crate::types::A>>);
+
+// 3: passed over: `mod inner`
+// 2: A.0: `inner` is a module that is passed over (line 3): import the type by its path from `crate`
+// 2: A.1: `inner` is a module that is passed over (line 3): import the type by its path from `crate`
+#[derive(Serialize)]
+struct A(inner::B, Option<inner::deep::C>);
+mod inner { #[derive(Serialize)] pub struct B(u8); }

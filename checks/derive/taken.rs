@@ -19,29 +19,29 @@ enum A {
     Z { x: u8 } = (3 < 4) as isize,
 }
 
-// 6: passed over: `pub use std::fmt::{self, Display}`, but for what it brings into this file
-// 7: passed over: `use super::other::*`
-// 10: passed over: `const N`
-// 11: passed over: `static mut S`
-// 12: passed over: `extern crate alloc`
-// 13: passed over: `extern "C"`
-// 14: passed over: `pub(crate) const unsafe extern "C" fn g`
-// 15: passed over: `mod x`
-// 17: passed over: `mod tests`
-// 18: passed over: `trait T`
-// 19: passed over: `macro_rules! m`
-// 20: passed over: `m!`
-// 21: passed over: `std::thread_local!`
-// 23: passed over: `pub enum Plain`, which derives neither Serialize nor Deserialize
-// 25: passed over: `struct Other`, which derives neither Serialize nor Deserialize
-// 26: passed over: `type Id = (u8, Alias)`, which is written as the type that it stands for
-// 27: passed over: `type Alias = Option<Vec<u32>>`, which is written as the type that it stands for
-// 29: left out: `#[must_use]`
-// 30: left out: `#[non_exhaustive]`
-// 32: left out: `#[deprecated = "old"]`
-// 47: passed over: `impl fmt::Display for A`
-// 48: passed over: `impl<'a> From<&'a str> for A`
-// 49: passed over: `unsafe impl Send for A`
+// 7: passed over: `pub use std::fmt::{self, Display}`, but for what it brings into this file
+// 8: passed over: `use super::other::*`
+// 11: passed over: `const N`
+// 12: passed over: `static mut S`
+// 13: passed over: `extern crate alloc`
+// 14: passed over: `extern "C"`
+// 15: passed over: `pub(crate) const unsafe extern "C" fn g`
+// 16: passed over: `mod x`
+// 18: passed over: `mod tests`
+// 19: passed over: `trait T`
+// 20: passed over: `macro_rules! m`
+// 21: passed over: `m!`
+// 22: passed over: `std::thread_local!`
+// 24: passed over: `pub enum Plain`, which derives neither Serialize nor Deserialize
+// 26: passed over: `struct Other`, which derives neither Serialize nor Deserialize
+// 27: passed over: `type Id = (u8, Alias)`, whose type is written in its place
+// 28: passed over: `type Alias = Option<Vec<u32>>`, whose type is written in its place
+// 30: left out: `#[must_use]`
+// 31: left out: `#[non_exhaustive]`
+// 33: left out: `#[deprecated = "old"]`
+// 48: passed over: `impl fmt::Display for A`
+// 49: passed over: `impl<'a> From<&'a str> for A`
+// 50: passed over: `unsafe impl Send for A`
 // + //! A whole file. //! With documentation. //! //! Written by
 // + use crate::other; use crate::other::Thing; use crate::other::deep::Third as Drei;
 // - fmt
@@ -51,6 +51,7 @@ enum A {
 //! A whole file.
 #![allow(dead_code)]
 #![doc = "With documentation."]
+#![doc = include_str!("README.md")]
 use serde::*;
 use std::collections::BTreeMap as Map;
 pub use std::fmt::{self, Display};
@@ -206,7 +207,27 @@ struct A(std::collections::BTreeMap<std::string::String, core::option::Option<Bo
 #[derive(Serialize)]
 struct A { #[serde(rename = "a\u{62}\x63", default)] x: u8, #[serde(rename = r"r#w")] y: u8 }
 
-#[derive(Serialize)]
+// + Ok(A { b: B { c: b_c_field }, b_c })
+#[derive(Serialize, Deserialize)]
 struct A { #[serde(flatten)] b: B, b_c: u8 }
-#[derive(Serialize)]
+#[derive(Serialize, Deserialize)]
 struct B { c: u8 }
+
+// + { Upper: upper_field_field, Global: global_field, low, read_a_from_3: read_a_from_3_field, upper_field }
+#[derive(Deserialize)]
+struct A { Upper: u8, Global: u8, low: u8, read_a_from_3: u8, upper_field: Upper }
+#[derive(Deserialize)]
+struct Upper;
+
+// 6: passed over: `type Number = u8`, whose type is written in its place
+// + x: B, y: B, z: B, w: u8,
+use self::B as Other;
+#[derive(Serialize)]
+struct A { x: self::B, y: crate::types::B, z: Other, w: self::Number }
+#[derive(Serialize)]
+struct B(u8);
+type Number = u8;
+
+/// A direction‮, a separator .
+#[derive(Serialize)]
+struct A(u8);

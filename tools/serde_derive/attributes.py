@@ -43,9 +43,13 @@ class Head:
     notes: List[Tuple[int, str]] = field(default_factory=list)
 
 
+# signs that Rattle takes in no comment: controls, directions, separators of lines, and halves of signs
+NOT_SEEN = re.compile(r"[\x00-\x1f\x7f-\x9f\u2028-\u202e\u2066-\u2069\ud800-\udfff]")
+
+
 def doc_line(text: str) -> str:
-    """A line of documentation as Rattle takes it: without tabs and other signs that are not seen."""
-    return re.sub(r"[^\x20-\x7e\xa1-\uffff\U00010000-\U0010ffff]", " ", text.replace("\t", "    ")).rstrip()
+    """A line of documentation as Rattle takes it."""
+    return NOT_SEEN.sub(" ", text.replace("\t", "    ")).rstrip()
 
 
 class Attributes(Cursor):
@@ -114,7 +118,7 @@ class Attributes(Cursor):
 
     def documentation(self, lines: List[str]) -> None:
         """`#[doc = ".."]` as lines of documentation; `#[doc(..)]` is passed over."""
-        if self.eat("="):
+        if self.eat("=") and self.next.sort == "text":
             lines += [doc_line(f"/// {line.strip()}") for line in text_of(self.take()).split("\n")]
         else:
             self.pass_to(",")

@@ -2,13 +2,14 @@
 from typing import Iterator, List
 
 from .declarations import Item, NotRust, Refused
-from .homes import placed
+from .homes import extent, placed
 from .types import LEAVES
 from .words import SEEN, TAKEN, WORDS
 
 # what names no type, field or variant: words of Rattle's, and names that it makes itself
 NOT_TYPES = {*TAKEN, *WORDS, *SEEN, *LEAVES, "str", "f32", "f64", "tuple", "Lib", "Prim", "Self", "deriving", "TheOwn",
              "TheVariants", "TheBound", "TheImpl", "TheLinks", "TheLaws"}
+MOST_WORK = 1_000_000
 NO_FIELDS = {"ghost", "requires", "ensures", "deriving"}
 NO_VARIANTS = NO_FIELDS | {"the_row", "the_data", "TheLaws", "TheVariants"}
 
@@ -22,6 +23,9 @@ def check_names(item: Item) -> Iterator[Refused]:
     """Refuses names that the module could not write."""
     if item.name in NOT_TYPES or (item.name == "S" and item.variants):
         yield Refused(item.line, f"the name `{item.name}` is one that the module uses itself:"
+                      f" {renamed(item.name, 'type')}", item.name)
+    if item.sort == "struct" and item.data.style == "Unit" and not item.name[0].isupper():
+        yield Refused(item.line, "a struct with no fields and a small first letter would stand for variables of its name:"
                       f" {renamed(item.name, 'type')}", item.name)
     for where, f in placed(item):
         if f.name in NO_FIELDS:
@@ -68,6 +72,20 @@ def check_parts(item: Item) -> Iterator[Refused]:
             if one.name in seen:
                 yield NotRust(one.line, f"two are called `{one.name}`", where)
             seen.add(one.name)
+
+
+def check_work(items: List[Item]) -> Iterator[Refused]:
+    """Refuses the first type with which a file would take minutes to write: the text grows with the square
+    of fields and variants."""
+    work = 0
+    for item in items:
+        inside = [f for data in item.parts() for f in data.leaves()]
+        work += len(item.variants) ** 2 + max([len(data.leaves()) for data in item.parts()]) * sum(
+            parts * levels for parts, levels in (extent(f.type) for f in inside))
+        if work > MOST_WORK:
+            yield Refused(item.line, "with this type the file has too many fields and variants: move it to another",
+                          item.name)
+            return
 
 
 def check(items: List[Item]) -> Iterator[Refused]:

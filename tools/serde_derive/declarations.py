@@ -8,6 +8,8 @@ from .types import SIGNED, Type
 from .words import NO_PLACES
 
 
+# paths, and names that may be those of a type or of a function of the module
+NO_PLACE = re.compile(r".*\.|[A-Z]|(?:read|send)_.*_from_\d+$")
 MENTIONED = re.compile(r"(?:`\w+`: )?(?:(?:field|variant) `([\w.]+)`: )?")
 
 
@@ -106,12 +108,12 @@ class Data:
         """The names of its values in code, each once."""
         if not self.named:
             return [f"x{i + 1}" for i in range(len(self.fields))]
-        kept = {f.name for f in self.fields} - NO_PLACES
+        kept = {f.name for f in self.fields if f.name not in NO_PLACES and not NO_PLACE.match(f.name)}
         places, taken = [], NO_PLACES | kept
         for f in self.fields:
             place = f.name.replace(".", "_")
-            while f.name not in kept and place in taken:
-                place += "_field"
+            while f.name not in kept and (place in taken or NO_PLACE.match(place)):
+                place = place[:1].lower() + place[1:] + "_field"
             taken.add(place)
             places.append(place)
         return places

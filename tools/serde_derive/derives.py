@@ -1,6 +1,7 @@
 """Which derives Rattle writes for what a type holds."""
 from typing import Dict, Iterator
 
+from .attributes import SERDE
 from .declarations import Item, Refused
 from .files import File
 from .homes import placed
@@ -8,6 +9,7 @@ from .types import Type
 
 NEEDS = {"Copy": ["Clone"], "Eq": ["PartialEq"], "PartialOrd": ["PartialEq"], "Ord": ["Eq", "PartialOrd"], "Hash": ["Eq"]}
 IN_MEMORY = {"String", "Vec", "Box", "BTreeMap"}
+PASSED = {"Drop", *SERDE}
 WHY = {
     "Copy": "which has memory of its own: delete Copy",
     "Default": "which takes an allocator: delete Default, and write a `new(alloc)`",
@@ -16,12 +18,12 @@ WHY = {
 
 def lacking(t: Type, trait: str, items: Dict[str, Item], file: File) -> Iterator[str]:
     """The types in a field's type that have no such trait."""
-    if t.name in IN_MEMORY:
+    if t.name in IN_MEMORY and trait in WHY:
         yield f"`derive({trait})` is not covered beside `{t.rust()}`, {WHY[trait]}"
     elif t.name in items:
         if trait not in items[t.name].derives and (trait, t.name) not in file.impls:
-            yield f"`{t.name}` does not derive {trait}, as what holds it does"
-    elif trait == "Copy" or t.name == "tuple":
+            yield f"`{t.name}` does not derive {trait}, as what holds it does: derive it there too"
+    elif trait != "Default" or t.name != "Option":
         for argument in t.arguments:
             yield from lacking(argument, trait, items, file)
 
@@ -46,6 +48,6 @@ def check_derives(item: Item, items: Dict[str, Item], file: File) -> Iterator[Re
         if missing:
             yield Refused(item.line, f"`derive({trait})` needs {' and '.join(missing)}: derive that too", item.name)
     yield from check_default(item)
-    for trait in [t for t in WHY if t in item.derives and not (t == "Default" and item.variants)]:
-        for where, f in placed(item):
+    for trait in item.derives:
+        for where, f in placed(item) if trait not in PASSED and not (trait == "Default" and item.variants) else ():
             yield from (Refused(f.line, why, where) for why in lacking(f.type, trait, items, file))

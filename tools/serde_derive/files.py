@@ -58,9 +58,9 @@ class Reader(Parser):
                 if self.place not in self.pairs:
                     self.expect("[")
                 end = self.pairs[self.place]
-                if [token.text for token in self.tokens[self.place + 1:self.place + 3]] == ["doc", "="]:
-                    self.into.docs += [doc_line(f"//! {line.strip()}") for line in
-                                       text_of(self.tokens[self.place + 3]).split("\n")]
+                self.place += 1
+                if self.eat("doc") and self.eat("=") and self.next.sort == "text":
+                    self.into.docs += [doc_line(f"//! {line.strip()}") for line in text_of(self.next).split("\n")]
                 self.place = end + 1
             else:
                 return
@@ -131,7 +131,8 @@ class Reader(Parser):
             self.into.passed[name] = f"is an alias that is not covered (line {self.tokens[start].line}):" \
                                      " write the type that it stands for"
         self.pass_to(";")
-        self.note_passed(start, "" if name in self.into.passed else ", which is written as the type that it stands for")
+        known = name in self.into.aliases
+        self.note_passed(start, ", whose type is written in its place" if known else "")
         self.expect(";")
 
     def plain(self, start: int) -> None:
@@ -164,8 +165,10 @@ class Reader(Parser):
         if word in NAMED | {"crate"}:
             self.take()
             self.eat("mut")
-            self.take()
-            end = self.place
+            name, end = self.take().text, self.place
+            if word == "mod":
+                self.into.passed[name] = (f"is a module that is passed over (line {line}): import the type by its path"
+                                          " from `crate`")
         elif word in ("impl", "{"):
             self.pass_to("{", "where")
             end = self.place

@@ -35,7 +35,8 @@ class Homes:
 
     def __init__(self, crate: str, module: str, file: File):
         self.crate, self.file, self.items = crate, file, {item.name: item for item in file.items}
-        self.here = self.specs(crate, module.split("::"))
+        self.module = module.split("::")
+        self.here = self.specs(crate, self.module)
         self.used: Set[str] = set()
         self.aliases: Dict[str, Type] = {}
         self.opened: Set[str] = set()
@@ -62,9 +63,9 @@ class Homes:
                     f.type = Type("()")
 
     def resolved(self, t: Type, holder: Item) -> Type:
-        if t.name in self.file.aliases and not t.arguments:
-            return self.alias(t.name, holder)
-        name = holder.name if t.name == "Self" else self.standard(t.name)
+        name = holder.name if t.name == "Self" else self.short(t.name)
+        if name in self.file.aliases and not t.arguments:
+            return self.alias(name, holder)
         whole = replace(t, name=name, arguments=tuple(self.resolved(a, holder) for a in t.arguments))
         parts, levels = extent(whole)
         if parts > MOST_PARTS or levels > DEEPEST:
@@ -76,6 +77,8 @@ class Homes:
         """What an alias stands for."""
         if name in self.opened:
             raise ValueError(f"the alias `{name}` stands for itself")
+        if len(self.opened) > DEEPEST:
+            raise ValueError(f"more than {DEEPEST} aliases of aliases are not covered: write the type that they stand for")
         if name not in self.aliases:
             self.opened.add(name)
             try:
@@ -89,9 +92,11 @@ class Homes:
         first, *rest = name.split("::")
         return self.file.uses.get(first, [first]) + rest
 
-    def standard(self, name: str) -> str:
-        """The short name of a type of std, where it is covered or known not to be."""
+    def short(self, name: str) -> str:
+        """The short name of a type of this file, or of std, where it is covered or known not to be."""
         path = self.path(name)
+        if path[:-1] in (["self"], ["crate", *self.module]):
+            return path[-1]
         known = path[-1] in LEAVES or path[-1] in HOLDERS or path[-1] in NOT_COVERED
         if path[0] in STANDARD and len(path) > 1:
             return path[-1] if known else "::".join(path)
@@ -206,7 +211,7 @@ class Homes:
         if part.derives_all() and not part.comes_back() and holder.derives_all() and "untagged" not in holder.serde:
             raise ValueError(f"`{name}` is untagged and does not come back, so what holds it derives no Eq")
         if lacking:
-            raise ValueError(f"`{name}` does not derive {', '.join(sorted(lacking))}")
+            raise ValueError(f"`{name}` does not derive {', '.join(sorted(lacking))}, as what holds it does: derive that too")
         law = ("records", "map_takes" if part.flattens() else "struct_takes")
         self.known(name, self.here, name)
         return Type(name, home=self.here, declared=name, plain=not part.asked(), lost=not part.comes_back_from_cbor(),
@@ -215,8 +220,8 @@ class Homes:
     def own(self, name: str) -> Type:
         """An own type of another file."""
         path = self.path(name)
-        if name in self.file.passed:
-            raise ValueError(f"`{name}` {self.file.passed[name]}")
+        if path[0] in self.file.passed:
+            raise ValueError(f"`{path[0]}` {self.file.passed[path[0]]}")
         if path[0] in STANDARD | {"serde"} and len(path) > 1:
             raise ValueError(f"the type `{'::'.join(path)}` is not covered: hold what it is made of, as a number or"
                              " a String")

@@ -1,9 +1,10 @@
 """The whole module: what it uses, declarations and impls."""
 import re
-from typing import Dict, Iterable, Iterator, List, Optional, Set, Tuple, Union
+from typing import Dict, Iterator, List, Optional, Set, Tuple, Union
 
-from .checks import check
-from .declarations import Item, NotRust, Refusals, Refused
+from .attributes import doc_line
+from .checks import check, check_work
+from .declarations import Item, Refusals, Refused
 from .derives import check_derives
 from .enums import EnumWriter
 from .files import File, Reader
@@ -15,7 +16,7 @@ from .text import ghost
 from .types import CBOR, NOT_NULL, READ, TRIP, snake
 from .unique import KINDS, name_cases, name_functions
 from .untagged import UntaggedWriter
-from .words import ALIASES, METHODS, SEEN, USES, WORDS, words_of
+from .words import ALIASES, METHODS, SEEN, USES, WORDS, words_in, words_of
 
 Writer = Union[StructWriter, EnumWriter]
 REFUSES_NULL = ghost("refuses_null", "record { of_null = λ b e. absurd (cc e) }")
@@ -24,10 +25,10 @@ TRAITS = dict(zip(KINDS, ("Serialize", "RoundTrip", "CborRoundTrip", "NotNull", 
 
 def impl(item: Item, trait: str, members: List[str], lifetime: str = "") -> str:
     """An impl, with the laws of own types that it names brought into it."""
-    body = "\n\n".join(members)
-    named = set(re.findall(r"(\w+)\.", body))
+    body, owns = "\n\n".join(members), item.owns()
+    named = set(re.findall(r"(\w+)\.", body)) if owns else set()
     laws = [f"ghost use {own.home.format('contracts')}.{own.declared}{kind}.TheImpl.Laws as {word};\n"
-            for own in item.owns() for suffix, kind in TRAITS.items()
+            for own in owns for suffix, kind in TRAITS.items()
             if (word := f"{snake(own.declared)}_{suffix}") in named]
     return f"impl{lifetime} {trait} for {item.name} {{\n{''.join(laws)}\n{body}\n}}\n"
 
@@ -60,7 +61,7 @@ def read(source: str) -> File:
     try:
         return reader.file()
     except RecursionError:
-        raise NotRust(reader.next.line, "what stands here nests too deeply") from None
+        raise Refused(reader.next.line, "what nests so deeply is not covered: divide it") from None
 
 
 def tried(item: Item, refused: List[Refused], step) -> None:
@@ -85,6 +86,7 @@ def settled(file: File, homes: Homes) -> Dict[str, Writer]:
     homes.settle()
     for item in file.items:
         refused += check_derives(item, homes.items, file) if item.covered else []
+    refused += check_work([item for item in file.items if item.covered])
     name_functions(file.items)
     name_cases(file.items, [declared for _, declared in homes.declared.values()])
     for item in file.items:
@@ -96,33 +98,39 @@ def settled(file: File, homes: Homes) -> Dict[str, Writer]:
     return writers
 
 
-def ghost_uses(items: List[Item], homes: Homes, body: str, words: Set[str]) -> List[str]:
-    """The lines that bring the words of contracts."""
-    seen = " ".join(re.findall(r"λ (?:o )?\([xz] : (.*?)\)\.\s", body))
-    named = set(re.findall(r"\w+", seen))
-    owns = {own.declared: own for item in items for own in item.owns()}
-    lines = words_of(body, WORDS) + words_of(seen, SEEN)
-    lines += [f"ghost use Rattle.{path} as {name};" for name, path in ALIASES.items()
-              if re.search(rf"\b{name}\.", body)]
-    lines += [f"ghost use {own.home.format('declared')}.{name}.{{{name}}};" for name, own in owns.items() if name in named]
-    return lines + [f"ghost use {homes.here.format('declared')}.{item.name}.TheVariants as {item.cases};"
-                    for item in items if item.variants]
+def brought(words: Set[str], word: str, texts: List[str]) -> bool:
+    """Whether an item of code is named in one of the texts."""
+    if word not in METHODS:
+        return word in words
+    return any(re.search(METHODS[word], text) for text in texts)
 
 
-def code_uses(file: File, homes: Homes, body: str, words: Set[str]) -> List[str]:
-    """The lines that bring the items of code."""
-    def named(name: str) -> bool:
-        return bool(re.search(METHODS[name], body)) if name in METHODS else name in words
+def uses(file: File, homes: Homes, texts: List[str]) -> List[str]:
+    """The lines that bring the words of contracts, and those that bring the items of code."""
+    seen = [found for text in texts for found in re.findall(r"λ (?:o )?\([xz] : (.*?)\)\.\s", text)]
+    words, named = words_in(texts), words_in(seen)
+    owns = {own.declared: own for item in file.items for own in item.owns()}
+    ghosts = words_of(words, WORDS) + words_of(named, SEEN)
+    ghosts += [f"ghost use Rattle.{path} as {name};" for name, path in ALIASES.items()
+               if any(re.search(rf"\b{name}\.", text) for text in texts)]
+    ghosts += [f"ghost use {own.home.format('declared')}.{name}.{{{name}}};" for name, own in owns.items() if name in named]
+    ghosts += [f"ghost use {homes.here.format('declared')}.{item.name}.TheVariants as {item.cases};"
+               for item in file.items if item.variants]
+    code = [f"use {path}::{{{', '.join(used)}}};" for path, names in USES.items()
+            if (used := [name for name in names.split() if brought(words, name, texts)])]
+    code += [f"use {'::'.join(path)}{'' if path[-1] == shown else f' as {shown}'};"
+             for shown, path in file.uses.items() if shown in homes.used]
+    return [*ghosts, "", *code]
 
-    lines = [f"use {path}::{{{', '.join(used)}}};" for path, names in USES.items()
-             if (used := [name for name in names.split() if named(name)])]
-    return lines + [f"use {'::'.join(path)}{'' if path[-1] == shown else f' as {shown}'};"
-                    for shown, path in file.uses.items() if shown in homes.used]
 
-
-def words_in(texts: Iterable[str]) -> Set[str]:
-    """The words of texts."""
-    return {word for text in texts for word in set(re.findall(r"\w+", text))}
+def texts_of(item: Item, writer: Writer, cbor: bool) -> List[str]:
+    """The declaration and the impls of an item."""
+    try:
+        return [item.declared(), "", *impls(item, writer, cbor)]
+    except Refused as refused:
+        raise Refusals([refused.inside(item.name)]) from None
+    except RecursionError:
+        raise Refusals([Refused(item.line, "what it holds has too many or too long names: divide it", item.name)]) from None
 
 
 def module(source: str, name: str, crate: str, place: str, cbor: bool = False,
@@ -131,15 +139,13 @@ def module(source: str, name: str, crate: str, place: str, cbor: bool = False,
     A Refusals says what is not covered."""
     try:
         file = read(source)
-    except NotRust as refused:
+    except Refused as refused:
         raise Refusals([refused]) from None
     if notes is not None:
         notes += sorted(file.notes)
     homes = Homes(crate, place, file)
     writers = settled(file, homes)
-    texts = [text for item in file.items for text in (item.declared(), "", *impls(item, writers[item.name], cbor))]
-    body, words = "\n".join(texts), words_in(texts)
+    texts = [text for item in file.items for text in texts_of(item, writers[item.name], cbor)]
     docs = file.docs or ["//! Types that are sent and read."]
-    docs += ["//!", f"//! Written by `tools/derive` from `{name}`: change that file, and write this one anew."]
-    return "\n".join([*docs, "", *ghost_uses(file.items, homes, body, words), "", *code_uses(file, homes, body, words),
-                      "", body])
+    docs += ["//!", f"//! Written by `tools/derive` from `{doc_line(name)}`: change that file, and write this one anew."]
+    return "\n".join([*docs, "", *uses(file, homes, texts), "", *texts])

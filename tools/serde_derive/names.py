@@ -4,6 +4,7 @@ from typing import Callable, List, Optional
 
 from .cases import CASES, same
 from .declarations import Data, Item, Named, Refused
+from .tokens import LONGEST
 from .types import DEFAULTS
 
 
@@ -12,6 +13,9 @@ def name_item(item: Item) -> None:
     case = item.serde.get("rename_all")
     for data in item.parts():
         data.closed = "deny_unknown_fields" in item.serde
+    for key in ("tag", "content"):
+        if key in item.serde:
+            check_sent(item.serde[key], item.line, "")
     name_each([item], same)
     name_each(item.variants, CASES[case][1] if case else same)
     for v in item.variants:
@@ -33,14 +37,21 @@ def name_fields(data: Data, case: Optional[str]) -> None:
     name_each(data.fields if data.named else [], CASES[case][0] if case else same)
 
 
+def check_sent(name: str, line: int, where: str) -> None:
+    """Refuses a name that contracts can't hold."""
+    if not re.fullmatch(r"[ !#-\[\]-~]+", name):
+        raise Refused(line, f"the name `{ascii(name)[1:-1]}` is not covered: printable ASCII but \" and \\ is", where)
+    if len(name) > LONGEST:
+        raise Refused(line, f"a name of more than {LONGEST} letters is not covered: shorten it", where)
+
+
 def name_each(all_named: List[Named], by_case: Callable[[str], str]) -> None:
     """Names things of one place, which have to differ."""
     taken = set()
     for one in all_named:
         one.wire = one.serde.get("rename", by_case(one.name))
         where = "" if isinstance(one, Item) else one.name
-        if not re.fullmatch(r"[ !#-\[\]-~]+", one.wire):
-            raise Refused(one.line, f"the name `{one.wire}` is not covered: printable ASCII but \" and \\ is", where)
+        check_sent(one.wire, one.line, where)
         if one.wire in taken:
             raise Refused(one.line, f"two are called `{one.wire}`: give one another name by `rename`", where)
         taken.add(one.wire)

@@ -3,7 +3,6 @@ from typing import Callable, List, Optional, Tuple
 
 from .attributes import Attributes, Head
 from .declarations import Data, Field, Item, NotRust, Refused, Variant
-from .tokens import KEYWORDS
 from .types import Type
 
 DEEPEST = 48

@@ -33,6 +33,7 @@ TOKEN = re.compile(r"""
 KEYWORDS = set("""as async await break const continue crate dyn else enum extern false fn for if impl in let loop match
 mod move mut pub ref return self Self static struct super trait true type unsafe use where while""".split())
 ROOTS = {"crate", "self", "super", "Self"}
+LONGEST = 100
 CLOSES = {"(": ")", "[": "]", "{": "}"}
 ESCAPES = {"n": "\n", "r": "\r", "t": "\t", "0": "\0", "\\": "\\", "'": "'", '"': '"'}
 
@@ -105,9 +106,12 @@ def apart(text: str, after: str) -> bool:
 def escaped(found: "re.Match[str]") -> str:
     """What an escape in a text stands for."""
     word = found.group(1)
-    if word[0] in "ux":
-        return chr(int(re.sub(r"\W", "", word[1:]).replace("_", ""), 16))
-    return ESCAPES.get(word, "")
+    if word[0] not in "ux":
+        return ESCAPES.get(word, "")
+    number = int(re.sub(r"[{}_]", "", word[1:]), 16)
+    if number > 0x10FFFF or 0xD800 <= number < 0xE000:
+        raise ValueError
+    return chr(number)
 
 
 def text_of(token: Token) -> str:
@@ -163,6 +167,8 @@ class Cursor:
         if not token.text.isascii():
             raise Refused(token.line, f"the name `{token.text}` is not covered, as Rattle takes names in ASCII alone:"
                           " give it another")
+        if len(token.text) > LONGEST:
+            raise Refused(token.line, f"a name of more than {LONGEST} letters is not covered: shorten it")
         return self.take().text
 
     def path(self) -> List[str]:

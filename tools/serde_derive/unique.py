@@ -43,6 +43,6 @@ def name_cases(items: List[Item], others: List[str]) -> None:
     for item in items:
         places = {place for v in item.variants if v.signed() for place in v.data.places()}
         item.cases = alias(item.name)
-        while item.cases in taken | places:
+        while item.cases in taken or item.cases in places:
             item.cases = f"the_{item.cases}"
         taken.add(item.cases)

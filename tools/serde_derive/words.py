@@ -1,6 +1,6 @@
 """The words of contracts and the items of code, and the lines that bring them."""
 import re
-from typing import Dict, List
+from typing import Dict, Iterable, List, Set
 
 from .cases import pascal
 from .types import HOLDERS, LEAVES
@@ -113,13 +113,23 @@ METHODS = {"Parts": r"\.(?:with|around)\("}
 TAKEN = {name for names in USES.values() for name in names.split()} | set(HOLDERS) | {"String", "Ok", "Err"}
 
 
-def words_of(text: str, table: Dict[str, str]) -> List[str]:
-    """The lines that bring the words of a text, in the table's order."""
-    text = " ".join(text.split())
-    used = set(re.findall(r"[^\W\d]\w*|[^\w\s]", text))
+def words_in(texts: Iterable[str]) -> Set[str]:
+    """The words and signs of texts; a word of IN_TEXT counts where what is said there is found in one."""
+    used: Set[str] = set()
+    spelled: Set[str] = set()
+    for text in texts:
+        used.update(re.findall(r"[^\W\d]\w*|[^\w\s]", text))
+        if len(spelled) < len(IN_TEXT):
+            line = " ".join(text.split())
+            spelled.update(word for word, said in IN_TEXT.items() if re.search(said, line))
+    return used | {f"{word} in text" for word in spelled}
+
+
+def words_of(used: Set[str], table: Dict[str, str]) -> List[str]:
+    """The lines that bring the words that are used, in the table's order."""
     by_module: Dict[str, List[str]] = {}
     for word, module in table.items():
-        if re.search(IN_TEXT[word], text) if word in IN_TEXT else word.strip("◌") in used:
+        if f"{word} in text" in used if word in IN_TEXT else word.strip("◌") in used:
             by_module.setdefault(module, []).append(word)
     lines = []
     for module, words in by_module.items():
