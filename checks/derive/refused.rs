@@ -400,11 +400,21 @@ struct B(Vec<(A, Option<C>)>);
 struct C(u8);
 impl std::fmt::Debug for C {}
 
-// 2: alloc: a struct with no fields and a small first letter would stand for variables of its name: give the type another name, and this one by `#[serde(rename = "alloc")]`
+// 2: alloc: values are called `alloc` too, which Rust does not tell from this struct: give the type another name, and this one by `#[serde(rename = "alloc")]`
+// 6: x1: values are called `x1` too, which Rust does not tell from this struct: give the type another name, and this one by `#[serde(rename = "x1")]`
+// 8: y: values are called `y` too, which Rust does not tell from this struct: give the type another name, and this one by `#[serde(rename = "y")]`
 #[derive(Serialize)]
 struct alloc;
 #[derive(Serialize)]
 struct small(u8);
+#[derive(Serialize)]
+struct x1(u8);
+#[derive(Serialize)]
+struct y(u8);
+#[derive(Serialize)]
+struct A { y: y, z: z }
+#[derive(Serialize)]
+struct z { x: u8 }
 
 // 2: A.0: `A` contains itself, which is not covered, as its contract would speak of itself: write its impls by hand
 #[derive(Serialize)]

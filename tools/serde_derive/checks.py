@@ -1,4 +1,5 @@
 """What a declaration is refused for by itself."""
+import re
 from typing import Iterator, List
 
 from .declarations import Item, NotRust, Refused
@@ -10,6 +11,7 @@ from .words import SEEN, TAKEN, WORDS
 NOT_TYPES = {*TAKEN, *WORDS, *SEEN, *LEAVES, "str", "f32", "f64", "tuple", "Lib", "Prim", "Self", "deriving", "TheOwn",
              "TheVariants", "TheBound", "TheImpl", "TheLinks", "TheLaws"}
 MOST_WORK = 1_000_000
+VALUES = {"alloc", "serializer", "fields", "from", "inside", "parts", "access", "variant", "tag"}
 NO_FIELDS = {"ghost", "requires", "ensures", "deriving"}
 NO_VARIANTS = NO_FIELDS | {"the_row", "the_data", "TheLaws", "TheVariants"}
 
@@ -24,15 +26,21 @@ def check_names(item: Item) -> Iterator[Refused]:
     if item.name in NOT_TYPES or (item.name == "S" and item.variants):
         yield Refused(item.line, f"the name `{item.name}` is one that the module uses itself:"
                       f" {renamed(item.name, 'type')}", item.name)
-    if item.sort == "struct" and item.data.style == "Unit" and not item.name[0].isupper():
-        yield Refused(item.line, "a struct with no fields and a small first letter would stand for variables of its name:"
-                      f" {renamed(item.name, 'type')}", item.name)
     for where, f in placed(item):
         if f.name in NO_FIELDS:
             yield Refused(f.line, f"`{f.name}` is a word of Rattle's: {renamed(f.name, 'field')}", where)
     for v in item.variants:
         if v.name in NO_VARIANTS:
             yield Refused(v.line, f"`{v.name}` is a word of Rattle's: {renamed(v.name, 'variant')}", f"{item.name}.{v.name}")
+
+
+def check_values(items: List[Item]) -> Iterator[Refused]:
+    """Refuses a struct without field names that is called as values of the module are."""
+    values = VALUES | {place for item in items for data in item.parts() for place in data.places()}
+    for item in items:
+        if item.sort == "struct" and not item.data.named and (item.name in values or re.fullmatch(r"x\d+", item.name)):
+            yield Refused(item.line, f"values are called `{item.name}` too, which Rust does not tell from this struct:"
+                          f" {renamed(item.name, 'type')}", item.name)
 
 
 def check_attributes(item: Item) -> Iterator[Refused]:
@@ -91,6 +99,7 @@ def check_work(items: List[Item]) -> Iterator[Refused]:
 def check(items: List[Item]) -> Iterator[Refused]:
     """All that is refused before types are looked at."""
     yield from check_twice(items)
+    yield from check_values(items)
     for item in items:
         yield from check_parts(item)
         yield from check_names(item)

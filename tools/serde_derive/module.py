@@ -23,13 +23,20 @@ REFUSES_NULL = ghost("refuses_null", "record { of_null = λ b e. absurd (cc e) }
 TRAITS = dict(zip(KINDS, ("Serialize", "RoundTrip", "CborRoundTrip", "NotNull", "Ord")))
 
 
+def names(text: str, word: str) -> bool:
+    """Whether a text names a member of what is called by this word."""
+    at = text.find(f"{word}.")
+    while at > 0 and (text[at - 1].isalnum() or text[at - 1] == "_"):
+        at = text.find(f"{word}.", at + 1)
+    return at >= 0
+
+
 def impl(item: Item, trait: str, members: List[str], lifetime: str = "") -> str:
     """An impl, with the laws of own types that it names brought into it."""
-    body, owns = "\n\n".join(members), item.owns()
-    named = set(re.findall(r"(\w+)\.", body)) if owns else set()
+    body = "\n\n".join(members)
     laws = [f"ghost use {own.home.format('contracts')}.{own.declared}{kind}.TheImpl.Laws as {word};\n"
-            for own in owns for suffix, kind in TRAITS.items()
-            if (word := f"{snake(own.declared)}_{suffix}") in named]
+            for own in item.owns() for suffix, kind in TRAITS.items()
+            if names(body, word := f"{snake(own.declared)}_{suffix}")]
     return f"impl{lifetime} {trait} for {item.name} {{\n{''.join(laws)}\n{body}\n}}\n"
 
 

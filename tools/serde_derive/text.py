@@ -26,9 +26,11 @@ def quoted(named: list) -> str:
 
 def filled(line: str, width: int = 84) -> str:
     """The line, broken within this width at the last blank that stands in the fewest brackets."""
+    if len(line) <= width:
+        return line
     depth, place, lowest = 0, 0, 0
     for found in re.finditer(r'"[^"]*"|⟦[^⟧]*⟧|[({[]|[)}\]]| ', line):
-        if len(line) <= width or found.start() > width:
+        if found.start() > width:
             break
         depth += (found.group() in "({[") - (found.group() in ")}]")
         if found.group() == " " and found.start() > width // 3 and (not place or depth <= lowest):

@@ -113,12 +113,15 @@ METHODS = {"Parts": r"\.(?:with|around)\("}
 TAKEN = {name for names in USES.values() for name in names.split()} | set(HOLDERS) | {"String", "Ok", "Err"}
 
 
+WORD = re.compile(r"[^\W\d]\w*|[^\w\s]")
+
+
 def words_in(texts: Iterable[str]) -> Set[str]:
     """The words and signs of texts; a word of IN_TEXT counts where what is said there is found in one."""
     used: Set[str] = set()
     spelled: Set[str] = set()
     for text in texts:
-        used.update(re.findall(r"[^\W\d]\w*|[^\w\s]", text))
+        used.update(WORD.findall(text))
         if len(spelled) < len(IN_TEXT):
             line = " ".join(text.split())
             spelled.update(word for word, said in IN_TEXT.items() if re.search(said, line))
