@@ -4,13 +4,18 @@
 # - No page has more words than the table in checks/pages/pages.py allows it; one that isn't in the table has at most 300.
 # - Each relative link leads to a file, and where it names a heading, to one of that page; each file that a page names in
 #   code type is there; each page can be reached from README.md.
-# - Each block of Rust or of definitions stands word for word, paragraph by paragraph and in its order, in one file of a
-#   crate of crates.txt, which `rt ci` proves and whose tests it runs.
-# - The commands and blocks of docs/OWN_TYPES.md, in their order, make a repository of a reader's own beside a fresh copy
-#   of this one. Its crate is crates/shapes, byte for byte, and each line of its crates.txt stands in ours: so what
-#   `rt ci` proved is what a reader gets. Its tests run there, unproved, by the command that the page gives.
-# - The program, run on the lines of each example, gives the answer that stands beside them; so do the commands after a $.
-# It stands on what `rt ci` leaves in crates/content_cli/out and crates/cbor_cli/out, needs python3, and takes two processor minutes.
+# - Each block of Rust or of definitions is in one file of a crate of crates.txt, word for word, paragraph by paragraph and
+#   in its order: `rt ci` proves that crate and runs its tests.
+# - The commands of docs/OWN_TYPES.md run in their order, beside a fresh copy of this repository, and make two with
+#   tools/new-project. The crate of the first is crates/shapes, byte for byte; the libraries, tools/derive and the lines of
+#   crates.txt are ours: so what `rt ci` proved is what a reader gets. The second is made with --cbor; its types are those
+#   of crates/check_derive. In both the tests run, unproved, and the gate's comparison of the module passes.
+# - The blocks of that page are in crates/shapes, byte for byte; those below "A struct" are the whole of src/point.rt.
+# - tools/new-project refuses a name that no crate can have, a folder that isn't empty and a path without `rt`, each in
+#   one line, and leaves no file.
+# - The program, run on the lines of each example, gives the answer in the same row; so do the commands after a $.
+# It runs the programs that `rt ci` leaves in crates/content_cli/out and crates/cbor_cli/out, needs python3 and git, and
+# takes three processor minutes.
 set -eu
 top=$(cd "$(dirname "$0")/.." && pwd)
 room=$(mktemp -d)

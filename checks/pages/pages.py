@@ -3,7 +3,6 @@
 folder but for a fresh copy of it, serde-content."""
 
 import filecmp
-import glob
 import os
 import re
 import subprocess
@@ -50,7 +49,7 @@ MOST_WORDS = {
     "docs/CBOR.md": 850,
     "docs/DIFFERENCES.md": 1000,
     "docs/HOSTILE_INPUT.md": 850,
-    "docs/OWN_TYPES.md": 2400,
+    "docs/OWN_TYPES.md": 1500,
     "docs/READING.md": 1300,
     "docs/USES.md": 600,
     "docs/VALUES.md": 600,
@@ -165,45 +164,128 @@ def try_unproved(words, folder):
     return run(words, folder) if status == 2 else (wrote, status, errors)
 
 
-def check_own_types():
-    page, blocks = "docs/OWN_TYPES.md", blocks_of(read(f"{TOP}/docs/OWN_TYPES.md"))
-    mine, made = f"{ROOM}/mine", f"{ROOM}/mine/crates/shapes"
-    folder, file = ROOM, None
+OWN_TYPES = "docs/OWN_TYPES.md"
+# What tools/new-project refuses: its words, and the line that it answers.
+NOT_MADE = [
+    (["My-Types"], "My-Types can't name a crate: use lowercase letters, digits and _, and a letter first"),
+    (["struct"], "struct is a keyword: choose another name"),
+    (["serde"], "Rattle has a library named serde: choose another name"),
+    (["content_de"], "content_de is one of the libraries: choose another name"),
+    (["notes", "mine"], "mine isn't empty: choose another folder"),
+    (["notes", "serde-content/HANDLES"], "serde-content/HANDLES is a file: choose another folder"),
+    (["notes", "serde-content/x"], "serde-content/x is inside this repository: choose one outside it, as ../x"),
+]
+
+
+def follow(blocks):
+    """Runs the blocks of commands, one after another, as a reader does; whether each ended well."""
+    folder = ROOM
+    for word, block, _ in blocks:
+        if word != "sh":
+            continue
+        wrote, status, said = try_unproved(["bash", "-euc", block + "pwd"], folder)
+        if status:
+            fault(OWN_TYPES, f"a block of commands fails: {block.strip()}: {(wrote + said).strip()[-500:]}")
+            return False
+        folder = wrote.splitlines()[-1]
+    return True
+
+
+def projects():
+    """The repositories that the page's commands made, each with its crate."""
+    made = [f"{ROOM}/{it}" for it in sorted(os.listdir(ROOM)) if it != "serde-content"]
+    return [(it, re.findall(r"^(\w+):", read(f"{it}/crates.txt"), re.M)) for it in made]
+
+
+def compare_files(ours, theirs, where):
+    """Both are folders: the files are the same ones, byte for byte."""
+    names = {*files_below(ours)}, {*files_below(theirs)}
+    for it in sorted(names[0] ^ names[1]):
+        fault(OWN_TYPES, f"{it} of {where} is in {'the repository' if it in names[0] else 'what is made'} alone")
+    for it in sorted(names[0] & names[1]):
+        if not filecmp.cmp(f"{ours}/{it}", f"{theirs}/{it}", shallow=False):
+            fault(OWN_TYPES, f"{it} of {where} differs in what is made")
+
+
+def check_copies(project, crates):
+    """What a project has besides its crate is ours, and so is each line of its crates.txt about a crate of ours."""
+    for licence in ("LICENSE-APACHE", "LICENSE-MIT"):
+        os.rename(f"{project}/crates/serde_content/{licence}", f"{project}/{licence}")
+    for file in ("HANDLES", ".gitignore", "tools/derive", "LICENSE-APACHE", "LICENSE-MIT"):
+        if not filecmp.cmp(f"{TOP}/{file}", f"{project}/{file}", shallow=False):
+            fault(OWN_TYPES, f"{file} differs in what is made")
+    for folder in ["tools/serde_derive", *[f"crates/{it}" for it in crates[:-1]]]:
+        compare_files(f"{TOP}/{folder}", f"{project}/{folder}", folder)
+    names = [".ci/run", ".gitignore", "HANDLES", "LICENSE-APACHE", "LICENSE-MIT", "crates.txt"]
+    if sorted(it for it in files_below(project) if not it.startswith(("crates/", "tools/"))) != names:
+        fault(OWN_TYPES, "what is made has other files at the top")
+    if sorted(os.listdir(f"{project}/crates")) != sorted(crates):
+        fault(OWN_TYPES, "crates.txt of what is made has other crates than the folder")
+    ours = read(f"{TOP}/crates.txt").splitlines()
+    for line in read(f"{project}/crates.txt").splitlines():
+        if line not in ours and (line.partition(":")[0] in CRATES or ":" not in line):
+            fault(OWN_TYPES, f"crates.txt has no line: {line}")
+
+
+def check_gate(project, crate):
+    """The gate is `rt ci` and a comparison of the module, which runs here; then the tests run, unproved."""
+    first, _, then = read(f"{project}/.ci/run").strip().partition(" && ")
+    _, status, said = run(["bash", "-euc", then], project)
+    if first != "rt ci" or "--check" not in then or status:
+        fault(OWN_TYPES, f"what is made has the gate {first} && {then}: {said.strip()}")
+    tests = [len(re.findall(r"^#\[test\]$", read(f"{project}/crates/{crate}/{it}"), re.M))
+             for it in files_below(f"{project}/crates/{crate}") if it.endswith(".rt")]
+    wrote, status, said = try_unproved(["rt", "try", "--test"], f"{project}/crates/{crate}")
+    if status or not sum(tests) or f"test result: ok. {sum(tests)} passed" not in wrote + said:
+        fault(OWN_TYPES, f"rt try --test ends with status {status} in the crate {crate}: {(wrote + said)[-500:]}")
+
+
+def check_own_blocks(blocks):
+    """The page's blocks are of crates/shapes: those below `## A struct` are point.rt, byte for byte."""
+    shapes = [read(f"{TOP}/crates/shapes/{it}") for it in files_below(f"{TOP}/crates/shapes")]
+    section, point = "", []
     for word, block, before in blocks:
-        named = re.findall(r"`(crates\.txt|src/\w+\.rt)`", before)
-        if word == "sh":
-            _, status, said = run(["bash", "-euc", block], folder)
-            if status:
-                return fault(page, f"a block of commands fails: {said.strip()}")
-            folder, file = mine, None
-        elif word == "" and named:
-            with open(f"{mine}/{named[-1]}", "w", encoding="utf-8") as it:
-                it.write(block)
-        elif word == "rust":
-            is_part = re.search(r"^## (The parts|A serialiser)$", before, re.M)
-            file = None if is_part else named[-1] if named else file
-            if file:
-                path = f"{made}/{file}"
-                rest = ("\n" if named == [] else "") + block
-                with open(path, "a" if named == [] else "w", encoding="utf-8") as it:
-                    it.write(rest)
-    ours = {it for it in FILES if it.startswith("crates/shapes/")}
-    theirs = {f"crates/shapes/{it}" for it in files_below(made)}
-    for it in sorted(ours ^ theirs):
-        fault(page, f"{it} is in {'the repository' if it in ours else 'what the page makes'} alone")
-    for it in sorted(ours & theirs):
-        if not filecmp.cmp(f"{TOP}/{it}", f"{mine}/{it}", shallow=False):
-            fault(page, f"what the page makes isn't {it}")
-    if glob.glob(f"{mine}/BUILD.bazel"):
-        fault(page, "it leaves a BUILD.bazel at the top")
-    for line in read(f"{mine}/crates.txt").splitlines():
-        if line not in read(f"{TOP}/crates.txt").splitlines():
-            fault(page, f"crates.txt has no line: {line}")
-    _, status, said = try_unproved(["rt", "try", "--test"], made)
-    if status:
-        fault(page, f"rt try --test ends with status {status} in the crate that it makes: {said[-300:]}")
-    tests = len(re.findall(r"^#\[test\]$", read(f"{made}/src/tests.rt"), re.M))
-    return tests or fault(page, "the crate that it makes has no test")
+        section = (re.findall(r"^## (.*)$", before, re.M) or [section])[-1]
+        if word in ("rs", "rust") and not any(block in it for it in shapes):
+            fault(OWN_TYPES, f"crates/shapes has no block that begins with: {block.strip().splitlines()[0]}")
+        if word == "rust" and section == "A struct":
+            point.append(block)
+    if "\n".join(point) != read(f"{TOP}/crates/shapes/src/point.rt"):
+        fault(OWN_TYPES, "the blocks of a struct aren't src/point.rt")
+
+
+def check_refusals():
+    """What tools/new-project refuses it says in one line, and leaves nothing."""
+    tool, before = f"{ROOM}/serde-content/tools/new-project", sorted(files_below(ROOM))
+    no_rt = {**os.environ, "PATH": "/nowhere"}
+    tries = [(words, line, None) for words, line in NOT_MADE]
+    how = {"cwd": ROOM, "capture_output": True, "text": True, "check": False}
+    for words, line, environment in [*tries, (["notes"], "`rt` is not on the path: install Rattle's kit", no_rt)]:
+        ran = subprocess.run([sys.executable, tool, *words], env=environment, **how)
+        if (ran.returncode, ran.stdout, ran.stderr) != (1, "", f"new-project: {line}\n"):
+            fault(OWN_TYPES, f"tools/new-project {' '.join(words)} says: {ran.stdout}{ran.stderr}")
+    if sorted(files_below(ROOM)) != before:
+        fault(OWN_TYPES, "tools/new-project leaves files where it refuses")
+
+
+def check_own_types():
+    """What the page's commands make: the crate shapes is ours, and so are the libraries, which `rt ci` proved."""
+    blocks = blocks_of(read(f"{TOP}/{OWN_TYPES}"))
+    check_own_blocks(blocks)
+    if not follow(blocks):
+        return
+    check_refusals()
+    made = projects()
+    if [crates[-1] for _, crates in made] != ["shapes", "parcels"]:
+        return fault(OWN_TYPES, f"its commands make {made}")
+    for project, crates in made:
+        check_gate(project, crates[-1])
+        check_copies(project, crates)
+    compare_files(f"{TOP}/crates/shapes", f"{made[0][0]}/crates/shapes", "crates/shapes")
+    module = read(f"{made[1][0]}/crates/parcels/src/types.rt").replace("Rattle.parcels.", "Rattle.check_derive.")
+    items = module.partition("\n\n/// ")[2]
+    if not items or not stands_in(f"/// {items}", read(f"{TOP}/crates/check_derive/src/types.rt").split("\n")):
+        fault(OWN_TYPES, "with --cbor the types are not those of crates/check_derive/src/types.rt, which are proved")
 
 
 def check_program():

@@ -1,8 +1,11 @@
-//! A struct and an enum that go out as calls and are read back, and what writes calls.
+//! Types that are sent and read.
 #![tactic(auto)]
 
+#[cfg(test)]
+mod hand_tests;
 pub mod lisp;
 pub mod point;
 pub mod shape;
 #[cfg(test)]
 mod tests;
+pub mod types;

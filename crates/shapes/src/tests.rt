@@ -1,40 +1,33 @@
-//! Both types as trees, read back, and written.
+//! A place as a value, printed and read back; and a step.
 
-use crate::lisp::Lisp;
-use crate::point::Point;
-use crate::shape::Shape;
-use serde_content::ser::{Serialize, Serializer as _};
-use serde_content::{Deserializer, Error, Serializer, round_trip};
+use crate::types::{Place, Step};
+use serde_content::{Deserializer, Serializer, round_trip};
 use std::test::Fail;
 
 #[test]
-fn a_point_comes_back(rt: HostRuntime) -> Result<(), Fail> {
+fn a_place_is_sent_and_read(rt: HostRuntime) -> Result<(), Fail> {
     let alloc = rt.alloc();
-    let point = Point { x: 1, y: 2 };
-    let value = Serializer::new().serialize(alloc, &point)?;
+    let place = Place {
+        street_name: String::from_str(alloc, "Mill Lane 3")?,
+        floor: None,
+    };
+    let value = Serializer::new().serialize(alloc, &place)?;
     let text = format!(in alloc; "{}", value.display())?;
-    assert!(rt; text.as_str() == "Point { x: 1i32, y: 2i32 }");
-    assert!(rt; round_trip(alloc, &point, false, false)? == point);
+    assert!(rt; text.as_str() == "Place { streetName: \"Mill Lane 3\", floor: None }");
+    let read: Place = Deserializer::new(value).deserialize(alloc)?;
+    assert!(rt; read == place);
     Ok(())
 }
 
 #[test]
-fn a_shape_is_read(rt: HostRuntime) -> Result<(), Fail> {
+fn a_step_comes_back(rt: HostRuntime) -> Result<(), Fail> {
     let alloc = rt.alloc();
-    let value = Serializer::new().serialize(alloc, &Shape::Ring(3))?;
-    let read: Shape = Deserializer::new(value).deserialize(alloc)?;
-    assert!(rt; read == Shape::Ring(3));
-    Ok(())
-}
-
-#[test]
-fn a_point_is_written(rt: HostRuntime) -> Result<(), Fail> {
-    let alloc = rt.alloc();
-    let mut lisp = Lisp::new(alloc);
-    Point { x: 1, y: -2 }.serialize(alloc, &mut lisp)?;
-    assert!(rt; lisp.as_str() == "(Point :x 1 :y -2)");
-    let refused = Shape::Dot.serialize(alloc, &mut lisp);
-    assert!(rt; refused == Err(Error::custom(alloc, "no form in Lisp")));
-    assert!(rt; lisp.is_failed());
+    let place = Place {
+        street_name: String::from_str(alloc, "Mill Lane 4")?,
+        floor: Some(2),
+    };
+    let with = String::from_str(alloc, "Ann")?;
+    let step = Step::Left { with, place };
+    assert!(rt; round_trip(alloc, &step, false, false)? == step);
     Ok(())
 }

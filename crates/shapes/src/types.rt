@@ -1,0 +1,442 @@
+//! What a shop sends.
+//!
+//! Written by `tools/derive` from `types.rs`: change that file, and write this one anew.
+
+ghost use Rattle.std.specs.Prelude.{◌≡◌, ◌∷◌, [], ℕ, ℤ, Option, None, codes, string_bytes, refl, ⊤};
+ghost use Rattle.content_ser.specs.Scripts.Own.{field_first, tuple_field_first, end_script};
+ghost use Rattle.content_ser.specs.Scripts.Own.{unit_variant_script, newtype_variant_script};
+ghost use Rattle.content_ser.specs.Scripts.Own.{tuple_variant_script, struct_script};
+ghost use Rattle.content_ser.specs.Scripts.Own.{struct_variant_script};
+ghost use Rattle.content_ser.specs.Laws.StandardScripts.{leaf_lawful, option_lawful};
+ghost use Rattle.content_ser.specs.Laws.OwnScripts.{field_fits, struct_end_fits, tuple_field_fits};
+ghost use Rattle.content_ser.specs.Laws.OwnScripts.{tuple_end_fits, unit_variant_lawful};
+ghost use Rattle.content_ser.specs.Laws.OwnScripts.{newtype_variant_lawful, tuple_variant_lawful};
+ghost use Rattle.content_ser.specs.Laws.OwnScripts.{struct_lawful, struct_variant_lawful};
+ghost use Rattle.content_de.specs.Outcomes.{refusal_of, IsTaken};
+ghost use Rattle.content_de.specs.Requests.Leaves.{text_from};
+ghost use Rattle.content_de.specs.Reads.Standard.{HasContent};
+ghost use Rattle.content_de.specs.Reads.Tuples.{part_then, end_of_parts, PartThen, NoPart};
+ghost use Rattle.content_de.specs.Accesses.ByName.{fields_left};
+ghost use Rattle.content_de.specs.Reads.Read.{Reads};
+ghost use Rattle.content_de.specs.Reads.ByName.{read_by_name, named_then, named_or_then};
+ghost use Rattle.content_de.specs.Reads.ByName.{others_skipped, no_others, ReadByName, NamedThen};
+ghost use Rattle.content_de.specs.Reads.ByName.{NamedOrThen, NoOthers};
+ghost use Rattle.content_de.specs.Reads.Own.{enum_refusal, variant_or, no_variant_of, EnumGives};
+ghost use Rattle.content_de.specs.Reads.Own.{unit_variant_refusal, UnitVariantGives};
+ghost use Rattle.content_de.specs.Reads.Own.{newtype_variant_refusal, NewtypeVariantGives};
+ghost use Rattle.content_de.specs.Reads.Own.{tuple_variant_refusal, TupleVariantGives};
+ghost use Rattle.content_de.specs.Reads.Own.{struct_refusal, StructGives, struct_variant_refusal};
+ghost use Rattle.content_de.specs.Reads.Own.{StructVariantGives};
+ghost use Rattle.serde_content.specs.RoundTrip.{ComesBack, CoercionKeeps};
+ghost use Rattle.serde_content.specs.Laws.Leaves.{heedless_keeps, natural_keeps, integer_keeps};
+ghost use Rattle.serde_content.specs.Laws.Leaves.{text_back, u8_back, u32_back, i32_back};
+ghost use Rattle.serde_content.specs.Laws.Holders.{option_back, option_keeps};
+ghost use Rattle.serde_content.specs.Laws.Series.{both_hold, tuple_field_back, parts_end};
+ghost use Rattle.serde_content.specs.Laws.Series.{part_keeps, parts_end_keeps};
+ghost use Rattle.serde_content.specs.Laws.Records.{struct_back, struct_keeps};
+ghost use Rattle.serde_content.specs.Laws.ByName.{by_name_back, named_back, named_or_back};
+ghost use Rattle.serde_content.specs.Laws.ByName.{skipped_back, closed_back, by_name_keeps};
+ghost use Rattle.serde_content.specs.Laws.ByName.{named_keeps, named_or_keeps, skipped_keeps};
+ghost use Rattle.serde_content.specs.Laws.ByName.{closed_keeps};
+ghost use Rattle.serde_content.specs.Laws.Variants.{variant_back, other_variant, variant_kept};
+ghost use Rattle.serde_content.specs.Laws.Variants.{unit_variant_back, unit_variant_keeps};
+ghost use Rattle.serde_content.specs.Laws.Variants.{newtype_variant_back, newtype_variant_keeps};
+ghost use Rattle.serde_content.specs.Laws.Variants.{tuple_variant_back, tuple_variant_keeps};
+ghost use Rattle.serde_content.specs.Laws.Variants.{struct_variant_back, struct_variant_keeps};
+ghost use Rattle.std.specs.declared.alloc.Global.{Global};
+ghost use Rattle.std.specs.declared.string.String.{String};
+ghost use Rattle.content_tree.specs.Values.Ranges as kind;
+ghost use Rattle.shapes.specs.declared.types.Place.{Place};
+ghost use Rattle.shapes.specs.declared.types.Step.TheVariants as step;
+
+use serde_content::de::{Deserialize, FieldsByName, read_two, two_parts, unknown_variant};
+use serde_content::ser::{Call, Parts, Serialize, Serializer, send_two};
+use serde_content::{CowStr, Deserializer, Result, RoundTrip};
+use std::alloc::Global;
+
+/// Where a parcel goes.
+#[derive(Drop, Debug, PartialEq, Eq)]
+pub struct Place {
+    /// The street, with the number.
+    pub street_name: String,
+    /// None on the ground.
+    pub floor: Option<u8>,
+}
+
+/// Fields, wherever they stand.
+fn read_place<'de, 'n: 'de>(alloc: Global, fields: FieldsByName<'de, 'n>) -> Result<Place>
+    ensures { Reads (
+        (named_then (codes "streetName") (⟦<String as Deserialize<'de>>⟧.refusal)
+        (named_or_then (codes "floor") (⟦<Option<u8> as Deserialize<'de>>⟧.refusal)
+        (no_others (codes "streetName" ∷ codes "floor" ∷ []))))
+        (fields_left fields.entry))
+        (λ z.
+        (NamedThen (codes "streetName") (⟦<String as Deserialize<'de>>⟧.gives) z.street_name
+        (NamedOrThen (codes "floor") (λ (x : (Option ℕ)). x ≡ None)
+        (⟦<Option<u8> as Deserialize<'de>>⟧.gives) z.floor
+        NoOthers))
+        (fields_left fields.entry)) result }
+{
+    let (street_name, floor) = read_two(
+        alloc,
+        fields,
+        "streetName",
+        None,
+        "floor",
+        Some(None),
+        &["streetName", "floor"],
+        true,
+    )?;
+    Ok(Place { street_name, floor })
+}
+
+impl Serialize for Place {
+    ghost script = { λ p. struct_script (codes "Place") 2
+        (field_first (codes "streetName") (⟦<String as Serialize>⟧.script p.street_name)
+        (field_first (codes "floor") (⟦<Option<u8> as Serialize>⟧.script p.floor)
+        end_script)) };
+
+    ghost lawful = { λ p readable. struct_lawful
+        (field_fits (leaf_lawful refl)
+        (field_fits (option_lawful (λ x h. leaf_lawful refl) p.floor readable)
+        struct_end_fits)) };
+
+    fn serialize<S: Serializer>(&self, alloc: Global, serializer: &mut S) -> Result<()> {
+        send_two(
+            alloc,
+            serializer,
+            Call::Struct("Place", 2),
+            Call::Field("streetName"),
+            &self.street_name,
+            Call::Field("floor"),
+            &self.floor,
+        )
+    }
+}
+
+impl<'de> Deserialize<'de> for Place {
+    ghost refusal = { struct_refusal (codes "Place") (read_by_name
+        (named_then (codes "streetName") (⟦<String as Deserialize<'de>>⟧.refusal)
+        (named_or_then (codes "floor") (⟦<Option<u8> as Deserialize<'de>>⟧.refusal)
+        (no_others (codes "streetName" ∷ codes "floor" ∷ []))))) };
+
+    ghost gives = { λ s p. StructGives (codes "Place") (ReadByName
+        (NamedThen (codes "streetName") (⟦<String as Deserialize<'de>>⟧.gives) p.street_name
+        (NamedOrThen (codes "floor") (λ (x : (Option ℕ)). x ≡ None)
+        (⟦<Option<u8> as Deserialize<'de>>⟧.gives) p.floor
+        NoOthers))) s };
+
+    fn deserialize<'n: 'de>(alloc: Global, from: Deserializer<'de, 'n>) -> Result<Place> {
+        let fields = from
+            .deserialize_struct(alloc, "Place", &["streetName", "floor"])?
+            .by_name();
+        read_place(alloc, fields)
+    }
+}
+
+impl<'de> RoundTrip<'de> for Place {
+    ghost exists = { λ p. ⟦<Option<u8> as RoundTrip<'de>>⟧.exists p.floor };
+
+    fn known(&self) {
+        self.floor.known();
+    }
+
+    ghost comes_back = { record {
+      of_value = λ p real f. struct_back (by_name_back
+          (named_back (codes "streetName") text_back p.street_name tt (λ q. q.street_name)
+          (named_or_back (codes "floor") (λ (x : (Option ℕ)). x ≡ None)
+          (let law : ComesBack (⟦<Option<u8> as RoundTrip<'de>>⟧.exists)
+          (⟦<Option<u8> as Serialize>⟧.script) (⟦<Option<u8> as Deserialize<'de>>⟧.refusal)
+          (⟦<Option<u8> as Deserialize<'de>>⟧.gives) (⟦<Option<u8> as PartialEq>⟧.eq) =
+          (option_back u8_back) in law) p.floor real (λ q. q.floor)
+          (closed_back (codes "streetName" ∷ codes "floor" ∷ [])))))
+          f (λ q h. both_hold h.0 h.1.0);
+    } };
+
+    ghost keeps = { struct_keeps (codes "Place") (by_name_keeps
+        (named_keeps (codes "streetName") (λ q. q.street_name)
+        (heedless_keeps (λ o. refusal_of (text_from o))
+        (λ o (x : String Global). IsTaken (text_from o) (HasContent (string_bytes x))))
+        (named_or_keeps (codes "floor") (λ (x : (Option ℕ)). x ≡ None) (λ q. q.floor)
+        (let law : CoercionKeeps (⟦<Option<u8> as Deserialize<'de>>⟧.refusal)
+        (⟦<Option<u8> as Deserialize<'de>>⟧.gives) = (option_keeps (natural_keeps kind.u8))
+        in law)
+        (closed_keeps (codes "streetName" ∷ codes "floor" ∷ []))))) };
+}
+
+/// What becomes of an order.
+#[derive(Drop, Debug, PartialEq, Eq)]
+pub enum Step {
+    /// Nothing yet.
+    Open,
+    /// Weighed, in grams.
+    Weighed(u32),
+    /// Moved on a plan, by so much.
+    Moved(i32, i32),
+    /// Left with somebody.
+    Left {
+        /// Who took it.
+        with: String,
+        /// Where they live.
+        place: Place,
+    },
+}
+
+/// Its contract tells proofs what a variant of signed numbers holds.
+fn make_step_moved(x1: i32, x2: i32) -> Step
+    ensures { result ≡ step.Moved x1 x2 }
+{
+    Step::Moved(x1, x2)
+}
+
+/// Fields, wherever they stand.
+fn read_step_left<'de, 'n: 'de>(
+    alloc: Global,
+    fields: FieldsByName<'de, 'n>,
+) -> Result<(String, Place)>
+    ensures { Reads (
+        (named_then (codes "with") (⟦<String as Deserialize<'de>>⟧.refusal)
+        (named_then (codes "at") (⟦<Place as Deserialize<'de>>⟧.refusal)
+        (others_skipped (codes "with" ∷ codes "at" ∷ []))))
+        (fields_left fields.entry))
+        (λ z.
+        (NamedThen (codes "with") (⟦<String as Deserialize<'de>>⟧.gives) z.0
+        (NamedThen (codes "at") (⟦<Place as Deserialize<'de>>⟧.gives) z.1
+        NoOthers))
+        (fields_left fields.entry)) result }
+{
+    read_two(
+        alloc,
+        fields,
+        "with",
+        None,
+        "at",
+        None,
+        &["with", "at"],
+        false,
+    )
+}
+
+impl Serialize for Step {
+    ghost use Rattle.shapes.specs.contracts.types.PlaceSerialize.TheImpl.Laws as place_serialize;
+
+    ghost script = { elim [
+      | step.Open ↦ unit_variant_script (codes "Step") 0 (codes "open")
+      | step.Weighed x1 ↦ newtype_variant_script (codes "Step") 1 (codes "weighed")
+          (⟦<u32 as Serialize>⟧.script x1)
+      | step.Moved x1 x2 ↦ tuple_variant_script (codes "Step") 2 (codes "moved-by") 2
+          (tuple_field_first (⟦<i32 as Serialize>⟧.script x1)
+          (tuple_field_first (⟦<i32 as Serialize>⟧.script x2)
+          end_script))
+      | step.Left x1 x2 ↦ struct_variant_script (codes "Step") 3 (codes "left") 2
+          (field_first (codes "with") (⟦<String as Serialize>⟧.script x1)
+          (field_first (codes "at") (⟦<Place as Serialize>⟧.script x2)
+          end_script))
+    ] };
+
+    ghost lawful = { elim [
+      | step.Open ↦ λ readable. unit_variant_lawful
+      | step.Weighed x1 ↦ λ readable. newtype_variant_lawful (leaf_lawful refl)
+      | step.Moved x1 x2 ↦ λ readable. tuple_variant_lawful
+          (tuple_field_fits (leaf_lawful refl)
+          (tuple_field_fits (leaf_lawful refl)
+          tuple_end_fits))
+      | step.Left x1 x2 ↦ λ readable. struct_variant_lawful
+          (field_fits (leaf_lawful refl)
+          (field_fits (place_serialize.lawful-law x2 readable)
+          struct_end_fits))
+    ] };
+
+    fn serialize<S: Serializer>(&self, alloc: Global, serializer: &mut S) -> Result<()> {
+        match self {
+            Step::Open => Call::UnitVariant("Step", 0, "open").send(serializer),
+            Step::Weighed(x1) => {
+                Call::NewtypeVariant("Step", 1, "weighed").around(x1, alloc, serializer)
+            }
+            Step::Moved(x1, x2) => {
+                send_two(
+                    alloc,
+                    serializer,
+                    Call::TupleVariant("Step", 2, "moved-by", 2),
+                    Call::TupleField,
+                    x1,
+                    Call::TupleField,
+                    x2,
+                )
+            }
+            Step::Left { with, place } => {
+                send_two(
+                    alloc,
+                    serializer,
+                    Call::StructVariant("Step", 3, "left", 2),
+                    Call::Field("with"),
+                    with,
+                    Call::Field("at"),
+                    place,
+                )
+            }
+        }
+    }
+}
+
+impl<'de> Deserialize<'de> for Step {
+    ghost refusal = { enum_refusal (codes "Step")
+        (variant_or (codes "open") unit_variant_refusal
+        (variant_or (codes "weighed")
+        (newtype_variant_refusal (⟦<u32 as Deserialize<'de>>⟧.refusal))
+        (variant_or (codes "moved-by") (tuple_variant_refusal
+        (part_then 2 0 (⟦<i32 as Deserialize<'de>>⟧.refusal)
+        (part_then 2 1 (⟦<i32 as Deserialize<'de>>⟧.refusal)
+        (end_of_parts 2))))
+        (variant_or (codes "left") (struct_variant_refusal (read_by_name
+        (named_then (codes "with") (⟦<String as Deserialize<'de>>⟧.refusal)
+        (named_then (codes "at") (⟦<Place as Deserialize<'de>>⟧.refusal)
+        (others_skipped (codes "with" ∷ codes "at" ∷ []))))))
+        (no_variant_of (codes "open" ∷ codes "weighed" ∷ codes "moved-by" ∷ codes "left" ∷
+        [])))))) };
+
+    ghost gives = { λ s. elim [
+      | step.Open ↦ EnumGives (codes "Step") (codes "open") UnitVariantGives s
+      | step.Weighed x1 ↦ EnumGives (codes "Step") (codes "weighed")
+          (NewtypeVariantGives (⟦<u32 as Deserialize<'de>>⟧.gives) x1) s
+      | step.Moved x1 x2 ↦ EnumGives (codes "Step") (codes "moved-by") (TupleVariantGives
+          (PartThen (⟦<i32 as Deserialize<'de>>⟧.gives) x1
+          (PartThen (⟦<i32 as Deserialize<'de>>⟧.gives) x2
+          NoPart))) s
+      | step.Left x1 x2 ↦ EnumGives (codes "Step") (codes "left")
+          (StructVariantGives (ReadByName
+          (NamedThen (codes "with") (⟦<String as Deserialize<'de>>⟧.gives) x1
+          (NamedThen (codes "at") (⟦<Place as Deserialize<'de>>⟧.gives) x2
+          NoOthers)))) s
+    ] };
+
+    fn deserialize<'n: 'de>(alloc: Global, from: Deserializer<'de, 'n>) -> Result<Step> {
+        let access = from.deserialize_enum(
+            alloc,
+            "Step",
+            &["open", "weighed", "moved-by", "left"],
+        )?;
+        let (tag, variant) = access.variant::<CowStr<'de>>(alloc)?;
+        match tag.as_str() {
+            "open" => {
+                variant.unit_variant(alloc)?;
+                Ok(Step::Open)
+            }
+            "weighed" => Ok(Step::Weighed(variant.newtype_variant(alloc)?)),
+            "moved-by" => {
+                let parts = variant.tuple_variant(alloc, 2)?;
+                let (x1, x2) = two_parts(alloc, parts)?;
+                Ok(make_step_moved(x1, x2))
+            }
+            "left" => {
+                let fields = variant.struct_variant(alloc, &["with", "at"])?.by_name();
+                let (with, place) = read_step_left(alloc, fields)?;
+                Ok(Step::Left { with, place })
+            }
+            tag => Err(unknown_variant(alloc, tag, &["open", "weighed", "moved-by", "left"])),
+        }
+    }
+}
+
+impl<'de> RoundTrip<'de> for Step {
+    ghost use Rattle.shapes.specs.contracts.types.PlaceRoundTrip.TheImpl.Laws as place_round_trip;
+
+    ghost exists = { elim [
+      | step.Open ↦ ⊤
+      | step.Weighed x1 ↦ ⊤
+      | step.Moved x1 x2 ↦ ⊤
+      | step.Left x1 x2 ↦ ⟦<Place as RoundTrip<'de>>⟧.exists x2
+    ] };
+
+    fn known(&self) {
+        match self {
+            Step::Open => {}
+            Step::Weighed(_) => {}
+            Step::Moved(_, _) => {}
+            Step::Left { with: _, place } => {
+                place.known();
+            }
+        }
+    }
+
+    ghost comes_back = { record {
+      of_value = elim [
+        | step.Open ↦ λ real f. variant_back Self.refusal Self.gives unit_variant_back
+            f (λ d. refl)
+            (λ d only. elim [
+              | step.Open ↦ λ it. refl
+              | step.Weighed y1 ↦ λ it. other_variant it.0 refl
+              | step.Moved y1 y2 ↦ λ it. other_variant it.0 refl
+              | step.Left y1 y2 ↦ λ it. other_variant it.0 refl
+            ])
+        | step.Weighed x1 ↦ λ real f. variant_back Self.refusal Self.gives
+            (newtype_variant_back u32_back x1 tt)
+            f (λ d. refl)
+            (λ d only. elim [
+              | step.Open ↦ λ it. other_variant it.0 refl
+              | step.Weighed y1 ↦ λ it. only y1 it.1
+              | step.Moved y1 y2 ↦ λ it. other_variant it.0 refl
+              | step.Left y1 y2 ↦ λ it. other_variant it.0 refl
+            ])
+        | step.Moved x1 x2 ↦ λ real f. variant_back Self.refusal Self.gives
+            (tuple_variant_back
+            (tuple_field_back i32_back x1 tt (λ (z : ℤ × ℤ). z.0) 2 0
+            (tuple_field_back i32_back x2 tt (λ (z : ℤ × ℤ). z.1) 2 1
+            (parts_end 2))))
+            f (λ d. refl)
+            (λ d only. elim [
+              | step.Open ↦ λ it. other_variant it.0 refl
+              | step.Weighed y1 ↦ λ it. other_variant it.0 refl
+              | step.Moved y1 y2 ↦ λ it. let same = only (y1, y2) it.1 in both_hold same.0
+                  same.1.0
+              | step.Left y1 y2 ↦ λ it. other_variant it.0 refl
+            ])
+        | step.Left x1 x2 ↦ λ real f. variant_back Self.refusal Self.gives
+            (struct_variant_back (by_name_back
+            (named_back (codes "with") text_back x1 tt (λ (z : (String Global) × Place). z.0)
+            (named_back (codes "at") place_round_trip.comes_back-law x2 real
+            (λ (z : (String Global) × Place). z.1)
+            (skipped_back (codes "with" ∷ codes "at" ∷ []))))))
+            f (λ d. refl)
+            (λ d only. elim [
+              | step.Open ↦ λ it. other_variant it.0 refl
+              | step.Weighed y1 ↦ λ it. other_variant it.0 refl
+              | step.Moved y1 y2 ↦ λ it. other_variant it.0 refl
+              | step.Left y1 y2 ↦ λ it. let same = only (y1, y2) it.1 in both_hold same.0 same.1.0
+            ])
+      ];
+    } };
+
+    ghost keeps = { record {
+      of_origin = λ o people. elim [
+        | step.Open ↦ λ p.
+            let q = variant_kept (codes "Step") (codes "open") _ (λ v. refl) unit_variant_keeps
+            o people tt p.free p.given in
+            record { free = q.0; given = q.1 }
+        | step.Weighed x1 ↦ λ p.
+            let q = variant_kept (codes "Step") (codes "weighed") _ (λ v. refl)
+            (newtype_variant_keeps (natural_keeps kind.u32))
+            o people x1 p.free p.given in
+            record { free = q.0; given = q.1 }
+        | step.Moved x1 x2 ↦ λ p.
+            let q = variant_kept (codes "Step") (codes "moved-by") _ (λ v. refl)
+            (tuple_variant_keeps
+            (part_keeps (λ (z : ℤ × ℤ). z.0) 2 0 (integer_keeps kind.i32)
+            (part_keeps (λ (z : ℤ × ℤ). z.1) 2 1 (integer_keeps kind.i32)
+            (parts_end_keeps 2))))
+            o people (x1, x2) p.free p.given in
+            record { free = q.0; given = q.1 }
+        | step.Left x1 x2 ↦ λ p.
+            let q = variant_kept (codes "Step") (codes "left") _ (λ v. refl)
+            (struct_variant_keeps (by_name_keeps
+            (named_keeps (codes "with") (λ (z : (String Global) × Place). z.0)
+            (heedless_keeps (λ o. refusal_of (text_from o))
+            (λ o (x : String Global). IsTaken (text_from o) (HasContent (string_bytes x))))
+            (named_keeps (codes "at") (λ (z : (String Global) × Place). z.1)
+            place_round_trip.keeps-law
+            (skipped_keeps (codes "with" ∷ codes "at" ∷ []))))))
+            o people (x1, x2) p.free p.given in
+            record { free = q.0; given = q.1 }
+      ];
+    } };
+}
