@@ -3,16 +3,19 @@ from typing import Callable, List
 
 from .declarations import Data, Item, Variant
 from .holder import Holder
-from .text import DESERIALIZE, KNOWN, SERIALIZE, alias, all_hold, arm, bracketed, clause, codes, elim
-from .text import facts, function, ghost, listed, quoted, together
-from .types import nest, snake
+from .literals import OPENED, list_function, list_term, name_call, name_term
+from .text import DESERIALIZE, KNOWN, SERIALIZE, alias, all_hold, arm, bracketed, clause, elim
+from .text import facts, function, ghost, together
+from .types import in_term, snake
 
 
 class EnumWriter:
     """The impls of an enum, each member by cases."""
 
     def __init__(self, item: Item):
-        self.item, self.name, self.cases = item, codes(item.wire), alias(item.name)
+        self.item, self.name, self.cases = item, name_term(item.wire), alias(item.name)
+        self.names = [v.wire for v in item.variants]
+        self.reader_name = f"read_{snake(item.name)}"
         self.sends, self.reads = "Serialize" in item.derives, "Deserialize" in item.derives
         self.variants = [(v, Holder("Variant", [item.wire, i, v.wire], v.data, item.name + v.name))
                          for i, v in enumerate(item.variants)]
@@ -25,7 +28,7 @@ class EnumWriter:
     def leaves(cls, v: Variant, letter: str = "x") -> List[str]:
         """The values that are sent and read, as contracts call them."""
         if v.beside:
-            return [f"{letter}1.{f.name}" for f in v.beside.data.fields]
+            return [f"{letter}1.{in_term(f.name)}" for f in v.beside.data.fields]
         return cls.values(v.data, letter)
 
     def sent(self, v: Variant) -> List[str]:
@@ -34,7 +37,7 @@ class EnumWriter:
 
     def case(self, v: Variant, letter: str = "x") -> str:
         """A variant as a pattern of contracts."""
-        return " ".join([f"{self.cases}.{v.name}"] + self.values(v.data, letter)) + " ↦"
+        return " ".join([f"{self.cases}.{in_term(v.name)}"] + self.values(v.data, letter)) + " ↦"
 
     def each(self, term: Callable[[Variant, Holder, List[str]], str]) -> str:
         return elim([f"{self.case(v)} {term(v, holder, self.leaves(v))}" for v, holder in self.variants])
@@ -46,14 +49,27 @@ class EnumWriter:
         """Those that the impls call."""
         return [text for v, holder in self.variants
                 for text in self.maker(v) * self.reads + holder.send_function() * self.sends
-                + self.reader(v, holder) * self.reads]
+                + (holder.names_function() + self.reader(v, holder)) * self.reads
+                ] + (self.names_functions() + self.variants_reader()) * self.reads
+
+    def names_functions(self) -> List[str]:
+        """The functions that hand the names of the variants out, and find a tag among them."""
+        known, names = f"variants_of_{snake(self.item.name)}", list_term(self.names)
+        return [list_function(known, "The names of its variants.", self.names),
+                f"/// The index of the variant that the tag names.\nfn index_of_{snake(self.item.name)}(tag: &str) -> Option<usize>\n"
+                + clause("ensures", f"IsIndexAmong {names}\ntag.now result") + f"{{\nvariant_index(tag, {known}())\n}}\n"]
+
+    @property
+    def known(self) -> str:
+        """The names of its variants in code."""
+        return f"variants_of_{snake(self.item.name)}()"
 
     def reader(self, v: Variant, holder: Holder) -> List[str]:
         """The function that reads a variant's fields, all values as one."""
         if v.beside:
             held = v.beside.name
             return holder.read_functions(holder.data.made(held, holder.data.places()), held,
-                                         [f"z.{f.name}" for f in holder.fields])
+                                         [f"z.{in_term(f.name)}" for f in holder.fields])
         types = [f.type.rust() for f in v.data.fields]
         values = [f"z.{i}" for i in range(len(types))] if len(types) > 1 else ["z"]
         return holder.read_functions(together(v.data.places()), together(types), values)
@@ -64,7 +80,7 @@ class EnumWriter:
             return []
         places = v.data.places()
         parameters = ", ".join(f"{p}: {f.type.rust()}" for p, f in zip(places, v.data.fields))
-        made = " ".join([f"{self.cases}.{v.name}"] + places)
+        made = " ".join([f"{self.cases}.{in_term(v.name)}"] + [in_term(p) for p in places])
         return ["/// Its contract tells proofs what a variant of signed numbers holds.\n"
                 f"fn {self.maker_name(v)}({parameters}) -> {self.item.name}\n"
                 + clause("ensures", f"result ≡ {made}") + f"{{\n{self.made(v, places)}\n}}\n"]
@@ -81,26 +97,45 @@ class EnumWriter:
                 ghost("lawful", self.each(lambda v, holder, x: f"λ readable. {holder.lawful(x)}")),
                 function(SERIALIZE, *self.match(sent))]
 
+    def refusal_of(self, holder: Holder) -> str:
+        """What a variant refuses."""
+        return holder.refusal()
+
+    def refusals(self) -> str:
+        """What each variant refuses, by name."""
+        each = [f"({name_term(v.wire)[1:-1]}, {self.refusal_of(holder).strip()})" for v, holder in self.variants]
+        return "(variants (\n" + "\n∷ ".join(each + ["[]))"])
+
+    def given(self, v: Variant, holder: Holder, values: List[str]) -> str:
+        """What a variant may give."""
+        return f"EnumGives {self.name} {name_term(v.wire)} {bracketed(holder.gives(values))}"
+
+    def arm_lines(self, v: Variant, holder: Holder) -> List[str]:
+        """The statements that read a variant."""
+        return holder.read(self.making(v))
+
+    def dispatch(self, tag: str) -> List[str]:
+        """The statements that read the variant that a tag names."""
+        arms = [arm(f"Some({i})", self.arm_lines(v, holder)) for i, (v, holder) in enumerate(self.variants)]
+        return [f"match index_of_{snake(self.item.name)}({tag}) {{", *arms,
+                f"_ => Err(unknown_variant(alloc, {tag}, {self.known})),", "}"]
+
+    def variants_reader(self) -> List[str]:
+        """The function that reads the variant that a tag names."""
+        held = "(variant_view variant.entry)"
+        gives = self.each(lambda v, holder, x: f"(tag.now ≡ {name_term(v.wire)[1:-1]}) × {holder.gives(x)} {held}")
+        lines = "\n".join(self.dispatch("tag"))
+        return [f"/// The variant that the tag names.\nfn {self.reader_name}<'de, 'n: 'de>(alloc: Global, tag: &str,"
+                f" variant: VariantAccess<'de, 'n>) -> Result<{self.item.name}>\n"
+                + clause("ensures", f"Reads ({self.refusals()}\ntag.now {held})\n({gives}) result") + f"{{\n{lines}\n}}\n"]
+
     def deserialize(self) -> List[str]:
-        heads = [f"variant_or {codes(v.wire)} {bracketed(h.refusal())}" for v, h in self.variants]
-        arms = [arm(f'"{v.wire}"', h.read(self.making(v))) for v, h in self.variants]
-        return [ghost("refusal", f"enum_refusal {self.name}{nest(heads, self.no_variant())}"),
-                ghost("gives", "λ s. " + self.each(
-                    lambda v, h, x: f"EnumGives {self.name} {codes(v.wire)} {bracketed(h.gives(x))} s")),
+        return [ghost("refusal", f"enum_refusal {self.name} {self.refusals()}"),
+                ghost("gives", "λ s. " + self.each(lambda v, h, x: f"{self.given(v, h, x)} s")),
                 function(DESERIALIZE.format(self.item.name),
-                         f'let access = from.deserialize_enum(alloc, "{self.item.wire}",'
-                         f" &[{quoted(self.item.variants)}])?;",
+                         f"let access = from.deserialize_enum(alloc, {name_call(self.item.wire)}, {self.known})?;",
                          "let (tag, variant) = access.variant::<CowStr<'de>>(alloc)?;",
-                         "match tag.as_str() {", *arms,
-                         self.unknown(), "}")]
-
-    def no_variant(self) -> str:
-        """The refusal of any other tag."""
-        return f"(no_variant_of {listed([v.wire for v in self.item.variants])})"
-
-    def unknown(self) -> str:
-        """The arm of any other tag."""
-        return f"tag => Err(unknown_variant(alloc, tag, &[{quoted(self.item.variants)}])),"
+                         f"{self.reader_name}(alloc, tag.as_str(), variant)")]
 
     def making(self, v: Variant) -> Callable[[List[str]], str]:
         """How the code makes a variant: by its own function, where it has one."""
@@ -123,7 +158,7 @@ class EnumWriter:
     def back(self, v: Variant, holder: Holder, values: List[str]) -> str:
         """That a variant comes back."""
         law = f"{holder.word}_back{holder.back(values, self.sees(holder))}"
-        return (f"λ real f. variant_back Self.refusal Self.gives {bracketed(law)}\nf (λ d. refl)\n"
+        return (f"λ real f. variant_back Self.refusal Self.gives {bracketed(law)}\nf (λ d. {OPENED})\n"
                 f"(λ d only. {elim([self.read(v, w) for w in self.item.variants])})")
 
     def cbor_round_trip(self) -> List[str]:
@@ -132,9 +167,9 @@ class EnumWriter:
     def kept(self, v: Variant, holder: Holder, values: List[str]) -> str:
         """That a variant comes back from CBOR."""
         law = f"{holder.word}_kept{holder.kept(values, self.sees(holder))}"
-        it = f"(given_as {self.name} {codes(v.wire)} d it)"
+        it = f"(given_as {self.name} {name_term(v.wire)} d it)"
         read = elim([self.read(v, w, f"{it}.named", f"{it}.held") for w in self.item.variants])
-        return f"λ real. variant_comes_back _ Self.gives {bracketed(law)}\n(λ v. refl)\n(λ d only. {read})"
+        return f"λ real. variant_comes_back _ Self.gives {bracketed(law)}\n(λ v. {OPENED})\n(λ d only. {read})"
 
     def read(self, sent: Variant, read: Variant, named: str = "it.0", held: str = "it.1") -> str:
         """That a variant that was read is equal to the one that was sent, by what is known of its
@@ -142,7 +177,7 @@ class EnumWriter:
         values = self.leaves(read, "y")
         pattern = self.case(read, "y") + " λ it. "
         if read is not sent:
-            return pattern + f"other_variant {named} refl"
+            return pattern + f"other_variant {named} (unfold name in refl)"
         if not values:
             return pattern + "refl"
         if self.alone(read):
@@ -156,7 +191,7 @@ class EnumWriter:
     def keeps(self, v: Variant, holder: Holder, values: List[str]) -> str:
         """That a variant is given with coercion where it is without."""
         law = f"{holder.word}_keeps{holder.keeps(self.sees(holder))}"
-        return (f"λ p.\nlet q = variant_kept {self.name} {codes(v.wire)} _ (λ v. refl) {bracketed(law)}\n"
+        return (f"λ p.\nlet q = variant_kept {self.name} {name_term(v.wire)} _ (λ v. {OPENED}) {bracketed(law)}\n"
                 f"o people {together(values)} p.free p.given in\nrecord {{ free = q.0; given = q.1 }}")
 
     @staticmethod

@@ -2,7 +2,8 @@
 from typing import Callable, List, NamedTuple, Optional, Tuple
 
 from .declarations import Data, Field
-from .text import clause, codes, fields_reader, listed, together
+from .literals import list_function, list_term, name_call, name_term
+from .text import clause, fields_reader, together
 from .types import READ, TRIP, nest, snake
 from .words import READERS, SENDERS
 
@@ -65,11 +66,12 @@ class Holder:
         self.many = data.style in ("Struct", "Tuple")
         self.camel = "Struct" if data.named and sort == "Struct" else data.style + sort
         self.word = snake(self.camel)
-        self.names = " ".join(str(n) if isinstance(n, int) else codes(n) for n in names)
-        written = [str(n) if isinstance(n, int) else f'"{n}"' for n in names + [self.count] * self.many]
+        self.names = " ".join(str(n) if isinstance(n, int) else name_term(n) for n in names)
+        written = [str(n) if isinstance(n, int) else name_call(n) for n in names + [self.count] * self.many]
         self.call = f"Call::{self.camel}({', '.join(written)})"
         self.of_variant = sort == "Variant"
         self.sender, self.reader = f"send_{snake(owner)}", f"read_{snake(owner)}"
+        self.known_function = f"fields_of_{snake(owner)}"
         self.names_known = [f.wire for f in data.fields]
         self.before: List[Tuple[str, str]] = []
         self.head = "" if self.of_variant else " " + self.names
@@ -78,7 +80,15 @@ class Holder:
     @property
     def known(self) -> str:
         """The names of its fields in code."""
-        return "&[" + ", ".join(f'"{name}"' for name in self.names_known) + "]"
+        if len(self.names_known) > 1:
+            return f"{self.known_function}()"
+        return f"&[{', '.join(name_call(name) for name in self.names_known)}]"
+
+    def names_function(self) -> List[str]:
+        """The function that hands the names of its fields out, where there are several."""
+        if not self.data.named or len(self.names_known) < 2:
+            return []
+        return [list_function(self.known_function, "The names of its fields.", self.names_known)]
 
     def row(self, member: str, inners: List[str], sees: Optional[List[str]] = None, start: int = 0) -> str:
         """All its values in a member of the impls, or the one, after a blank or a line's end; or
@@ -87,11 +97,11 @@ class Holder:
             return "".join(f" {inner}" for inner in inners)
         part, end = getattr(self.by_key if self.data.named else BY_PLACE, member)
         parts = [part.format(
-            inner=inner, see=see, place=place, count=self.count, name=codes(f.wire),
+            inner=inner, see=see, place=place, count=self.count, name=name_term(f.wire),
             or_="_or" * bool(f.missing), Or="Or" * bool(f.missing), missing=f.absent())
             for place, (f, inner, see) in enumerate(zip(self.fields[start:], inners, sees or inners))]
         words = ("no_others", "closed") if self.data.closed else ("others_skipped", "skipped")
-        return nest(parts, end.format(known=listed(self.names_known), left=words[0], end=words[1]))
+        return nest(parts, end.format(known=list_term(self.names_known), left=words[0], end=words[1]))
 
     def by_name(self, word: str, row: str) -> str:
         """A row of fields, which is read by name."""
@@ -119,7 +129,7 @@ class Holder:
         return [pair for f, value in zip(self.fields[start:], values) for pair in self.announced(f.wire, value)]
 
     def announced(self, name: str, value: str) -> List[Tuple[str, str]]:
-        return [(f'Call::Field("{name}")' if self.data.named else "Call::TupleField", value)]
+        return [(f"Call::Field({name_call(name)})" if self.data.named else "Call::TupleField", value)]
 
     def chain(self, values: List[str]) -> str:
         """The calls, one after another."""
@@ -131,7 +141,7 @@ class Holder:
 
     def send_function(self) -> List[str]:
         """The function that sends more than two values; its proof sees none of their types. Of more
-        than eight it hands on the first to a further one."""
+        than eight it hands on the first eight to a further one."""
         if self.count <= self.most:
             return []
         texts, start, head, before = [], 0, self.call, self.before
@@ -141,10 +151,10 @@ class Holder:
             inner = [f"(T{i}.script x{i}.now)" for i in places]
             script = f"P.first parts{self.row('script', inner, start=start)}" if start else self.script(
                 [f"{v}.now" for v in values], [f"T{i}.script" for i in places])
-            later = self.count if len(pairs) <= len(SENDERS) else start + 1
+            later = self.count if len(pairs) <= len(SENDERS) else start + len(SENDERS) - len(before)
             body = sending(head, pairs) if later == self.count else (
-                f"let parts = {handed_on(head, before + self.pairs(values[:1], start))};\n"
-                f"{self.sender_at(later)}(alloc, serializer, parts, {', '.join(values[1:])})")
+                f"let parts = {handed_on(head, pairs[:len(SENDERS)])};\n"
+                f"{self.sender_at(later)}(alloc, serializer, parts, {', '.join(values[later - start:])})")
             types = ", ".join(["S: Serializer"] + ["P: Parts"] * bool(start) + [f"T{i}: Serialize" for i in places])
             given = ", ".join(["alloc: Global", "serializer: &mut S"] + ["parts: P"] * bool(start)
                               + [f"x{i}: &T{i}" for i in places])
@@ -226,11 +236,11 @@ class Holder:
     def taking(f: Field, place: str) -> str:
         """The statement that reads one field."""
         reader, missing = ("field_or", f", {f.missing[0]}") if f.missing else ("named_field", "")
-        return f'let {place} = {reader}(alloc, &mut fields, "{f.wire}"{missing})?;'
+        return f'let {place} = {reader}(alloc, &mut fields, {name_call(f.wire)}{missing})?;'
 
     def taken(self, fields: List[Field]) -> str:
         """The call that reads all fields, up to six, and what is left over."""
-        each = "".join(f'"{f.wire}", {f"Some({f.missing[0]})" if f.missing else "None"}, ' for f in fields)
+        each = "".join(f"{name_call(f.wire)}, {f'Some({f.missing[0]})' if f.missing else 'None'}, " for f in fields)
         closed = "true" if self.data.closed else "false"
         return f"{READERS[len(fields) - 1]}(alloc, fields, {each}{self.known}, {closed})"
 

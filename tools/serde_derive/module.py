@@ -5,6 +5,7 @@ from typing import Iterator, List, Union
 from .declarations import Item, Refused
 from .enums import EnumWriter
 from .homes import Homes
+from .literals import with_names
 from .names import name_item
 from .parser import Parser
 from .structs import StructWriter
@@ -77,7 +78,7 @@ def module(source: str, name: str, crate: str, place: str, cbor: bool = False) -
         name_item(item)
     for item in items:
         homes.settle(item)
-    body = "\n".join(text for item in items for text in (item.declared(), "", *impls(item, cbor)))
+    body = with_names("\n".join(text for item in items for text in (item.declared(), "", *impls(item, cbor))))
     seen = " ".join(re.findall(r"λ (?:o )?\([xz] : (.*?)\)\. ", body))
     owns = {own.declared: own for item in items for own in item.owns()}
     ghosts = words_of(body, WORDS) + words_of(seen, SEEN)

@@ -6,7 +6,8 @@ from typing import List, Optional
 from .declarations import Data, Field, Item, Refused, Variant
 from .enums import EnumWriter
 from .holder import Holder
-from .text import DESERIALIZE, arm, codes, elim, fields_reader, function, ghost, together
+from .literals import OPENED, name_call, name_term
+from .text import DESERIALIZE, arm, elim, fields_reader, function, ghost, together
 from .types import DEFAULTS, nest
 
 
@@ -20,13 +21,13 @@ class TaggedHolder(Holder):
         super().__init__("Struct", [name], data, item.name + v.name)
         self.names_known = [tag] + self.names_known
         self.tag, self.variant = tag, v.wire
-        self.call = f'Call::Struct("{name}", {self.count + 1})'
-        self.before = self.announced(tag, f'&"{v.wire}"')
+        self.call = f"Call::Struct({name_call(name)}, {self.count + 1})"
+        self.before = self.announced(tag, f"&{name_call(v.wire)}")
 
     def script(self, values: List[str], members: Optional[List[str]] = None) -> str:
         members = members or [f.type.member("Serialize", "script") for f in self.fields]
         inner = [f"({member} {value})" for member, value in zip(members, values)]
-        head = f"tagged_script {self.names} {self.count + 1} {codes(self.tag)} {codes(self.variant)}"
+        head = f"tagged_script {self.names} {self.count + 1} {name_term(self.tag)} {name_term(self.variant)}"
         return head + self.row("script", inner)
 
     def lawful(self, values: List[str]) -> str:
@@ -41,7 +42,6 @@ class TaggedWriter(EnumWriter):
         super().__init__(item)
         self.tag, self.content = item.serde["tag"], item.serde.get("content")
         self.variants = [(v, TaggedHolder(item, self.tag, v, self.fields_of(v))) for v in item.variants]
-        self.reader_name = f"read_{self.cases}"
 
     def fields_of(self, v: Variant) -> List[Field]:
         """The fields beside the tag: the variant's own, or the one that holds its value."""
@@ -61,37 +61,31 @@ class TaggedWriter(EnumWriter):
     def alone(self, v: Variant) -> bool:
         return False
 
-    def functions(self) -> List[str]:
-        return super().functions() + self.tag_reader() * self.reads
-
-    def refusals(self) -> str:
-        """What each variant refuses."""
-        heads = [f"variant_or {codes(v.wire)}{holder.refusal_row()}" for v, holder in self.variants]
-        return nest(heads, self.no_variant())
+    def refusal_of(self, holder: Holder) -> str:
+        return holder.refusal_row()
 
     def given(self, v: Variant, holder: Holder, values: List[str]) -> str:
-        return f"TagThen {codes(self.tag)} {codes(v.wire)}{holder.gives_row(values)}"
+        return f"TagThen {name_term(self.tag)} {name_term(v.wire)}{holder.gives_row(values)}"
 
-    def tag_reader(self) -> List[str]:
+    def arm_lines(self, v: Variant, holder: Holder) -> List[str]:
+        places = v.data.places()
+        end = "end" if v.data.closed else "skip"
+        read = f"let {together(places)} = {holder.reader}(alloc, fields)?;" if places else (
+            f"{end}_fields(alloc, fields, {holder.known})?;")
+        return [read, f"Ok({self.making(v)(places)})"]
+
+    def variants_reader(self) -> List[str]:
         """The function that reads the tag, and then the variant."""
-        arms = []
-        for v, holder in self.variants:
-            places = v.data.places()
-            end = "end" if v.data.closed else "skip"
-            read = f"let {together(places)} = {holder.reader}(alloc, fields)?;" if places else (
-                f"{end}_fields(alloc, fields, {holder.known})?;")
-            arms.append(arm(f'"{v.wire}"', [read, f"Ok({self.making(v)(places)})"]))
         gives = self.each(lambda v, holder, x: f"{self.given(v, holder, x)} (fields_left fields.entry)")
         return [fields_reader(
             "The variant that its tag names.", self.reader_name, self.item.name,
-            f"tag_then {codes(self.tag)}{self.refusals()}", gives,
-            [f'let tag = tag_field(alloc, &mut fields, "{self.tag}")?;', "match tag.as_str() {", *arms,
-             self.unknown(), "}"])]
+            f"tag_then {name_term(self.tag)} {self.refusals()}", gives,
+            [f"let tag = tag_field(alloc, &mut fields, {name_call(self.tag)})?;", *self.dispatch("tag.as_str()")])]
 
     def deserialize(self) -> List[str]:
-        name = codes(self.item.wire)
-        read = f"read_by_name (tag_then {codes(self.tag)}{self.refusals()})"
-        request = f'from.deserialize_struct(alloc, "{self.item.wire}", &["{self.tag}"])?'
+        name = name_term(self.item.wire)
+        read = f"read_by_name (tag_then {name_term(self.tag)} {self.refusals()})"
+        request = f"from.deserialize_struct(alloc, {name_call(self.item.wire)}, &[{name_call(self.tag)}])?"
         return [ghost("refusal", f"struct_refusal {name} ({read})"),
                 ghost("gives", "λ s. " + self.each(
                     lambda v, holder, x: f"StructGives {name} (ReadByName\n({self.given(v, holder, x)})) s")),
@@ -105,17 +99,17 @@ class TaggedWriter(EnumWriter):
 
     def back(self, v: Variant, holder: Holder, values: List[str]) -> str:
         row = self.unit(v, holder.back_row(values, self.sees(holder)))
-        return (f"λ real f. tagged_back Self.refusal Self.gives{row}\nf (λ fs. refl)\n"
+        return (f"λ real f. tagged_back Self.refusal Self.gives{row}\nf (λ fs. {OPENED})\n"
                 f"(λ fs only. {elim([self.read(v, w) for w in self.item.variants])})")
 
     def kept(self, v: Variant, holder: Holder, values: List[str]) -> str:
         row = self.unit(v, holder.kept_row(values, self.sees(holder)))
-        return (f"λ real. tagged_kept Self.refusal Self.gives{row}\n(λ fs. refl)\n"
+        return (f"λ real. tagged_kept Self.refusal Self.gives{row}\n(λ fs. {OPENED})\n"
                 f"(λ fs only. {elim([self.read(v, w) for w in self.item.variants])})")
 
     def keeps(self, v: Variant, holder: Holder, values: List[str]) -> str:
         row = self.unit(v, holder.keeps_row(self.sees(holder)))
-        return (f"λ p.\nlet q = (struct_keeps {codes(self.item.wire)} (by_name_keeps\n"
-                f"(tag_keeps {codes(self.tag)} {codes(v.wire)}{self.refusals()} (λ f. refl){row}))).of_origin o people"
+        return (f"λ p.\nlet q = (struct_keeps {name_term(self.item.wire)} (by_name_keeps\n"
+                f"(tag_keeps {name_term(self.tag)} {name_term(v.wire)} {self.refusals()} (λ f. {OPENED}){row}))).of_origin o people"
                 f" {together(values)}\n(record {{ free = p.free; given = p.given }}) in\n"
                 "record { free = q.free; given = q.given }")

@@ -2,7 +2,7 @@
 import re
 from typing import List
 
-from .types import snake
+from .types import RESERVED, snake
 from .words import ALIASES, WORDS
 
 
@@ -15,19 +15,10 @@ def codes(name: str) -> str:
     return f'(codes "{name}")'
 
 
-def listed(names: List[str]) -> str:
-    """Names as a list of contracts."""
-    return "(" + " ∷ ".join([codes(name)[1:-1] for name in names] + ["[]"]) + ")"
-
-
-def quoted(named: list) -> str:
-    return ", ".join(f'"{one.wire}"' for one in named)
-
-
 def filled(line: str, width: int = 84) -> str:
     """The line, broken within this width at the last blank that stands in the fewest brackets."""
     depth, place, lowest = 0, 0, 0
-    for found in re.finditer(r'"[^"]*"|⟦[^⟧]*⟧|[({[]|[)}\]]| ', line):
+    for found in re.finditer(r'(?:name )?"[^"]*"|⟦[^⟧]*⟧|[({[]|[)}\]]| ', line):
         if len(line) <= width or found.start() > width:
             break
         depth += (found.group() in "({[") - (found.group() in ")}]")
@@ -97,4 +88,4 @@ BOUND = set("b d f h it m o only p people q readable real s same v x y z".split(
 def alias(name: str) -> str:
     """What the cases of an enum are called, apart from the other names of contracts."""
     short = snake(name)
-    return f"the_{short}" if short in BOUND or short in WORDS or short in ALIASES else short
+    return f"the_{short}" if short in BOUND or short in RESERVED or short in WORDS or short in ALIASES else short

@@ -18,7 +18,7 @@ def word_table(text: str) -> Dict[str, str]:
 STYLES = [f"{style}_{sort}" for style in ("unit", "newtype", "tuple", "struct") for sort in ("struct", "variant")]
 STYLES[STYLES.index("struct_struct")] = "struct"
 WORDS = word_table(f"""
-std.specs.Prelude ◌≡◌ ◌∷◌ [] ℕ ℤ Bool Option None Some IsSome true false pos codes string_bytes refl ⊤
+std.specs.Prelude ◌≡◌ ◌∷◌ [] ℕ ℤ Bool Option None Some IsSome true false pos map codes string_bytes refl ⊤
 std.specs.Cmp nat_cmp_total int_cmp_total unsigned_ties
 std.specs.Cmp.Lexicographic texts_ties
 std.specs.String string_cmp_total
@@ -37,13 +37,16 @@ content_de.specs.Requests.Leaves bool_from char_from unit_from text_from
 content_de.specs.Reads.Standard HasContent
 content_de.specs.Reads.Tuples part_then no_part PartThen NoPart
 content_de.specs.Accesses.ByName fields_left
+content_de.specs.Accesses.Enum variant_view
 content_de.specs.Reads.Read Reads
 content_de.specs.Reads.Attempts IsTakenAs or_next
 content_de.specs.Reads.ByName read_by_name named_then named_or_then others_skipped no_others
 content_de.specs.Reads.ByName ReadByName NamedThen NamedOrThen NoOthers
 content_de.specs.Reads.Tagged tag_then TagThen
-content_de.specs.Reads.Own enum_refusal variant_or no_variant_of EnumGives
+content_de.specs.Reads.Own enum_refusal EnumGives
 content_de.specs.Reads.Own {' '.join(f'{s}_refusal {pascal(s)}Gives' for s in STYLES)}
+serde_content.specs.Literals name
+serde_content.specs.Variants index_among IsIndexAmong variants
 serde_content.specs.RoundTrip ComesBack CoercionKeeps flags under
 serde_content.specs.Laws.Leaves heedless_keeps natural_keeps integer_keeps
 serde_content.specs.Laws.Leaves {' '.join(laws.back for laws in LEAVES.values())}
@@ -95,15 +98,15 @@ CHOICES = [(f"first_of_{count}", f"OneOf{count.title()}") for count in COUNTS[1:
 USES = {
     "content_cbor": "CborRoundTrip NotNull",
     "serde_content": "CowStr Deserializer Error Result RoundTrip",
-    "serde_content::de": f"Deserialize FieldsByName {' '.join(sorted(one for _, one in CHOICES))} attempt end_fields"
+    "serde_content::de": f"Deserialize FieldsByName {' '.join(sorted(one for _, one in CHOICES))} VariantAccess attempt end_fields"
                          f" field_or {' '.join(sorted(first for first, _ in CHOICES))} named_field next_part"
-                         f" {' '.join(sorted(READERS))} skip_fields tag_field two_parts unknown_variant",
+                         f" {' '.join(sorted(READERS))} skip_fields tag_field two_parts unknown_variant variant_index",
     "serde_content::ser": f"Call Parts Serialize Serializer {' '.join(sorted(SENDERS))}",
     "std::alloc": "Global",
     "std::collections": "BTreeMap",
 }
 IN_TEXT = {"[]": "[]", "form": "(form t)", "custom": "(custom ", "Some": "(Some (", "None": "≡ None", "true": "people true",
-           "false": "≡ false"}
+           "false": "≡ false", "name": 'name "', "map": "map (λ name.", "variants": "(variants ("}
 METHODS = {"Parts": r"\.(?:with|around)\("}
 TAKEN = {name for names in USES.values() for name in names.split()} | set(HOLDERS) | {"String", "Ok", "Err"}
 

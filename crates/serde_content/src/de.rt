@@ -4,6 +4,7 @@ pub use crate::choosing::{
     OneOfFour, OneOfThree, OneOfTwo, first_of_four, first_of_three, first_of_two,
 };
 pub use crate::taking::{read_five, read_four, read_one, read_six, read_three, read_two};
+pub use crate::variants::variant_index;
 pub use content_de::{
     Deserialize, EnumAccess, FieldsByName, IntoDeserializer, Map, Node, Seq, VariantAccess,
     attempt, attempt_fitting, end_fields, end_parts, field_or, named_field, next_field, next_part,

@@ -24,3 +24,4 @@ mod sending;
 pub mod ser;
 mod taking;
 mod values;
+mod variants;
