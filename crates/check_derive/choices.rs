@@ -40,3 +40,13 @@ pub enum Steps {
     /// Any others.
     List(Vec<u8>),
 }
+
+/// A colour, told by how many numbers it has.
+#[derive(PartialEq, Eq, Serialize, Deserialize)]
+#[serde(untagged)]
+pub enum Color {
+    /// Red, green and blue.
+    Rgb(u8, u8, u8),
+    /// With how opaque it is.
+    Rgba(u8, u8, u8, u8),
+}

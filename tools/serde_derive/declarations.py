@@ -1,6 +1,6 @@
 """Structs and enums, as they are declared."""
 from dataclasses import dataclass, field, replace
-from itertools import islice
+from itertools import combinations, islice
 from typing import Dict, List, Optional, Tuple
 
 from .types import SIGNED, Type
@@ -145,10 +145,10 @@ class Item(Named):
 
     def comes_back(self) -> bool:
         """Whether RoundTrip is written. A value of an untagged enum may be read as another variant's,
-        where two take trees of one class."""
-        taken = [v.held().takes() for v in self.variants] if "untagged" in self.serde else []
-        classes = [one and one[0] for one in taken]
-        return self.derives_all() and None not in classes and len(set(classes)) == len(classes)
+        where two take trees of one class, and not each of a length of its own."""
+        held = [v.held() for v in self.variants] if "untagged" in self.serde else []
+        return self.derives_all() and all(one.takes() for one in held) and all(
+            one.is_apart(other) for one, other in combinations(held, 2))
 
     def comes_back_from_cbor(self) -> bool:
         """Whether CBOR keeps its values: those of an enum, or of a struct that holds something, where

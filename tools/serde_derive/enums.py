@@ -33,7 +33,7 @@ class EnumWriter:
 
     def sent(self, v: Variant) -> List[str]:
         """The same as code calls them."""
-        return [f"&{leaf}" for leaf in self.leaves(v)] if v.beside else v.data.places()
+        return [f"&x1.{f.name}" for f in v.beside.data.fields] if v.beside else v.data.places()
 
     def case(self, v: Variant, letter: str = "x") -> str:
         """A variant as a pattern of contracts."""
@@ -153,7 +153,11 @@ class EnumWriter:
         return [ghost("exists", self.each(lambda v, holder, x: holder.exists(x)))] * looks + [
             function(KNOWN, *self.match(known) * looks),
             ghost("comes_back", f"record {{\nof_value = {self.each(self.back)};\n}}"),
-            ghost("keeps", f"record {{\nof_origin = λ o people. {self.each(self.keeps)};\n}}")]
+            ghost("keeps", self.coercion_keeps())]
+
+    def coercion_keeps(self) -> str:
+        """That what is given without coercion is given with it."""
+        return f"record {{\nof_origin = λ o people. {self.each(self.keeps)};\n}}"
 
     def back(self, v: Variant, holder: Holder, values: List[str]) -> str:
         """That a variant comes back."""
@@ -167,9 +171,9 @@ class EnumWriter:
     def kept(self, v: Variant, holder: Holder, values: List[str]) -> str:
         """That a variant comes back from CBOR."""
         law = f"{holder.word}_kept{holder.kept(values, self.sees(holder))}"
-        it = f"(given_as {self.name} {name_term(v.wire)} d it)"
+        it = f"(given_as b {self.name} {name_term(v.wire)} d it)"
         read = elim([self.read(v, w, f"{it}.named", f"{it}.held") for w in self.item.variants])
-        return f"λ real. variant_comes_back _ Self.gives {bracketed(law)}\n(λ v. {OPENED})\n(λ d only. {read})"
+        return f"λ real. variant_comes_back _ Self.gives {bracketed(law)}\n(λ v. {OPENED})\n(λ b d only. {read})"
 
     def read(self, sent: Variant, read: Variant, named: str = "it.0", held: str = "it.1") -> str:
         """That a variant that was read is equal to the one that was sent, by what is known of its

@@ -34,11 +34,11 @@ class Row(NamedTuple):
 BY_PLACE = Row(
     ("tuple_field_first {inner}", "end_script"),
     ("tuple_field_fits {inner}", "tuple_end_fits"),
-    ("part_then {count} {place} {inner}", "no_part"),
+    ("part_then {count} {place} {inner}", "(end_of_parts {count})"),
     ("PartThen {inner}", "NoPart"),
-    ("tuple_field_back {inner} {see} {count} {place}", "parts_end"),
-    ("part_keeps {see} {count} {place} {inner}", "parts_end_keeps"),
-    ("tuple_field_kept {inner} {see} {count} {place}", "parts_end_kept"))
+    ("tuple_field_back {inner} {see} {count} {place}", "(parts_end {count})"),
+    ("part_keeps {see} {count} {place} {inner}", "(parts_end_keeps {count})"),
+    ("tuple_field_kept {inner} {see} {count} {place}", "(parts_end_kept {count})"))
 BY_NAME = Row(
     ("field_first {name} {inner}", "end_script"),
     ("field_fits {inner}", "struct_end_fits"),
@@ -101,7 +101,7 @@ class Holder:
             or_="_or" * bool(f.missing), Or="Or" * bool(f.missing), missing=f.absent())
             for place, (f, inner, see) in enumerate(zip(self.fields[start:], inners, sees or inners))]
         words = ("no_others", "closed") if self.data.closed else ("others_skipped", "skipped")
-        return nest(parts, end.format(known=list_term(self.names_known), left=words[0], end=words[1]))
+        return nest(parts, end.format(known=list_term(self.names_known), left=words[0], end=words[1], count=self.count))
 
     def by_name(self, word: str, row: str) -> str:
         """A row of fields, which is read by name."""
@@ -202,7 +202,7 @@ class Holder:
         if self.many:
             return [f"let mut parts = {start};"] + [
                 f"let {p} = next_part(alloc, &mut parts, {self.count}, {i})?;"
-                for i, p in enumerate(places)] + [f"Ok({make(places)})"]
+                for i, p in enumerate(places)] + [f"finish_parts(alloc, parts, {self.count})?;", f"Ok({make(places)})"]
         if self.of_variant:
             return [f"Ok({make([start])})"]
         return [f"let inside = {start};", f"Ok({make(['inside.deserialize(alloc)?'])})"]

@@ -16,7 +16,7 @@ from .untagged import UntaggedWriter
 from .words import ALIASES, METHODS, SEEN, TAKEN, USES, WORDS, words_of
 
 
-REFUSES_NULL = ghost("refuses_null", "record { of_null = λ e. absurd (cc e) }")
+REFUSES_NULL = ghost("refuses_null", "record { of_null = λ b e. absurd (cc e) }")
 
 
 def impl(item: Item, trait: str, members: List[str], lifetime: str = "") -> str:

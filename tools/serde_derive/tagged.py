@@ -104,8 +104,8 @@ class TaggedWriter(EnumWriter):
 
     def kept(self, v: Variant, holder: Holder, values: List[str]) -> str:
         row = self.unit(v, holder.kept_row(values, self.sees(holder)))
-        return (f"λ real. tagged_kept Self.refusal Self.gives{row}\n(λ fs. {OPENED})\n"
-                f"(λ fs only. {elim([self.read(v, w) for w in self.item.variants])})")
+        return (f"λ real. tagged_kept Self.refusal Self.gives{row}\n(λ b fs. {OPENED})\n"
+                f"(λ b fs only. {elim([self.read(v, w) for w in self.item.variants])})")
 
     def keeps(self, v: Variant, holder: Holder, values: List[str]) -> str:
         row = self.unit(v, holder.keeps_row(self.sees(holder)))

@@ -127,7 +127,7 @@ class Type:
         if self.name != "tuple":
             return self.laws.back.format(*inside, own=snake(self.declared), **self.ordered())
         parts = nest([f"element_back {law} x.{i} real{f'.{i}' * (count > 1)} (λ y. y.{i}) {count} {i}"
-                      for i, law in enumerate(inside)], "parts_end")
+                      for i, law in enumerate(inside)], f"(parts_end {count})")
         return f"(record {{ of_value = λ x real f. tuple_back{parts}\nf (λ y h. {both(count, 'h')}) }})"
 
     def kept(self) -> str:
@@ -136,7 +136,7 @@ class Type:
             null = self.arguments[0].not_null() if self.name == "Option" else ""
             return self.laws.kept.format(*inside, own=snake(self.declared), null=null, **self.ordered())
         parts = nest([f"element_kept {law} x.{i} real{f'.{i}' * (count > 1)} (λ y. y.{i}) {count} {i}"
-                      for i, law in enumerate(inside)], "parts_end_kept")
+                      for i, law in enumerate(inside)], f"(parts_end_kept {count})")
         return f"(record {{ of_value = λ x real. tuple_kept{parts}\n(λ y h. {both(count, 'h')}) }})"
 
     def not_null(self) -> str:
@@ -164,7 +164,7 @@ class Type:
             return self.laws.keeps.format(*inside, own=snake(self.declared), **self.ordered())
         return f"(tuple_keeps {count}" + nest(
             [f"part_keeps (λ y. y.{i}) {count} {i} {law}" for i, law in enumerate(inside)],
-            "parts_end_keeps") + ")"
+            f"(parts_end_keeps {count})") + ")"
 
     def inner_back(self) -> str:
         """The same as an argument: a tuple's law does not tell its type."""
@@ -198,6 +198,21 @@ class Type:
     def takes(self) -> Optional[Tuple[str, str]]:
         """The class of trees that it takes, where it takes one, and the law."""
         return self.arguments[0].takes() if self.name == "Box" else self.record or CLASSES.get(self.name)
+
+    def is_apart(self, other: "Type") -> bool:
+        """Whether no tree is taken by both, where each takes trees of one class."""
+        lengths = {self.length(), other.length()}
+        return self.takes()[0] != other.takes()[0] or (None not in lengths and len(lengths) == 2)
+
+    def length(self) -> Optional[int]:
+        """How many values the trees have that it takes, where all have as many."""
+        return self.arguments[0].length() if self.name == "Box" else len(self.arguments) if self.name == "tuple" else None
+
+    def counts(self) -> str:
+        """The law that it takes trees of so many values."""
+        count = self.length()
+        parts = "".join(f"(part_counts _ {count} {place} " for place in range(count))
+        return f"(tuple_counts {parts}(parts_end_counts {count}){')' * (count + 1)}"
 
     def ordered(self) -> Dict[str, str]:
         """Of a map, the order of its keys: that it is total, and that equal keys are its ties."""

@@ -52,12 +52,12 @@ class UntaggedWriter(EnumWriter):
         return sending(f"Call::Tuple({len(places)})", [("Call::Element", p) for p in places])
 
     def deserialize(self) -> List[str]:
-        refusals = [f"({v.held().member(READ, 'refusal')} s)" for v in self.item.variants]
+        refusals = [f"({v.held().member(READ, 'refusal')} (in_buffer s))" for v in self.item.variants]
         gives = []
         for place, v in enumerate(self.item.variants):
             values = together(self.values(v.data))
             before = "".join(f"IsSome {refusal} ×\n" for refusal in refusals[:place])
-            gives.append(f"{before}IsTakenAs {refusals[place]} ({v.held().member(READ, 'gives')} s) {values}")
+            gives.append(f"{before}IsTakenAs {refusals[place]} ({v.held().member(READ, 'gives')} (in_buffer s)) {values}")
         given = iter(gives)
         refused = nest([f"or_next {refusal}" for refusal in refusals], f"(Some (custom {codes(self.last)}))")
         return [ghost("refusal", f"λ s.{refused}"),
@@ -92,18 +92,22 @@ class UntaggedWriter(EnumWriter):
             term = f"later_taken ({earlier.held().member(READ, 'refusal')} {source})\n({term})"
         return term
 
-    def takes(self, v: Variant) -> str:
-        """The law that a variant's type takes trees of one class."""
-        return v.held().takes()[1]
+    @staticmethod
+    def apart(one: Variant, other: Variant) -> str:
+        """The laws that tell what two variants take apart: by its class, or else by how many values it has."""
+        first, second = one.held(), other.held()
+        if first.takes()[0] != second.takes()[0]:
+            return f"{first.takes()[1]} {second.takes()[1]}"
+        return f"{first.counts()} {second.counts()}"
 
     def back(self, v: Variant, holder: Holder, values: List[str]) -> str:
-        law = self.held(v, holder, values, [f.type.typed_back() for f in v.data.fields], "back", "parts_end", " f")
-        return f"λ real f. such_seen (λ t one. {self.seen_as(v, 'one', 'tree_under f t', 'f t')})\n{law}"
+        law = self.held(v, holder, values, [f.type.typed_back() for f in v.data.fields], "back", "parts_end", " (buffering f)")
+        return f"λ real f. such_seen (λ t one. {self.seen_as(v, 'one', 'in_buffer (tree_under f t)', 'f t')})\n{law}"
 
     def kept(self, v: Variant, holder: Holder, values: List[str]) -> str:
         law = self.held(v, holder, values, [f.type.typed_kept() for f in v.data.fields], "kept", "parts_end_kept", "")
-        seen = self.seen_as(v, "(one fits)", "as_read (form t)", "read_flags (form t)")
-        return f"λ real. such_seen (λ t one fits. {seen})\n{law}"
+        seen = self.seen_as(v, "(one fits true)", "in_buffer (read_in b (form t))", "(flags_in b) (form t)")
+        return f"λ real. such_seen (λ t one fits b. {seen})\n{law}"
 
     def seen_as(self, v: Variant, one: str, subject: str, source: str) -> str:
         """What is read of a source that is read as one of what a variant holds."""
@@ -126,7 +130,7 @@ class UntaggedWriter(EnumWriter):
         values, at, first = self.values(read.data, "y"), self.place(read), self.place(sent)
         pattern = self.case(read, "y") + " λ it. "
         if at < first:
-            return pattern + f"taken_by_one {self.takes(read)} {self.takes(sent)} refl {source} {self.taken('it', read)}.0 {one}.free"
+            return pattern + f"taken_by_one {self.apart(read, sent)} refl {source} {self.taken('it', read)}.0 {one}.free"
         if at > first:
             return pattern + f"not_refused _ {one}.free it.{first}"
         only = f"{one}.only {together(values)} {self.taken('it', read)}.1"
@@ -136,13 +140,6 @@ class UntaggedWriter(EnumWriter):
         """That the variant's type is taken, out of what is given: each earlier one is refused, and then that."""
         return f"{given}.{self.place(v)}" if self.place(v) else given
 
-    def keeps(self, v: Variant, holder: Holder, values: List[str]) -> str:
-        place = self.place(v)
-        taken = self.taken("p.given", v)
-        refused = "".join(
-            f"still_refused {self.takes(w)} {self.takes(v)} refl o people p.given.{i} {taken}.0,\n"
-            for i, w in enumerate(self.item.variants[:place]))
-        given = f"({refused}(there.free, there.given))" if place else "(there.free, there.given)"
-        return (f"λ p.\nlet there = {v.held().typed_keeps()}.of_origin o people {together(values)}\n"
-                f"(record {{ free = {taken}.0; given = {taken}.1 }}) in\n"
-                f"record {{ free = {self.free(v, 'there.free', '(under (flags people true) o)')}; given = {given} }}")
+    def coercion_keeps(self) -> str:
+        """That coercion changes nothing: in a buffer numbers are always coerced."""
+        return "record { of_origin = λ o people x p. record { free = p.free; given = p.given } }"

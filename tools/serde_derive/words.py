@@ -31,11 +31,11 @@ content_ser.specs.Laws.StandardScripts leaf_lawful option_lawful seq_lawful map_
 content_ser.specs.Laws.StandardScripts tuple_lawful element_fits end_fits
 content_ser.specs.Laws.OwnScripts field_fits struct_end_fits tuple_field_fits tuple_end_fits
 content_ser.specs.Laws.OwnScripts {' '.join(f'{s}_lawful' for s in STYLES)}
-content_de.specs.Sources.Origin tree_under
 content_de.specs.Outcomes refusal_of taken IsTaken
 content_de.specs.Requests.Leaves bool_from char_from unit_from text_from
 content_de.specs.Reads.Standard HasContent
-content_de.specs.Reads.Tuples part_then no_part PartThen NoPart
+content_de.specs.Sources.Origin tree_under in_buffer buffering
+content_de.specs.Reads.Tuples part_then end_of_parts PartThen NoPart
 content_de.specs.Accesses.ByName fields_left
 content_de.specs.Accesses.Enum variant_view
 content_de.specs.Reads.Read Reads
@@ -47,7 +47,7 @@ content_de.specs.Reads.Own enum_refusal EnumGives
 content_de.specs.Reads.Own {' '.join(f'{s}_refusal {pascal(s)}Gives' for s in STYLES)}
 serde_content.specs.Literals name
 serde_content.specs.Variants index_among IsIndexAmong variants
-serde_content.specs.RoundTrip ComesBack CoercionKeeps flags under
+serde_content.specs.RoundTrip ComesBack CoercionKeeps
 serde_content.specs.Laws.Leaves heedless_keeps natural_keeps integer_keeps
 serde_content.specs.Laws.Leaves {' '.join(laws.back for laws in LEAVES.values())}
 serde_content.specs.Laws.Holders seen_back seen_keeps option_back option_keeps seq_back seq_keeps
@@ -62,12 +62,12 @@ serde_content.specs.Laws.Flattened flattened_script flattened_first flattened_fi
 serde_content.specs.Laws.Flattened flattened_lawful flattened_refusal FlattenedGives flattened_end_back
 serde_content.specs.Laws.Flattened flattened_named_back flattened_named_or_back flattened_back flattened_keeps
 serde_content.specs.Laws.Tagged tagged_script tagged_back tag_keeps
-serde_content.specs.Laws.Untagged such_seen first_taken later_taken taken_by_one not_refused still_refused
+serde_content.specs.Laws.Untagged such_seen first_taken later_taken taken_by_one not_refused
 serde_content.specs.Laws.Untagged unit_takes bool_takes number_takes char_takes text_takes seq_takes tuple_takes
-serde_content.specs.Laws.Untagged map_takes struct_takes
+serde_content.specs.Laws.Untagged map_takes struct_takes tuple_counts part_counts parts_end_counts
 serde_content.specs.Laws.Variants variant_back other_variant variant_kept
 serde_content.specs.Laws.Variants {' '.join(f'{s}_back {s}_keeps' for s in STYLES[1::2])}
-content_cbor.specs.Decoded as_read read_flags
+content_cbor.specs.Decoded read_in flags_in
 content_cbor.specs.Form form
 content_cbor.specs.Typed.Kept FormComesBack
 content_cbor.specs.Typed.Leaves {' '.join(laws.kept for laws in LEAVES.values() if laws.kept)}
@@ -99,13 +99,13 @@ USES = {
     "content_cbor": "CborRoundTrip NotNull",
     "serde_content": "CowStr Deserializer Error Result RoundTrip",
     "serde_content::de": f"Deserialize FieldsByName {' '.join(sorted(one for _, one in CHOICES))} VariantAccess attempt end_fields"
-                         f" field_or {' '.join(sorted(first for first, _ in CHOICES))} named_field next_part"
+                         f" field_or finish_parts {' '.join(sorted(first for first, _ in CHOICES))} named_field next_part"
                          f" {' '.join(sorted(READERS))} skip_fields tag_field two_parts unknown_variant variant_index",
     "serde_content::ser": f"Call Parts Serialize Serializer {' '.join(sorted(SENDERS))}",
     "std::alloc": "Global",
     "std::collections": "BTreeMap",
 }
-IN_TEXT = {"[]": "[]", "form": "(form t)", "custom": "(custom ", "Some": "(Some (", "None": "≡ None", "true": "people true",
+IN_TEXT = {"[]": "[]", "form": "(form t)", "custom": "(custom ", "Some": "(Some (", "None": "≡ None", "true": "fits true",
            "false": "≡ false", "name": 'name "', "map": "map (λ name.", "variants": "(variants ("}
 METHODS = {"Parts": r"\.(?:with|around)\("}
 TAKEN = {name for names in USES.values() for name in names.split()} | set(HOLDERS) | {"String", "Ok", "Err"}

@@ -2,8 +2,8 @@
 //!
 //! Written by `tools/derive` from `choices.rs`: change that file, and write this one anew.
 
-ghost use Rattle.std.specs.Prelude.{◌≡◌, ◌∷◌, [], ℕ, ℤ, Bool, Option, None, Some, IsSome, true};
-ghost use Rattle.std.specs.Prelude.{codes, string_bytes, refl, ⊤};
+ghost use Rattle.std.specs.Prelude.{◌≡◌, ◌∷◌, [], ℕ, ℤ, Option, None, Some, IsSome, true, codes};
+ghost use Rattle.std.specs.Prelude.{refl, ⊤};
 ghost use Rattle.content_tree.specs.Errors.Cause.{custom};
 ghost use Rattle.content_ser.specs.Scripts.Sends.{Sends};
 ghost use Rattle.content_ser.specs.Scripts.Standard.{tuple_script, element_first};
@@ -11,10 +11,7 @@ ghost use Rattle.content_ser.specs.Scripts.Own.{field_first, end_script};
 ghost use Rattle.content_ser.specs.Laws.StandardScripts.{leaf_lawful, option_lawful, seq_lawful};
 ghost use Rattle.content_ser.specs.Laws.StandardScripts.{tuple_lawful, element_fits, end_fits};
 ghost use Rattle.content_ser.specs.Laws.OwnScripts.{field_fits, struct_end_fits, struct_lawful};
-ghost use Rattle.content_de.specs.Sources.Origin.{tree_under};
-ghost use Rattle.content_de.specs.Outcomes.{refusal_of, taken, IsTaken};
-ghost use Rattle.content_de.specs.Requests.Leaves.{bool_from, text_from};
-ghost use Rattle.content_de.specs.Reads.Standard.{HasContent};
+ghost use Rattle.content_de.specs.Sources.Origin.{tree_under, in_buffer, buffering};
 ghost use Rattle.content_de.specs.Accesses.ByName.{fields_left};
 ghost use Rattle.content_de.specs.Reads.Read.{Reads};
 ghost use Rattle.content_de.specs.Reads.Attempts.{IsTakenAs, or_next};
@@ -24,23 +21,22 @@ ghost use Rattle.content_de.specs.Reads.ByName.{NoOthers};
 ghost use Rattle.content_de.specs.Reads.Tagged.{tag_then, TagThen};
 ghost use Rattle.content_de.specs.Reads.Own.{variant_or, no_variant_of, struct_refusal};
 ghost use Rattle.content_de.specs.Reads.Own.{StructGives};
-ghost use Rattle.serde_content.specs.RoundTrip.{ComesBack, CoercionKeeps, flags, under};
-ghost use Rattle.serde_content.specs.Laws.Leaves.{heedless_keeps, natural_keeps, integer_keeps};
-ghost use Rattle.serde_content.specs.Laws.Leaves.{bool_back, text_back, u8_back, i32_back};
+ghost use Rattle.serde_content.specs.RoundTrip.{ComesBack, CoercionKeeps};
+ghost use Rattle.serde_content.specs.Laws.Leaves.{integer_keeps, bool_back, text_back, u8_back};
+ghost use Rattle.serde_content.specs.Laws.Leaves.{i32_back};
 ghost use Rattle.serde_content.specs.Laws.Holders.{option_back, option_keeps};
 ghost use Rattle.serde_content.specs.Laws.Series.{both_hold, element_back, tuple_back, parts_end};
-ghost use Rattle.serde_content.specs.Laws.Series.{part_keeps, tuple_keeps, parts_end_keeps};
 ghost use Rattle.serde_content.specs.Laws.Records.{struct_keeps};
 ghost use Rattle.serde_content.specs.Laws.ByName.{named_back, named_or_back, skipped_back};
 ghost use Rattle.serde_content.specs.Laws.ByName.{by_name_keeps, named_keeps, named_or_keeps};
 ghost use Rattle.serde_content.specs.Laws.ByName.{skipped_keeps};
 ghost use Rattle.serde_content.specs.Laws.Tagged.{tagged_script, tagged_back, tag_keeps};
 ghost use Rattle.serde_content.specs.Laws.Untagged.{such_seen, first_taken, later_taken};
-ghost use Rattle.serde_content.specs.Laws.Untagged.{taken_by_one, not_refused, still_refused};
-ghost use Rattle.serde_content.specs.Laws.Untagged.{bool_takes, number_takes, text_takes};
-ghost use Rattle.serde_content.specs.Laws.Untagged.{tuple_takes};
+ghost use Rattle.serde_content.specs.Laws.Untagged.{taken_by_one, not_refused, bool_takes};
+ghost use Rattle.serde_content.specs.Laws.Untagged.{number_takes, text_takes, tuple_takes};
+ghost use Rattle.serde_content.specs.Laws.Untagged.{tuple_counts, part_counts, parts_end_counts};
 ghost use Rattle.serde_content.specs.Laws.Variants.{other_variant};
-ghost use Rattle.content_cbor.specs.Decoded.{as_read, read_flags};
+ghost use Rattle.content_cbor.specs.Decoded.{read_in, flags_in};
 ghost use Rattle.content_cbor.specs.Form.{form};
 ghost use Rattle.content_cbor.specs.Typed.Kept.{FormComesBack};
 ghost use Rattle.content_cbor.specs.Typed.Leaves.{bool_kept, text_kept, u8_kept, i32_kept};
@@ -49,19 +45,18 @@ ghost use Rattle.content_cbor.specs.Typed.Holders.{option_kept};
 ghost use Rattle.content_cbor.specs.Typed.Series.{element_kept, tuple_kept, parts_end_kept};
 ghost use Rattle.content_cbor.specs.Typed.ByName.{named_kept, named_or_kept, skipped_kept};
 ghost use Rattle.content_cbor.specs.Typed.Tagged.{tagged_kept};
-ghost use Rattle.std.specs.declared.alloc.Global.{Global};
-ghost use Rattle.std.specs.declared.string.String.{String};
 ghost use Rattle.content_tree.specs.Values.Ranges as kind;
 ghost use Rattle.check_derive.specs.declared.choices.Command.TheVariants as command;
 ghost use Rattle.check_derive.specs.declared.choices.Setting.TheVariants as setting;
 ghost use Rattle.check_derive.specs.declared.choices.Steps.TheVariants as steps;
+ghost use Rattle.check_derive.specs.declared.choices.Color.TheVariants as color;
 
 use content_cbor::{CborRoundTrip, NotNull};
 use serde_content::de::{
     Deserialize, FieldsByName, OneOfFour, OneOfTwo, first_of_four, first_of_two, read_two,
     skip_fields, tag_field, unknown_variant,
 };
-use serde_content::ser::{Call, Serialize, Serializer, send_one, send_three, send_two};
+use serde_content::ser::{Call, Serialize, Serializer, send_four, send_one, send_three, send_two};
 use serde_content::{Deserializer, Result, RoundTrip};
 use std::alloc::Global;
 
@@ -331,8 +326,8 @@ impl<'de> CborRoundTrip<'de> for Command {
       of_value = elim [
         | command.Stop ↦ λ real. tagged_kept Self.refusal Self.gives
             (skipped_kept {Y = Unit {0}} (codes "kind" ∷ []))
-            (λ fs. refl)
-            (λ fs only. elim [
+            (λ b fs. refl)
+            (λ b fs only. elim [
               | command.Stop ↦ λ it. refl
               | command.Move y1 y2 ↦ λ it. other_variant it.0 refl
             ])
@@ -345,8 +340,8 @@ impl<'de> CborRoundTrip<'de> for Command {
             (option_kept (number_not_null kind.i32) i32_kept) in law) x2 real
             (λ (z : ℤ × (Option ℤ)). z.1)
             (skipped_kept (codes "kind" ∷ codes "x" ∷ codes "y" ∷ []))))
-            (λ fs. refl)
-            (λ fs only. elim [
+            (λ b fs. refl)
+            (λ b fs only. elim [
               | command.Stop ↦ λ it. other_variant it.0 refl
               | command.Move y1 y2 ↦ λ it. let same = only (y1, y2) it.1 in both_hold same.0
                   same.1.0
@@ -356,7 +351,7 @@ impl<'de> CborRoundTrip<'de> for Command {
 }
 
 impl<'de> NotNull<'de> for Command {
-    ghost refuses_null = { record { of_null = λ e. absurd (cc e) } };
+    ghost refuses_null = { record { of_null = λ b e. absurd (cc e) } };
 }
 
 /// A setting, told by what it is.
@@ -422,27 +417,28 @@ impl Serialize for Setting {
 
 impl<'de> Deserialize<'de> for Setting {
     ghost refusal = { λ s.
-        (or_next (⟦<bool as Deserialize<'de>>⟧.refusal s)
-        (or_next (⟦<i32 as Deserialize<'de>>⟧.refusal s)
-        (or_next (⟦<(u8, u8) as Deserialize<'de>>⟧.refusal s)
-        (or_next (⟦<String as Deserialize<'de>>⟧.refusal s)
+        (or_next (⟦<bool as Deserialize<'de>>⟧.refusal (in_buffer s))
+        (or_next (⟦<i32 as Deserialize<'de>>⟧.refusal (in_buffer s))
+        (or_next (⟦<(u8, u8) as Deserialize<'de>>⟧.refusal (in_buffer s))
+        (or_next (⟦<String as Deserialize<'de>>⟧.refusal (in_buffer s))
         (Some (custom (codes "data did not match any variant of untagged enum Setting"))))))) };
 
     ghost gives = { λ s. elim [
-      | setting.Flag x1 ↦ IsTakenAs (⟦<bool as Deserialize<'de>>⟧.refusal s)
-          (⟦<bool as Deserialize<'de>>⟧.gives s) x1
-      | setting.Level x1 ↦ IsSome (⟦<bool as Deserialize<'de>>⟧.refusal s) ×
-          IsTakenAs (⟦<i32 as Deserialize<'de>>⟧.refusal s)
-          (⟦<i32 as Deserialize<'de>>⟧.gives s) x1
-      | setting.Range x1 x2 ↦ IsSome (⟦<bool as Deserialize<'de>>⟧.refusal s) ×
-          IsSome (⟦<i32 as Deserialize<'de>>⟧.refusal s) ×
-          IsTakenAs (⟦<(u8, u8) as Deserialize<'de>>⟧.refusal s)
-          (⟦<(u8, u8) as Deserialize<'de>>⟧.gives s) (x1, x2)
-      | setting.Name x1 ↦ IsSome (⟦<bool as Deserialize<'de>>⟧.refusal s) ×
-          IsSome (⟦<i32 as Deserialize<'de>>⟧.refusal s) ×
-          IsSome (⟦<(u8, u8) as Deserialize<'de>>⟧.refusal s) ×
-          IsTakenAs (⟦<String as Deserialize<'de>>⟧.refusal s)
-          (⟦<String as Deserialize<'de>>⟧.gives s) x1
+      | setting.Flag x1 ↦ IsTakenAs (⟦<bool as Deserialize<'de>>⟧.refusal (in_buffer s))
+          (⟦<bool as Deserialize<'de>>⟧.gives (in_buffer s)) x1
+      | setting.Level x1 ↦ IsSome (⟦<bool as Deserialize<'de>>⟧.refusal (in_buffer s)) ×
+          IsTakenAs (⟦<i32 as Deserialize<'de>>⟧.refusal (in_buffer s))
+          (⟦<i32 as Deserialize<'de>>⟧.gives (in_buffer s)) x1
+      | setting.Range x1 x2 ↦ IsSome (⟦<bool as Deserialize<'de>>⟧.refusal (in_buffer s))
+          ×
+          IsSome (⟦<i32 as Deserialize<'de>>⟧.refusal (in_buffer s)) ×
+          IsTakenAs (⟦<(u8, u8) as Deserialize<'de>>⟧.refusal (in_buffer s))
+          (⟦<(u8, u8) as Deserialize<'de>>⟧.gives (in_buffer s)) (x1, x2)
+      | setting.Name x1 ↦ IsSome (⟦<bool as Deserialize<'de>>⟧.refusal (in_buffer s)) ×
+          IsSome (⟦<i32 as Deserialize<'de>>⟧.refusal (in_buffer s)) ×
+          IsSome (⟦<(u8, u8) as Deserialize<'de>>⟧.refusal (in_buffer s)) ×
+          IsTakenAs (⟦<String as Deserialize<'de>>⟧.refusal (in_buffer s))
+          (⟦<String as Deserialize<'de>>⟧.gives (in_buffer s)) x1
     ] };
 
     fn deserialize<'n: 'de>(alloc: Global, from: Deserializer<'de, 'n>) -> Result<Setting> {
@@ -473,9 +469,10 @@ impl<'de> RoundTrip<'de> for Setting {
             | setting.Name y1 ↦ λ it. not_refused _ one.free it.0
           ];
         })
-            (bool_back.of_value x1 tt f)
+            (bool_back.of_value x1 tt (buffering f))
         | setting.Level x1 ↦ λ real f. such_seen (λ t one. record {
-          free = later_taken (⟦<bool as Deserialize<'de>>⟧.refusal (tree_under f t))
+          free = later_taken (⟦<bool as Deserialize<'de>>⟧.refusal
+              (in_buffer (tree_under f t)))
               (first_taken _ _ one.free);
           only = elim [
             | setting.Flag y1 ↦ λ it. taken_by_one bool_takes (number_takes kind.i32) refl f t
@@ -485,10 +482,11 @@ impl<'de> RoundTrip<'de> for Setting {
             | setting.Name y1 ↦ λ it. not_refused _ one.free it.1
           ];
         })
-            (i32_back.of_value x1 tt f)
+            (i32_back.of_value x1 tt (buffering f))
         | setting.Range x1 x2 ↦ λ real f. such_seen (λ t one. record {
-          free = later_taken (⟦<bool as Deserialize<'de>>⟧.refusal (tree_under f t))
-              (later_taken (⟦<i32 as Deserialize<'de>>⟧.refusal (tree_under f t))
+          free = later_taken (⟦<bool as Deserialize<'de>>⟧.refusal
+              (in_buffer (tree_under f t)))
+              (later_taken (⟦<i32 as Deserialize<'de>>⟧.refusal (in_buffer (tree_under f t)))
               (first_taken _ _ one.free));
           only = elim [
             | setting.Flag y1 ↦ λ it. taken_by_one bool_takes tuple_takes refl f t it.0 one.free
@@ -503,11 +501,12 @@ impl<'de> RoundTrip<'de> for Setting {
             (element_back u8_back x1 tt (λ (z : ℕ × ℕ). z.0) 2 0
             (element_back u8_back x2 tt (λ (z : ℕ × ℕ). z.1) 2 1
             parts_end))
-            f (λ y h. h))
+            (buffering f) (λ y h. h))
         | setting.Name x1 ↦ λ real f. such_seen (λ t one. record {
-          free = later_taken (⟦<bool as Deserialize<'de>>⟧.refusal (tree_under f t))
-              (later_taken (⟦<i32 as Deserialize<'de>>⟧.refusal (tree_under f t))
-              (later_taken (⟦<(u8, u8) as Deserialize<'de>>⟧.refusal (tree_under f t))
+          free = later_taken (⟦<bool as Deserialize<'de>>⟧.refusal
+              (in_buffer (tree_under f t)))
+              (later_taken (⟦<i32 as Deserialize<'de>>⟧.refusal (in_buffer (tree_under f t)))
+              (later_taken (⟦<(u8, u8) as Deserialize<'de>>⟧.refusal (in_buffer (tree_under f t)))
               (first_taken _ _ one.free)));
           only = elim [
             | setting.Flag y1 ↦ λ it. taken_by_one bool_takes text_takes refl f t it.0 one.free
@@ -518,110 +517,55 @@ impl<'de> RoundTrip<'de> for Setting {
             | setting.Name y1 ↦ λ it. one.only y1 it.3.1
           ];
         })
-            (text_back.of_value x1 tt f)
+            (text_back.of_value x1 tt (buffering f))
       ];
     } };
 
     ghost keeps = { record {
-      of_origin = λ o people. elim [
-        | setting.Flag x1 ↦ λ p.
-            let there = (heedless_keeps (λ o. refusal_of (bool_from o))
-            (λ o (x : Bool). bool_from o ≡ taken x)).of_origin o people x1
-            (record { free = p.given.0; given = p.given.1 }) in
-            record { free = first_taken _ _ there.free; given = (there.free, there.given) }
-        | setting.Level x1 ↦ λ p.
-            let there = (integer_keeps kind.i32).of_origin o people x1
-            (record { free = p.given.1.0; given = p.given.1.1 }) in
-            record {
-              free = later_taken (⟦<bool as Deserialize<'de>>⟧.refusal
-                  (under (flags people true) o))
-                  (first_taken _ _ there.free);
-              given = (
-                still_refused bool_takes (number_takes kind.i32) refl o people p.given.0
-                    p.given.1.0,
-                (there.free, there.given),
-              );
-            }
-        | setting.Range x1 x2 ↦ λ p.
-            let there = (let law : CoercionKeeps (⟦<(u8, u8) as Deserialize<'de>>⟧.refusal)
-            (⟦<(u8, u8) as Deserialize<'de>>⟧.gives) = (tuple_keeps 2
-            (part_keeps (λ y. y.0) 2 0 (natural_keeps kind.u8)
-            (part_keeps (λ y. y.1) 2 1 (natural_keeps kind.u8)
-            parts_end_keeps))) in law).of_origin o people (x1, x2)
-            (record { free = p.given.2.0; given = p.given.2.1 }) in
-            record {
-              free = later_taken (⟦<bool as Deserialize<'de>>⟧.refusal
-                  (under (flags people true) o))
-                  (later_taken (⟦<i32 as Deserialize<'de>>⟧.refusal (under (flags people true) o))
-                  (first_taken _ _ there.free));
-              given = (
-                still_refused bool_takes tuple_takes refl o people p.given.0 p.given.2.0,
-                still_refused (number_takes kind.i32) tuple_takes refl o people p.given.1
-                    p.given.2.0,
-                (there.free, there.given),
-              );
-            }
-        | setting.Name x1 ↦ λ p.
-            let there = (heedless_keeps (λ o. refusal_of (text_from o))
-            (λ o (x : String Global). IsTaken (text_from o)
-            (HasContent (string_bytes x)))).of_origin o people x1
-            (record { free = p.given.3.0; given = p.given.3.1 }) in
-            record {
-              free = later_taken (⟦<bool as Deserialize<'de>>⟧.refusal
-                  (under (flags people true) o))
-                  (later_taken (⟦<i32 as Deserialize<'de>>⟧.refusal (under (flags people true) o))
-                  (later_taken (⟦<(u8, u8) as Deserialize<'de>>⟧.refusal
-                  (under (flags people true) o))
-                  (first_taken _ _ there.free)));
-              given = (
-                still_refused bool_takes text_takes refl o people p.given.0 p.given.3.0,
-                still_refused (number_takes kind.i32) text_takes refl o people p.given.1
-                    p.given.3.0,
-                still_refused tuple_takes text_takes refl o people p.given.2 p.given.3.0,
-                (there.free, there.given),
-              );
-            }
-      ];
+      of_origin = λ o people x p. record
+          { free = p.free; given = p.given };
     } };
 }
 
 impl<'de> CborRoundTrip<'de> for Setting {
     ghost kept = { record {
       of_value = elim [
-        | setting.Flag x1 ↦ λ real. such_seen (λ t one fits. record {
-          free = first_taken _ _ (one fits).free;
+        | setting.Flag x1 ↦ λ real. such_seen (λ t one fits b. record {
+          free = first_taken _ _ (one fits true).free;
           only = elim [
-            | setting.Flag y1 ↦ λ it. (one fits).only y1 it.1
-            | setting.Level y1 ↦ λ it. not_refused _ (one fits).free it.0
-            | setting.Range y1 y2 ↦ λ it. not_refused _ (one fits).free it.0
-            | setting.Name y1 ↦ λ it. not_refused _ (one fits).free it.0
+            | setting.Flag y1 ↦ λ it. (one fits true).only y1 it.1
+            | setting.Level y1 ↦ λ it. not_refused _ (one fits true).free it.0
+            | setting.Range y1 y2 ↦ λ it. not_refused _ (one fits true).free it.0
+            | setting.Name y1 ↦ λ it. not_refused _ (one fits true).free it.0
           ];
         })
             (bool_kept.of_value x1 tt)
-        | setting.Level x1 ↦ λ real. such_seen (λ t one fits. record {
-          free = later_taken (⟦<bool as Deserialize<'de>>⟧.refusal (as_read (form t)))
-              (first_taken _ _ (one fits).free);
+        | setting.Level x1 ↦ λ real. such_seen (λ t one fits b. record {
+          free = later_taken (⟦<bool as Deserialize<'de>>⟧.refusal
+              (in_buffer (read_in b (form t))))
+              (first_taken _ _ (one fits true).free);
           only = elim [
             | setting.Flag y1 ↦ λ it. taken_by_one bool_takes (number_takes kind.i32) refl
-                read_flags (form t) it.0 (one fits).free
-            | setting.Level y1 ↦ λ it. (one fits).only y1 it.1.1
-            | setting.Range y1 y2 ↦ λ it. not_refused _ (one fits).free it.1
-            | setting.Name y1 ↦ λ it. not_refused _ (one fits).free it.1
+                (flags_in b) (form t) it.0 (one fits true).free
+            | setting.Level y1 ↦ λ it. (one fits true).only y1 it.1.1
+            | setting.Range y1 y2 ↦ λ it. not_refused _ (one fits true).free it.1
+            | setting.Name y1 ↦ λ it. not_refused _ (one fits true).free it.1
           ];
         })
             (i32_kept.of_value x1 tt)
-        | setting.Range x1 x2 ↦ λ real. such_seen (λ t one fits. record {
-          free = later_taken (⟦<bool as Deserialize<'de>>⟧.refusal (as_read (form t)))
-              (later_taken (⟦<i32 as Deserialize<'de>>⟧.refusal (as_read (form t)))
-              (first_taken _ _ (one fits).free));
+        | setting.Range x1 x2 ↦ λ real. such_seen (λ t one fits b. record {
+          free = later_taken (⟦<bool as Deserialize<'de>>⟧.refusal
+              (in_buffer (read_in b (form t))))
+              (later_taken (⟦<i32 as Deserialize<'de>>⟧.refusal (in_buffer (read_in b (form t))))
+              (first_taken _ _ (one fits true).free));
           only = elim [
-            | setting.Flag y1 ↦ λ it. taken_by_one bool_takes tuple_takes refl read_flags
-                (form t) it.0 (one fits).free
+            | setting.Flag y1 ↦ λ it. taken_by_one bool_takes tuple_takes refl (flags_in b)
+                (form t) it.0 (one fits true).free
             | setting.Level y1 ↦ λ it. taken_by_one (number_takes kind.i32) tuple_takes refl
-                read_flags (form t) it.1.0 (one fits).free
-            | setting.Range y1 y2 ↦ λ it. let same = (one fits).only (y1, y2) it.2.1 in
+                (flags_in b) (form t) it.1.0 (one fits true).free
+            | setting.Range y1 y2 ↦ λ it. let same = (one fits true).only (y1, y2) it.2.1 in
                 both_hold same.0 same.1.0
-            | setting.Name y1 ↦ λ it. not_refused _ (one fits).free it.2
+            | setting.Name y1 ↦ λ it. not_refused _ (one fits true).free it.2
           ];
         })
             (tuple_kept
@@ -629,19 +573,21 @@ impl<'de> CborRoundTrip<'de> for Setting {
             (element_kept u8_kept x2 tt (λ (z : ℕ × ℕ). z.1) 2 1
             parts_end_kept))
             (λ y h. h))
-        | setting.Name x1 ↦ λ real. such_seen (λ t one fits. record {
-          free = later_taken (⟦<bool as Deserialize<'de>>⟧.refusal (as_read (form t)))
-              (later_taken (⟦<i32 as Deserialize<'de>>⟧.refusal (as_read (form t)))
-              (later_taken (⟦<(u8, u8) as Deserialize<'de>>⟧.refusal (as_read (form t)))
-              (first_taken _ _ (one fits).free)));
+        | setting.Name x1 ↦ λ real. such_seen (λ t one fits b. record {
+          free = later_taken (⟦<bool as Deserialize<'de>>⟧.refusal
+              (in_buffer (read_in b (form t))))
+              (later_taken (⟦<i32 as Deserialize<'de>>⟧.refusal (in_buffer (read_in b (form t))))
+              (later_taken (⟦<(u8, u8) as Deserialize<'de>>⟧.refusal
+              (in_buffer (read_in b (form t))))
+              (first_taken _ _ (one fits true).free)));
           only = elim [
-            | setting.Flag y1 ↦ λ it. taken_by_one bool_takes text_takes refl read_flags
-                (form t) it.0 (one fits).free
+            | setting.Flag y1 ↦ λ it. taken_by_one bool_takes text_takes refl (flags_in b)
+                (form t) it.0 (one fits true).free
             | setting.Level y1 ↦ λ it. taken_by_one (number_takes kind.i32) text_takes refl
-                read_flags (form t) it.1.0 (one fits).free
-            | setting.Range y1 y2 ↦ λ it. taken_by_one tuple_takes text_takes refl read_flags
-                (form t) it.2.0 (one fits).free
-            | setting.Name y1 ↦ λ it. (one fits).only y1 it.3.1
+                (flags_in b) (form t) it.1.0 (one fits true).free
+            | setting.Range y1 y2 ↦ λ it. taken_by_one tuple_takes text_takes refl (flags_in b)
+                (form t) it.2.0 (one fits true).free
+            | setting.Name y1 ↦ λ it. (one fits true).only y1 it.3.1
           ];
         })
             (text_kept.of_value x1 tt)
@@ -650,7 +596,7 @@ impl<'de> CborRoundTrip<'de> for Setting {
 }
 
 impl<'de> NotNull<'de> for Setting {
-    ghost refuses_null = { record { of_null = λ e. absurd (cc e) } };
+    ghost refuses_null = { record { of_null = λ b e. absurd (cc e) } };
 }
 
 /// Steps, told by how many they are: two are read as a pair, since that is tried first.
@@ -699,16 +645,17 @@ impl Serialize for Steps {
 
 impl<'de> Deserialize<'de> for Steps {
     ghost refusal = { λ s.
-        (or_next (⟦<(u8, u8) as Deserialize<'de>>⟧.refusal s)
-        (or_next (⟦<Vec<u8> as Deserialize<'de>>⟧.refusal s)
+        (or_next (⟦<(u8, u8) as Deserialize<'de>>⟧.refusal (in_buffer s))
+        (or_next (⟦<Vec<u8> as Deserialize<'de>>⟧.refusal (in_buffer s))
         (Some (custom (codes "data did not match any variant of untagged enum Steps"))))) };
 
     ghost gives = { λ s. elim [
-      | steps.Pair x1 x2 ↦ IsTakenAs (⟦<(u8, u8) as Deserialize<'de>>⟧.refusal s)
-          (⟦<(u8, u8) as Deserialize<'de>>⟧.gives s) (x1, x2)
-      | steps.List x1 ↦ IsSome (⟦<(u8, u8) as Deserialize<'de>>⟧.refusal s) ×
-          IsTakenAs (⟦<Vec<u8> as Deserialize<'de>>⟧.refusal s)
-          (⟦<Vec<u8> as Deserialize<'de>>⟧.gives s) x1
+      | steps.Pair x1 x2 ↦ IsTakenAs
+          (⟦<(u8, u8) as Deserialize<'de>>⟧.refusal (in_buffer s))
+          (⟦<(u8, u8) as Deserialize<'de>>⟧.gives (in_buffer s)) (x1, x2)
+      | steps.List x1 ↦ IsSome (⟦<(u8, u8) as Deserialize<'de>>⟧.refusal (in_buffer s)) ×
+          IsTakenAs (⟦<Vec<u8> as Deserialize<'de>>⟧.refusal (in_buffer s))
+          (⟦<Vec<u8> as Deserialize<'de>>⟧.gives (in_buffer s)) x1
     ] };
 
     fn deserialize<'n: 'de>(alloc: Global, from: Deserializer<'de, 'n>) -> Result<Steps> {
@@ -721,4 +668,198 @@ impl<'de> Deserialize<'de> for Steps {
             OneOfTwo::Second(x1) => Ok(Steps::List(x1)),
         }
     }
+}
+
+/// A colour, told by how many numbers it has.
+#[derive(Drop, PartialEq, Eq)]
+pub enum Color {
+    /// Red, green and blue.
+    Rgb(u8, u8, u8),
+    /// With how opaque it is.
+    Rgba(u8, u8, u8, u8),
+}
+
+impl Serialize for Color {
+    ghost script = { elim [
+      | color.Rgb x1 x2 x3 ↦ tuple_script 3
+          (element_first (⟦<u8 as Serialize>⟧.script x1)
+          (element_first (⟦<u8 as Serialize>⟧.script x2)
+          (element_first (⟦<u8 as Serialize>⟧.script x3)
+          end_script)))
+      | color.Rgba x1 x2 x3 x4 ↦ tuple_script 4
+          (element_first (⟦<u8 as Serialize>⟧.script x1)
+          (element_first (⟦<u8 as Serialize>⟧.script x2)
+          (element_first (⟦<u8 as Serialize>⟧.script x3)
+          (element_first (⟦<u8 as Serialize>⟧.script x4)
+          end_script))))
+    ] };
+
+    ghost lawful = { elim [
+      | color.Rgb x1 x2 x3 ↦ λ readable. tuple_lawful
+          (element_fits (leaf_lawful refl)
+          (element_fits (leaf_lawful refl)
+          (element_fits (leaf_lawful refl)
+          end_fits)))
+      | color.Rgba x1 x2 x3 x4 ↦ λ readable. tuple_lawful
+          (element_fits (leaf_lawful refl)
+          (element_fits (leaf_lawful refl)
+          (element_fits (leaf_lawful refl)
+          (element_fits (leaf_lawful refl)
+          end_fits))))
+    ] };
+
+    fn serialize<S: Serializer>(&self, alloc: Global, serializer: &mut S) -> Result<()> {
+        match self {
+            Color::Rgb(x1, x2, x3) => {
+                send_three(
+                    alloc,
+                    serializer,
+                    Call::Tuple(3),
+                    Call::Element,
+                    x1,
+                    Call::Element,
+                    x2,
+                    Call::Element,
+                    x3,
+                )
+            }
+            Color::Rgba(x1, x2, x3, x4) => {
+                send_four(
+                    alloc,
+                    serializer,
+                    Call::Tuple(4),
+                    Call::Element,
+                    x1,
+                    Call::Element,
+                    x2,
+                    Call::Element,
+                    x3,
+                    Call::Element,
+                    x4,
+                )
+            }
+        }
+    }
+}
+
+impl<'de> Deserialize<'de> for Color {
+    ghost refusal = { λ s.
+        (or_next (⟦<(u8, u8, u8) as Deserialize<'de>>⟧.refusal (in_buffer s))
+        (or_next (⟦<(u8, u8, u8, u8) as Deserialize<'de>>⟧.refusal (in_buffer s))
+        (Some (custom (codes "data did not match any variant of untagged enum Color"))))) };
+
+    ghost gives = { λ s. elim [
+      | color.Rgb x1 x2 x3 ↦ IsTakenAs
+          (⟦<(u8, u8, u8) as Deserialize<'de>>⟧.refusal (in_buffer s))
+          (⟦<(u8, u8, u8) as Deserialize<'de>>⟧.gives (in_buffer s)) (x1, x2, x3)
+      | color.Rgba x1 x2 x3 x4 ↦ IsSome
+          (⟦<(u8, u8, u8) as Deserialize<'de>>⟧.refusal (in_buffer s)) ×
+          IsTakenAs (⟦<(u8, u8, u8, u8) as Deserialize<'de>>⟧.refusal (in_buffer s))
+          (⟦<(u8, u8, u8, u8) as Deserialize<'de>>⟧.gives (in_buffer s)) (x1, x2, x3, x4)
+    ] };
+
+    fn deserialize<'n: 'de>(alloc: Global, from: Deserializer<'de, 'n>) -> Result<Color> {
+        match first_of_two::<(u8, u8, u8), (u8, u8, u8, u8)>(
+            alloc,
+            from,
+            "data did not match any variant of untagged enum Color",
+        )? {
+            OneOfTwo::First((x1, x2, x3)) => Ok(Color::Rgb(x1, x2, x3)),
+            OneOfTwo::Second((x1, x2, x3, x4)) => Ok(Color::Rgba(x1, x2, x3, x4)),
+        }
+    }
+}
+
+impl<'de> RoundTrip<'de> for Color {
+    fn known(&self) {}
+
+    ghost comes_back = { record {
+      of_value = elim [
+        | color.Rgb x1 x2 x3 ↦ λ real f. such_seen (λ t one. record {
+          free = first_taken _ _ one.free;
+          only = elim [
+            | color.Rgb y1 y2 y3 ↦ λ it. let same = one.only (y1, y2, y3) it.1 in both_hold
+                same.0 (both_hold same.1.0 same.1.1.0)
+            | color.Rgba y1 y2 y3 y4 ↦ λ it. not_refused _ one.free it.0
+          ];
+        })
+            (tuple_back
+            (element_back u8_back x1 tt (λ (z : ℕ × ℕ × ℕ). z.0) 3 0
+            (element_back u8_back x2 tt (λ (z : ℕ × ℕ × ℕ). z.1) 3 1
+            (element_back u8_back x3 tt (λ (z : ℕ × ℕ × ℕ). z.2) 3 2
+            parts_end)))
+            (buffering f) (λ y h. h))
+        | color.Rgba x1 x2 x3 x4 ↦ λ real f. such_seen (λ t one. record {
+          free = later_taken (⟦<(u8, u8, u8) as Deserialize<'de>>⟧.refusal
+              (in_buffer (tree_under f t)))
+              (first_taken _ _ one.free);
+          only = elim [
+            | color.Rgb y1 y2 y3 ↦ λ it. taken_by_one
+                (tuple_counts (part_counts (part_counts (part_counts parts_end_counts))))
+                (tuple_counts (part_counts (part_counts
+                (part_counts (part_counts parts_end_counts))))) refl f t it.0 one.free
+            | color.Rgba y1 y2 y3 y4 ↦ λ it. let same = one.only (y1, y2, y3, y4) it.1.1 in
+                both_hold same.0 (both_hold same.1.0 (both_hold same.1.1.0 same.1.1.1.0))
+          ];
+        })
+            (tuple_back
+            (element_back u8_back x1 tt (λ (z : ℕ × ℕ × ℕ × ℕ). z.0) 4 0
+            (element_back u8_back x2 tt (λ (z : ℕ × ℕ × ℕ × ℕ). z.1) 4 1
+            (element_back u8_back x3 tt (λ (z : ℕ × ℕ × ℕ × ℕ). z.2) 4 2
+            (element_back u8_back x4 tt (λ (z : ℕ × ℕ × ℕ × ℕ). z.3) 4 3
+            parts_end))))
+            (buffering f) (λ y h. h))
+      ];
+    } };
+
+    ghost keeps = { record {
+      of_origin = λ o people x p. record
+          { free = p.free; given = p.given };
+    } };
+}
+
+impl<'de> CborRoundTrip<'de> for Color {
+    ghost kept = { record {
+      of_value = elim [
+        | color.Rgb x1 x2 x3 ↦ λ real. such_seen (λ t one fits b. record {
+          free = first_taken _ _ (one fits true).free;
+          only = elim [
+            | color.Rgb y1 y2 y3 ↦ λ it. let same = (one fits true).only (y1, y2, y3) it.1 in
+                both_hold same.0 (both_hold same.1.0 same.1.1.0)
+            | color.Rgba y1 y2 y3 y4 ↦ λ it. not_refused _ (one fits true).free it.0
+          ];
+        })
+            (tuple_kept
+            (element_kept u8_kept x1 tt (λ (z : ℕ × ℕ × ℕ). z.0) 3 0
+            (element_kept u8_kept x2 tt (λ (z : ℕ × ℕ × ℕ). z.1) 3 1
+            (element_kept u8_kept x3 tt (λ (z : ℕ × ℕ × ℕ). z.2) 3 2
+            parts_end_kept)))
+            (λ y h. h))
+        | color.Rgba x1 x2 x3 x4 ↦ λ real. such_seen (λ t one fits b. record {
+          free = later_taken (⟦<(u8, u8, u8) as Deserialize<'de>>⟧.refusal
+              (in_buffer (read_in b (form t))))
+              (first_taken _ _ (one fits true).free);
+          only = elim [
+            | color.Rgb y1 y2 y3 ↦ λ it. taken_by_one
+                (tuple_counts (part_counts (part_counts (part_counts parts_end_counts))))
+                (tuple_counts (part_counts (part_counts
+                (part_counts (part_counts parts_end_counts))))) refl (flags_in b) (form t) it.0
+                (one fits true).free
+            | color.Rgba y1 y2 y3 y4 ↦ λ it. let same = (one fits true).only (y1, y2, y3, y4)
+                it.1.1 in both_hold same.0 (both_hold same.1.0 (both_hold same.1.1.0 same.1.1.1.0))
+          ];
+        })
+            (tuple_kept
+            (element_kept u8_kept x1 tt (λ (z : ℕ × ℕ × ℕ × ℕ). z.0) 4 0
+            (element_kept u8_kept x2 tt (λ (z : ℕ × ℕ × ℕ × ℕ). z.1) 4 1
+            (element_kept u8_kept x3 tt (λ (z : ℕ × ℕ × ℕ × ℕ). z.2) 4 2
+            (element_kept u8_kept x4 tt (λ (z : ℕ × ℕ × ℕ × ℕ). z.3) 4 3
+            parts_end_kept))))
+            (λ y h. h))
+      ];
+    } };
+}
+
+impl<'de> NotNull<'de> for Color {
+    ghost refuses_null = { record { of_null = λ b e. absurd (cc e) } };
 }

@@ -184,7 +184,7 @@ impl<'de> CborRoundTrip<'de> for Amount {
 }
 
 impl<'de> NotNull<'de> for Amount {
-    ghost refuses_null = { record { of_null = λ e. absurd (cc e) } };
+    ghost refuses_null = { record { of_null = λ b e. absurd (cc e) } };
 }
 
 /// A line of a bill.
@@ -395,7 +395,7 @@ impl<'de> CborRoundTrip<'de> for Line {
 }
 
 impl<'de> NotNull<'de> for Line {
-    ghost refuses_null = { record { of_null = λ e. absurd (cc e) } };
+    ghost refuses_null = { record { of_null = λ b e. absurd (cc e) } };
 }
 
 /// What becomes of a bill, told by the field `op`.
@@ -608,8 +608,8 @@ impl<'de> CborRoundTrip<'de> for Change {
             = (option_kept text_not_null text_kept) in law) x1.unit real
             (λ (z : ℤ × (Option (String Global))). z.1)
             (skipped_kept (codes "op" ∷ codes "count" ∷ codes "unit" ∷ []))))
-            (λ fs. refl)
-            (λ fs only. elim [
+            (λ b fs. refl)
+            (λ b fs only. elim [
               | change.Add y1 ↦ λ it. let same = only (y1.count, y1.unit) it.1 in both_hold same.0
                   same.1.0
             ])
@@ -618,5 +618,5 @@ impl<'de> CborRoundTrip<'de> for Change {
 }
 
 impl<'de> NotNull<'de> for Change {
-    ghost refuses_null = { record { of_null = λ e. absurd (cc e) } };
+    ghost refuses_null = { record { of_null = λ b e. absurd (cc e) } };
 }

@@ -15,7 +15,7 @@ ghost use Rattle.content_ser.specs.Laws.OwnScripts.{struct_lawful};
 ghost use Rattle.content_de.specs.Outcomes.{refusal_of, taken, IsTaken};
 ghost use Rattle.content_de.specs.Requests.Leaves.{bool_from, text_from};
 ghost use Rattle.content_de.specs.Reads.Standard.{HasContent};
-ghost use Rattle.content_de.specs.Reads.Tuples.{part_then, no_part, PartThen, NoPart};
+ghost use Rattle.content_de.specs.Reads.Tuples.{part_then, end_of_parts, PartThen, NoPart};
 ghost use Rattle.content_de.specs.Accesses.ByName.{fields_left};
 ghost use Rattle.content_de.specs.Reads.Read.{Reads};
 ghost use Rattle.content_de.specs.Reads.ByName.{read_by_name, named_then, others_skipped};
@@ -150,7 +150,7 @@ impl<'de> CborRoundTrip<'de> for Code {
 }
 
 impl<'de> NotNull<'de> for Code {
-    ghost refuses_null = { record { of_null = λ e. absurd (cc e) } };
+    ghost refuses_null = { record { of_null = λ b e. absurd (cc e) } };
 }
 
 /// Two values by place, one of a type of another module.
@@ -188,7 +188,7 @@ impl<'de> Deserialize<'de> for Stop {
     ghost refusal = { tuple_struct_refusal (codes "Stop")
         (part_then 2 0 (⟦<i32 as Deserialize<'de>>⟧.refusal)
         (part_then 2 1 (⟦<Option<Place> as Deserialize<'de>>⟧.refusal)
-        no_part)) };
+        (end_of_parts 2))) };
 
     ghost gives = { λ s p. TupleStructGives (codes "Stop")
         (PartThen (⟦<i32 as Deserialize<'de>>⟧.gives) p.0
@@ -251,7 +251,7 @@ impl<'de> CborRoundTrip<'de> for Stop {
 }
 
 impl<'de> NotNull<'de> for Stop {
-    ghost refuses_null = { record { of_null = λ e. absurd (cc e) } };
+    ghost refuses_null = { record { of_null = λ b e. absurd (cc e) } };
 }
 
 /// A map with keys of one's own.
@@ -334,7 +334,7 @@ impl<'de> CborRoundTrip<'de> for Ledger {
 }
 
 impl<'de> NotNull<'de> for Ledger {
-    ghost refuses_null = { record { of_null = λ e. absurd (cc e) } };
+    ghost refuses_null = { record { of_null = λ b e. absurd (cc e) } };
 }
 
 /// A message, told by the field `t`, what it holds in the field `c`.
@@ -524,16 +524,16 @@ impl<'de> CborRoundTrip<'de> for Message {
       of_value = elim [
         | message.Ping ↦ λ real. tagged_kept Self.refusal Self.gives
             (skipped_kept {Y = Unit {0}} (codes "t" ∷ []))
-            (λ fs. refl)
-            (λ fs only. elim [
+            (λ b fs. refl)
+            (λ b fs only. elim [
               | message.Ping ↦ λ it. refl
               | message.Text y1 ↦ λ it. other_variant it.0 refl
             ])
         | message.Text x1 ↦ λ real. tagged_kept Self.refusal Self.gives
             (named_kept (codes "c") text_kept x1 tt (λ (z : (String Global)). z)
             (skipped_kept (codes "t" ∷ codes "c" ∷ [])))
-            (λ fs. refl)
-            (λ fs only. elim [
+            (λ b fs. refl)
+            (λ b fs only. elim [
               | message.Ping ↦ λ it. other_variant it.0 refl
               | message.Text y1 ↦ λ it. let same = only y1 it.1 in same.0
             ])
@@ -542,5 +542,5 @@ impl<'de> CborRoundTrip<'de> for Message {
 }
 
 impl<'de> NotNull<'de> for Message {
-    ghost refuses_null = { record { of_null = λ e. absurd (cc e) } };
+    ghost refuses_null = { record { of_null = λ b e. absurd (cc e) } };
 }

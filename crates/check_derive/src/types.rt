@@ -20,7 +20,7 @@ ghost use Rattle.content_ser.specs.Laws.OwnScripts.{struct_lawful, struct_varian
 ghost use Rattle.content_de.specs.Outcomes.{refusal_of, IsTaken};
 ghost use Rattle.content_de.specs.Requests.Leaves.{text_from};
 ghost use Rattle.content_de.specs.Reads.Standard.{HasContent};
-ghost use Rattle.content_de.specs.Reads.Tuples.{part_then, no_part, PartThen, NoPart};
+ghost use Rattle.content_de.specs.Reads.Tuples.{part_then, end_of_parts, PartThen, NoPart};
 ghost use Rattle.content_de.specs.Accesses.ByName.{fields_left};
 ghost use Rattle.content_de.specs.Reads.Read.{Reads};
 ghost use Rattle.content_de.specs.Reads.ByName.{read_by_name, named_then, named_or_then};
@@ -208,7 +208,7 @@ impl<'de> CborRoundTrip<'de> for Place {
 }
 
 impl<'de> NotNull<'de> for Place {
-    ghost refuses_null = { record { of_null = λ e. absurd (cc e) } };
+    ghost refuses_null = { record { of_null = λ b e. absurd (cc e) } };
 }
 
 /// What becomes of an order.
@@ -334,7 +334,7 @@ impl<'de> Deserialize<'de> for Step {
         (variant_or (codes "moved-by") (tuple_variant_refusal
         (part_then 2 0 (⟦<i32 as Deserialize<'de>>⟧.refusal)
         (part_then 2 1 (⟦<i32 as Deserialize<'de>>⟧.refusal)
-        no_part)))
+        (end_of_parts 2))))
         (variant_or (codes "left") (struct_variant_refusal (read_by_name
         (named_then (codes "with") (⟦<String as Deserialize<'de>>⟧.refusal)
         (named_then (codes "at") (⟦<Place as Deserialize<'de>>⟧.refusal)
@@ -495,42 +495,43 @@ impl<'de> CborRoundTrip<'de> for Step {
       of_value = elim [
         | step.Open ↦ λ real. variant_comes_back _ Self.gives unit_variant_kept
             (λ v. refl)
-            (λ d only. elim [
+            (λ b d only. elim [
               | step.Open ↦ λ it. refl
               | step.Weighed y1 ↦ λ it. other_variant
-                  (given_as (codes "Step") (codes "open") d it).named refl
+                  (given_as b (codes "Step") (codes "open") d it).named refl
               | step.Moved y1 y2 ↦ λ it. other_variant
-                  (given_as (codes "Step") (codes "open") d it).named refl
+                  (given_as b (codes "Step") (codes "open") d it).named refl
               | step.Left y1 y2 ↦ λ it. other_variant
-                  (given_as (codes "Step") (codes "open") d it).named refl
+                  (given_as b (codes "Step") (codes "open") d it).named refl
             ])
         | step.Weighed x1 ↦ λ real. variant_comes_back _ Self.gives
             (newtype_variant_kept u32_kept x1 tt)
             (λ v. refl)
-            (λ d only. elim [
+            (λ b d only. elim [
               | step.Open ↦ λ it. other_variant
-                  (given_as (codes "Step") (codes "weighed") d it).named refl
+                  (given_as b (codes "Step") (codes "weighed") d it).named refl
               | step.Weighed y1 ↦ λ it. only y1
-                  (given_as (codes "Step") (codes "weighed") d it).held
+                  (given_as b (codes "Step") (codes "weighed") d it).held
               | step.Moved y1 y2 ↦ λ it. other_variant
-                  (given_as (codes "Step") (codes "weighed") d it).named refl
+                  (given_as b (codes "Step") (codes "weighed") d it).named refl
               | step.Left y1 y2 ↦ λ it. other_variant
-                  (given_as (codes "Step") (codes "weighed") d it).named refl
+                  (given_as b (codes "Step") (codes "weighed") d it).named refl
             ])
         | step.Moved x1 x2 ↦ λ real. variant_comes_back _ Self.gives (tuple_variant_kept
             (tuple_field_kept i32_kept x1 tt (λ (z : ℤ × ℤ). z.0) 2 0
             (tuple_field_kept i32_kept x2 tt (λ (z : ℤ × ℤ). z.1) 2 1
             parts_end_kept)))
             (λ v. refl)
-            (λ d only. elim [
+            (λ b d only. elim [
               | step.Open ↦ λ it. other_variant
-                  (given_as (codes "Step") (codes "moved-by") d it).named refl
+                  (given_as b (codes "Step") (codes "moved-by") d it).named refl
               | step.Weighed y1 ↦ λ it. other_variant
-                  (given_as (codes "Step") (codes "moved-by") d it).named refl
+                  (given_as b (codes "Step") (codes "moved-by") d it).named refl
               | step.Moved y1 y2 ↦ λ it. let same = only (y1, y2)
-                  (given_as (codes "Step") (codes "moved-by") d it).held in both_hold same.0 same.1.0
+                  (given_as b (codes "Step") (codes "moved-by") d it).held in both_hold same.0
+                  same.1.0
               | step.Left y1 y2 ↦ λ it. other_variant
-                  (given_as (codes "Step") (codes "moved-by") d it).named refl
+                  (given_as b (codes "Step") (codes "moved-by") d it).named refl
             ])
         | step.Left x1 x2 ↦ λ real. variant_comes_back _ Self.gives
             (struct_variant_kept (by_name_kept
@@ -539,22 +540,22 @@ impl<'de> CborRoundTrip<'de> for Step {
             (λ (z : (String Global) × Place). z.1)
             (skipped_kept (codes "with" ∷ codes "at" ∷ []))))))
             (λ v. refl)
-            (λ d only. elim [
+            (λ b d only. elim [
               | step.Open ↦ λ it. other_variant
-                  (given_as (codes "Step") (codes "left") d it).named refl
+                  (given_as b (codes "Step") (codes "left") d it).named refl
               | step.Weighed y1 ↦ λ it. other_variant
-                  (given_as (codes "Step") (codes "left") d it).named refl
+                  (given_as b (codes "Step") (codes "left") d it).named refl
               | step.Moved y1 y2 ↦ λ it. other_variant
-                  (given_as (codes "Step") (codes "left") d it).named refl
+                  (given_as b (codes "Step") (codes "left") d it).named refl
               | step.Left y1 y2 ↦ λ it. let same = only (y1, y2)
-                  (given_as (codes "Step") (codes "left") d it).held in both_hold same.0 same.1.0
+                  (given_as b (codes "Step") (codes "left") d it).held in both_hold same.0 same.1.0
             ])
       ];
     } };
 }
 
 impl<'de> NotNull<'de> for Step {
-    ghost refuses_null = { record { of_null = λ e. absurd (cc e) } };
+    ghost refuses_null = { record { of_null = λ b e. absurd (cc e) } };
 }
 
 /// An order.
@@ -906,5 +907,5 @@ impl<'de> CborRoundTrip<'de> for Order {
 }
 
 impl<'de> NotNull<'de> for Order {
-    ghost refuses_null = { record { of_null = λ e. absurd (cc e) } };
+    ghost refuses_null = { record { of_null = λ b e. absurd (cc e) } };
 }

@@ -24,7 +24,7 @@ kept_back {script = script} {refusal = refusal} {gives = gives} {eq = eq} kept x
     let there = kept.of_value x real in
     let such : FormGives refusal gives (λ y. eq x y ≡ true) is.0 =
     subst (FormGives refusal gives (λ y. eq x y ≡ true)) (one_tree (calls_of (script x false)) there.whole is.0 there.spelled is.1) there.such in
-    subst (λ v. GivesOnly (refusal (as_read v)) (gives (as_read v)) (λ y. eq x y ≡ true)) (sym is.3) (such is.2)
+    subst (λ v. GivesOnly (refusal (as_read v)) (gives (as_read v)) (λ y. eq x y ≡ true)) (sym is.3) (such is.2 false)
 
 -- bytes that a script was encoded as code what CBOR keeps of its tree
 pub kept_in : (sc : Script) (limit : ℕ) (bytes : Vec ℕ Global) (lent : List ℕ) (t : Tree) → SpellsWhole (calls_of sc) t → depth (form t) ≤ limit → Encoded sc (Ok bytes) → lent ≡ bytes.items

@@ -1,5 +1,5 @@
 -- What decoding answers.
-use Rattle.std.specs.Prelude.{◌≡◌, ◌⊎◌, ◌↔◌, ◌<◌, ◌≤◌, ◌+◌, true, false, ℕ, ◌-◌, List, ◌++◌, length, take, Result, Ok, Err}
+use Rattle.std.specs.Prelude.{Bool, ◌≡◌, ◌⊎◌, ◌↔◌, ◌<◌, ◌≤◌, ◌+◌, true, false, ℕ, ◌-◌, List, ◌++◌, length, take, Result, Ok, Err}
 use Rattle.content_tree.specs.Errors.Kind.{IsOutOfMemory}
 use Rattle.content_tree.specs.Values.Tree.{Tree}
 use Rattle.content_tree.specs.Values.Value.{tree_of}
@@ -49,13 +49,21 @@ IsPlaced limit bs (error.Refused at f) = (at ≤ length bs)
     × (at < length bs → ¬ IsViable limit (take (at + 1) bs))
     × FitsPlace limit bs at f
 
--- how typed data are read: for no people, with numbers coerced
+-- how typed data are read, in a buffer or out of it: not human readable, with numbers coerced
+abbrev pub flags_in : (buffered : Bool) → Flags
+flags_in b = record { human_readable = false; coerces = true; buffered = b }
+
+-- the same out of a buffer
 abbrev pub read_flags : Flags
-read_flags = record { human_readable = false; coerces = true }
+read_flags = flags_in false
 
 -- a tree as typed data is read of it
 abbrev pub as_read : Tree → Subject
 as_read t = tree_under read_flags t
+
+-- the same in a buffer, or out of it
+abbrev pub read_in : (buffered : Bool) → Tree → Subject
+read_in b t = tree_under (flags_in b) t
 
 -- the printed fault with which reading these bytes ends; or out of memory
 abbrev pub IsFaultOf : ℕ → List ℕ → Error → Type 0

@@ -4,7 +4,7 @@ use Rattle.std.proofs.Common.{◌&&◌, ◌||◌, if◌then◌else◌, refl, ap,
 use Rattle.content_tree.specs.Errors.Cause.{Cause}
 use Rattle.content_tree.specs.Values.Tree as tree
 use Rattle.content_tree.specs.Values.Ranges.{NumberKind, in_range, is_of_kind, number_value}
-use Rattle.content_de.specs.Sources.Origin.{Origin, of_tree, Flags, Subject}
+use Rattle.content_de.specs.Sources.Origin.{Origin, of_tree, Flags, Subject, under}
 use Rattle.content_de.specs.Outcomes.{Outcome, taken, refused, misfit, outcome_map, IsRefused}
 use Rattle.content_de.specs.Requests.Data.{or_else}
 use Rattle.content_de.specs.Requests.Leaves.{held_by}
@@ -15,10 +15,6 @@ use Rattle.content_de.specs.Accesses.Enum.{enum_from, one_held, many_held, entri
 use Rattle.content_de.specs.Accesses.Node.{shape_at}
 use Rattle.content_de.specs.Laws.{CoercionKeeps, Keeps, coercing, coerced, coerced_seq, coerced_map}
 use Rattle.content_de.specs.Laws.{coerced_enum, coerced_shape}
-
--- an origin with its flags
-abbrev under : Flags → Origin → Subject
-under f o = record { origin = o; flags = f }
 
 -- a request that answers the same with coercion, but for what this makes of the datum
 kept : {S A : Type 0} (source : S → S) (datum : A → A) (request : S → Outcome A) → ((s : S) → request (source s) ≡ outcome_map datum (request s)) → Keeps source datum request

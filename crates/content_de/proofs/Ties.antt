@@ -36,18 +36,25 @@ origins_tie (of_identifier n i) (of_tree u) = (λ e. absurd (cc e), λ e. absurd
 origins_tie (of_identifier n i) (of_identifier m j) =
     along _ (both (text_cmp n m) (nat_cmp i j) (texts_tie n m) (nats_tie i j)) (λ p. cc) (λ e. (cc, cc))
 
--- flags of these two
-abbrev make_flags : (human_readable coerces : Bool) → Flags
-make_flags h c = record { human_readable = h; coerces = c }
+-- these flags
+abbrev make_flags : (human_readable coerces buffered : Bool) → Flags
+make_flags h c b = record { human_readable = h; coerces = c; buffered = b }
 
 -- flags that agree are the same
-flags_same : (a b : Flags) → a.human_readable ≡ b.human_readable → a.coerces ≡ b.coerces → a ≡ b
-flags_same a b h c = ap (λ x. make_flags x a.coerces) h ∙ ap (make_flags b.human_readable) c
+flags_same : (a b : Flags) → a.human_readable ≡ b.human_readable → a.coerces ≡ b.coerces → a.buffered ≡ b.buffered → a ≡ b
+flags_same a b h c d =
+    ap (λ x. make_flags x a.coerces a.buffered) h ∙ ap (λ x. make_flags b.human_readable x a.buffered) c
+    ∙ ap (make_flags b.human_readable b.coerces) d
+
+-- neither of two pairs of tests is less exactly where both agree
+two_tie : (a b c d : Bool) → Ties (ordering_then (bool_cmp a b) (bool_cmp c d)) ((a ≡ b) × (c ≡ d))
+two_tie a b c d = both (bool_cmp a b) (bool_cmp c d) (bools_tie a b) (bools_tie c d)
 
 -- the same of the flags
 flags_tie : (a b : Flags) → Ties (flags_cmp a b) (a ≡ b)
 flags_tie a b =
-    along _ (both (bool_cmp a.human_readable b.human_readable) (bool_cmp a.coerces b.coerces) (bools_tie a.human_readable b.human_readable) (bools_tie a.coerces b.coerces)) (λ p. flags_same a b p.0 p.1) (λ e. (ap (λ f. f.human_readable) e, ap (λ f. f.coerces) e))
+    along _ (both (bool_cmp a.human_readable b.human_readable) _ (bools_tie a.human_readable b.human_readable) (two_tie a.coerces b.coerces a.buffered b.buffered))
+    (λ p. flags_same a b p.0 p.1.0 p.1.1) (λ e. (ap (λ f. f.human_readable) e, (ap (λ f. f.coerces) e, ap (λ f. f.buffered) e)))
 
 -- the same of both
 subjects_tie : (a b : Subject) → Ties (subject_cmp a b) (SameSubject a b)

@@ -55,7 +55,7 @@ PlainVariant = (requested : List ℕ) (f : Flags) (n : Text) (i : ℕ) (v : Text
 
 -- the same flags, with coercion
 abbrev pub coercing : Flags → Flags
-coercing f = record { human_readable = f.human_readable; coerces = true }
+coercing f = record { human_readable = f.human_readable; coerces = true; buffered = f.buffered }
 
 -- a source, read with coercion
 abbrev pub coerced : Subject → Subject

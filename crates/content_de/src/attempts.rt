@@ -1,7 +1,8 @@
-//! One try of a type on what is read, which stays.
+//! One try of a type on what is read, which stays: in a buffer, as Serde tries.
 
 ghost use Rattle.std.specs.Prelude.{◌≡◌, IsSome, Ok, None};
 ghost use Rattle.content_de.specs.Sources.Deserializer.{subject};
+ghost use Rattle.content_de.specs.Sources.Origin.{in_buffer};
 ghost use Rattle.content_de.specs.Reads.Attempts.{Tries, refusal_by};
 
 use crate::deserialize::Deserialize;
@@ -9,8 +10,9 @@ use crate::deserializer::Deserializer;
 use content_tree::{ErrorKind, Expected, Result};
 use std::alloc::Global;
 
-/// A value of the type, read from a copy of what is there, or none where that is refused; for an
-/// untagged enum of a caller's own, which tries one type after another.
+/// A value of the type, read from a copy of what is there in a [buffer](Deserializer::buffered), or
+/// none where that is refused; for an untagged enum of a caller's own, which tries one type after
+/// another.
 ///
 /// # Errors
 ///
@@ -19,9 +21,10 @@ pub fn attempt<'de, 'n: 'de, T: Deserialize<'de>>(
     alloc: Global,
     from: &Deserializer<'de, 'n>,
 ) -> Result<Option<T>>
-    ensures { Tries (T.refusal (subject from.now)) (T.gives (subject from.now)) result }
+    ensures { Tries (T.refusal (in_buffer (subject from.now)))
+        (T.gives (in_buffer (subject from.now))) result }
 {
-    let copy = from.try_clone(alloc)?;
+    let copy = from.try_clone(alloc)?.buffered();
     match T::deserialize(alloc, copy) {
         Ok(value) => Ok(Some(value)),
         Err(error) => {
@@ -33,8 +36,8 @@ pub fn attempt<'de, 'n: 'de, T: Deserialize<'de>>(
     }
 }
 
-/// The same for a type that refuses what doesn't [fit](Deserializer::fits) this expectation: that
-/// isn't copied then, and takes no memory.
+/// The same for a type that refuses what doesn't [fit](Deserializer::fits) this expectation in a
+/// buffer: that isn't copied then, and takes no memory.
 ///
 /// # Errors
 ///
@@ -44,12 +47,14 @@ pub fn attempt_fitting<'de, 'n: 'de, T: Deserialize<'de>>(
     from: &Deserializer<'de, 'n>,
     expected: &Expected,
 ) -> Result<Option<T>>
-    requires { IsSome (refusal_by expected.now (subject from.now))
-        → IsSome (T.refusal (subject from.now)) }
-    ensures value { Tries (T.refusal (subject from.now)) (T.gives (subject from.now)) result }
-    ensures unfit { IsSome (refusal_by expected.now (subject from.now)) → result ≡ Ok None }
+    requires { IsSome (refusal_by expected.now (in_buffer (subject from.now)))
+        → IsSome (T.refusal (in_buffer (subject from.now))) }
+    ensures value { Tries (T.refusal (in_buffer (subject from.now)))
+        (T.gives (in_buffer (subject from.now))) result }
+    ensures unfit { IsSome (refusal_by expected.now (in_buffer (subject from.now)))
+        → result ≡ Ok None }
 {
-    if !from.fits(expected) {
+    if !from.fits_in_buffer(expected) {
         return Ok(None);
     }
     attempt(alloc, from)

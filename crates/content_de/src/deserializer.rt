@@ -8,15 +8,15 @@ ghost use Rattle.content_tree.specs.Values.Value.{tree_of};
 ghost use Rattle.content_de.specs.Outcomes.{cause, mismatch};
 ghost use Rattle.content_de.specs.Sources.Origin.{of_tree, of_identifier, IsIdentifier};
 ghost use Rattle.content_de.specs.Sources.Origin.{no_flags, tree_in, tree_under};
-ghost use Rattle.content_de.specs.Sources.Origin.{subject_under};
+ghost use Rattle.content_de.specs.Sources.Origin.{subject_under, in_buffer};
 ghost use Rattle.content_de.specs.Sources.Deserializer.{flags_of, subject};
 
 use crate::source::{Flags, Source};
 use content_tree::{CowStr, Error, Expected, NamedValue, Result};
 use std::alloc::Global;
 
-/// A value, or a key or a tag inside one, with two flags, to be read by one request. The name, the
-/// flags and the requests are `serde-content`'s.
+/// A value, or a key or a tag inside one, with flags, to be read by one request. The name, the first
+/// two flags and the requests are `serde-content`'s.
 ///
 /// Each request takes what is read and either answers with its datum, or with what stands inside,
 /// or refuses: the error shows what was found and what was expected. Where what is found fits, no
@@ -29,7 +29,7 @@ use std::alloc::Global;
 /// ```
 ///
 /// `==` and the order go by what is read (a tree before a name; names by text, then index), then
-/// by whether it is for people, then by whether numbers are coerced.
+/// by whether it is human readable, whether numbers are coerced, and whether it is buffered.
 #[derive(Debug, Drop, PartialEq, Eq, PartialOrd, Ord)]
 pub struct Deserializer<'de, 'n> {
     pub(crate) source: Source<'de, 'n>,
@@ -37,7 +37,7 @@ pub struct Deserializer<'de, 'n> {
 }
 
 impl<'de, 'n> Deserializer<'de, 'n> {
-    /// Reads this value, with both flags off. It takes no memory.
+    /// Reads this value, with all flags off. It takes no memory.
     pub fn new(value: NamedValue<'de, 'n>) -> Deserializer<'de, 'n>
         ensures { subject result ≡ tree_under no_flags (tree_of value.entry) }
     {
@@ -46,6 +46,7 @@ impl<'de, 'n> Deserializer<'de, 'n> {
             flags: Flags {
                 human_readable: false,
                 coerces: false,
+                buffered: false,
             },
         }
     }
@@ -54,7 +55,11 @@ impl<'de, 'n> Deserializer<'de, 'n> {
     pub fn human_readable(self) -> Deserializer<'de, 'n>
         ensures { subject result ≡ record {
           origin = (subject self.entry).origin;
-          flags = record { human_readable = true; coerces = (subject self.entry).flags.coerces };
+          flags = record {
+            human_readable = true;
+            coerces = (subject self.entry).flags.coerces;
+            buffered = (subject self.entry).flags.buffered;
+          };
         } }
     {
         let Deserializer { source, flags } = self;
@@ -63,6 +68,7 @@ impl<'de, 'n> Deserializer<'de, 'n> {
             flags: Flags {
                 human_readable: true,
                 coerces: flags.coerces,
+                buffered: flags.buffered,
             },
         }
     }
@@ -75,6 +81,7 @@ impl<'de, 'n> Deserializer<'de, 'n> {
           flags = record {
             human_readable = (subject self.entry).flags.human_readable;
             coerces = true;
+            buffered = (subject self.entry).flags.buffered;
           };
         } }
     {
@@ -84,7 +91,21 @@ impl<'de, 'n> Deserializer<'de, 'n> {
             flags: Flags {
                 human_readable: flags.human_readable,
                 coerces: true,
+                buffered: flags.buffered,
             },
+        }
+    }
+
+    /// The same as Serde reads what it holds in a buffer, where it tries the variants of an untagged
+    /// enum: numbers are coerced, and a tuple refuses elements that are left over. It takes no
+    /// memory.
+    pub fn buffered(self) -> Deserializer<'de, 'n>
+        ensures { subject result ≡ in_buffer (subject self.entry) }
+    {
+        let Deserializer { source, flags } = self;
+        Deserializer {
+            source,
+            flags: flags.buffering(),
         }
     }
 
@@ -175,6 +196,7 @@ impl<'de, 'n> Deserializer<'de, 'n> {
             flags: Flags {
                 human_readable: true,
                 coerces: flags.coerces,
+                buffered: flags.buffered,
             },
         }
     }

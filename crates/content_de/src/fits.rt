@@ -9,15 +9,16 @@ ghost use Rattle.content_de.specs.Outcomes.{refusal_of};
 ghost use Rattle.content_de.specs.Requests.Compounds.{items_from, tuple_from, entries_from};
 ghost use Rattle.content_de.specs.Requests.Leaves.{bool_from, char_from, unit_from, text_from};
 ghost use Rattle.content_de.specs.Requests.Leaves.{bytes_from, name_from};
-ghost use Rattle.content_de.specs.Requests.Numbers.{number_from};
+ghost use Rattle.content_de.specs.Requests.Numbers.{number_at};
 ghost use Rattle.content_de.specs.Reads.Attempts.{refusal_by};
-ghost use Rattle.content_de.specs.Sources.Deserializer.{subject};
+ghost use Rattle.content_de.specs.Sources.Deserializer.{flags_of, subject};
+ghost use Rattle.content_de.specs.Sources.Origin.{in_buffer, under};
 
 use crate::coerce::{
     as_i8, as_i16, as_i32, as_i64, as_i128, as_u8, as_u16, as_u32, as_u64, as_u128,
 };
 use crate::deserializer::Deserializer;
-use crate::source::Source;
+use crate::source::{Flags, Source};
 use content_tree::{Expected, NamedValue};
 
 impl<'de, 'n> Deserializer<'de, 'n> {
@@ -25,6 +26,21 @@ impl<'de, 'n> Deserializer<'de, 'n> {
     /// variants and static texts aren't looked for: anything fits them.
     pub fn fits(&self, expected: &Expected) -> bool
         ensures { is_some (refusal_by expected.now (subject self.now)) ≡ not result }
+    {
+        self.fits_under(expected, self.flags)
+    }
+
+    /// The same in a buffer.
+    pub(crate) fn fits_in_buffer(&self, expected: &Expected) -> bool
+        ensures { is_some (refusal_by expected.now (in_buffer (subject self.now))) ≡ not result }
+    {
+        self.fits_under(expected, self.flags.buffering())
+    }
+
+    /// The same under these flags.
+    fn fits_under(&self, expected: &Expected, flags: Flags) -> bool
+        ensures { is_some (refusal_by expected.now (under (flags_of flags)
+            (subject self.now).origin)) ≡ not result }
     {
         match expected {
             Expected::Unit => self.is_unit(),
@@ -36,16 +52,16 @@ impl<'de, 'n> Deserializer<'de, 'n> {
             Expected::Seq => self.is_seq(),
             Expected::Tuple(len) => self.is_tuple(*len),
             Expected::Map => self.is_map(),
-            Expected::I8 => self.is_i8(),
-            Expected::U8 => self.is_u8(),
-            Expected::I16 => self.is_i16(),
-            Expected::U16 => self.is_u16(),
-            Expected::I32 => self.is_i32(),
-            Expected::U32 => self.is_u32(),
-            Expected::I64 => self.is_i64(),
-            Expected::U64 => self.is_u64(),
-            Expected::I128 => self.is_i128(),
-            Expected::U128 => self.is_u128(),
+            Expected::I8 => self.is_i8(flags.coerces),
+            Expected::U8 => self.is_u8(flags.coerces),
+            Expected::I16 => self.is_i16(flags.coerces),
+            Expected::U16 => self.is_u16(flags.coerces),
+            Expected::I32 => self.is_i32(flags.coerces),
+            Expected::U32 => self.is_u32(flags.coerces),
+            Expected::I64 => self.is_i64(flags.coerces),
+            Expected::U64 => self.is_u64(flags.coerces),
+            Expected::I128 => self.is_i128(flags.coerces),
+            Expected::U128 => self.is_u128(flags.coerces),
             Expected::StaticStr
             | Expected::Struct { name: _, typ: _ }
             | Expected::Enum { name: _, typ: _ } => true,
@@ -132,112 +148,102 @@ impl<'de, 'n> Deserializer<'de, 'n> {
     }
 
     /// A number of 8 bits with a sign, or one coerced to it.
-    fn is_i8(&self) -> bool
-        ensures { is_some (refusal_of (number_from i8 (subject self.now))) ≡ not result }
+    fn is_i8(&self, coerces: bool) -> bool
+        ensures { is_some (refusal_of (number_at i8 coerces (subject self.now).origin)) ≡ not result }
     {
-        let Deserializer { source, flags } = self;
-        match source {
-            Source::Tree(NamedValue::Number(number)) => as_i8(*number, flags.coerces).is_some(),
+        match &self.source {
+            Source::Tree(NamedValue::Number(number)) => as_i8(*number, coerces).is_some(),
             _ => false,
         }
     }
 
     /// A number of 8 bits without a sign, or one coerced to it.
-    fn is_u8(&self) -> bool
-        ensures { is_some (refusal_of (number_from u8 (subject self.now))) ≡ not result }
+    fn is_u8(&self, coerces: bool) -> bool
+        ensures { is_some (refusal_of (number_at u8 coerces (subject self.now).origin)) ≡ not result }
     {
-        let Deserializer { source, flags } = self;
-        match source {
-            Source::Tree(NamedValue::Number(number)) => as_u8(*number, flags.coerces).is_some(),
+        match &self.source {
+            Source::Tree(NamedValue::Number(number)) => as_u8(*number, coerces).is_some(),
             _ => false,
         }
     }
 
     /// A number of 16 bits with a sign, or one coerced to it.
-    fn is_i16(&self) -> bool
-        ensures { is_some (refusal_of (number_from i16 (subject self.now))) ≡ not result }
+    fn is_i16(&self, coerces: bool) -> bool
+        ensures { is_some (refusal_of (number_at i16 coerces (subject self.now).origin)) ≡ not result }
     {
-        let Deserializer { source, flags } = self;
-        match source {
-            Source::Tree(NamedValue::Number(number)) => as_i16(*number, flags.coerces).is_some(),
+        match &self.source {
+            Source::Tree(NamedValue::Number(number)) => as_i16(*number, coerces).is_some(),
             _ => false,
         }
     }
 
     /// A number of 16 bits without a sign, or one coerced to it.
-    fn is_u16(&self) -> bool
-        ensures { is_some (refusal_of (number_from u16 (subject self.now))) ≡ not result }
+    fn is_u16(&self, coerces: bool) -> bool
+        ensures { is_some (refusal_of (number_at u16 coerces (subject self.now).origin)) ≡ not result }
     {
-        let Deserializer { source, flags } = self;
-        match source {
-            Source::Tree(NamedValue::Number(number)) => as_u16(*number, flags.coerces).is_some(),
+        match &self.source {
+            Source::Tree(NamedValue::Number(number)) => as_u16(*number, coerces).is_some(),
             _ => false,
         }
     }
 
     /// A number of 32 bits with a sign, or one coerced to it.
-    fn is_i32(&self) -> bool
-        ensures { is_some (refusal_of (number_from i32 (subject self.now))) ≡ not result }
+    fn is_i32(&self, coerces: bool) -> bool
+        ensures { is_some (refusal_of (number_at i32 coerces (subject self.now).origin)) ≡ not result }
     {
-        let Deserializer { source, flags } = self;
-        match source {
-            Source::Tree(NamedValue::Number(number)) => as_i32(*number, flags.coerces).is_some(),
+        match &self.source {
+            Source::Tree(NamedValue::Number(number)) => as_i32(*number, coerces).is_some(),
             _ => false,
         }
     }
 
     /// A number of 32 bits without a sign, or one coerced to it.
-    fn is_u32(&self) -> bool
-        ensures { is_some (refusal_of (number_from u32 (subject self.now))) ≡ not result }
+    fn is_u32(&self, coerces: bool) -> bool
+        ensures { is_some (refusal_of (number_at u32 coerces (subject self.now).origin)) ≡ not result }
     {
-        let Deserializer { source, flags } = self;
-        match source {
-            Source::Tree(NamedValue::Number(number)) => as_u32(*number, flags.coerces).is_some(),
+        match &self.source {
+            Source::Tree(NamedValue::Number(number)) => as_u32(*number, coerces).is_some(),
             _ => false,
         }
     }
 
     /// A number of 64 bits with a sign, or one coerced to it.
-    fn is_i64(&self) -> bool
-        ensures { is_some (refusal_of (number_from i64 (subject self.now))) ≡ not result }
+    fn is_i64(&self, coerces: bool) -> bool
+        ensures { is_some (refusal_of (number_at i64 coerces (subject self.now).origin)) ≡ not result }
     {
-        let Deserializer { source, flags } = self;
-        match source {
-            Source::Tree(NamedValue::Number(number)) => as_i64(*number, flags.coerces).is_some(),
+        match &self.source {
+            Source::Tree(NamedValue::Number(number)) => as_i64(*number, coerces).is_some(),
             _ => false,
         }
     }
 
     /// A number of 64 bits without a sign, or one coerced to it, or the place of a name.
-    fn is_u64(&self) -> bool
-        ensures { is_some (refusal_of (number_from u64 (subject self.now))) ≡ not result }
+    fn is_u64(&self, coerces: bool) -> bool
+        ensures { is_some (refusal_of (number_at u64 coerces (subject self.now).origin)) ≡ not result }
     {
-        let Deserializer { source, flags } = self;
-        match source {
-            Source::Tree(NamedValue::Number(number)) => as_u64(*number, flags.coerces).is_some(),
+        match &self.source {
+            Source::Tree(NamedValue::Number(number)) => as_u64(*number, coerces).is_some(),
             Source::Tree(_) => false,
             Source::Identifier { name: _, index: _ } => true,
         }
     }
 
     /// A number of 128 bits with a sign, or one coerced to it.
-    fn is_i128(&self) -> bool
-        ensures { is_some (refusal_of (number_from i128 (subject self.now))) ≡ not result }
+    fn is_i128(&self, coerces: bool) -> bool
+        ensures { is_some (refusal_of (number_at i128 coerces (subject self.now).origin)) ≡ not result }
     {
-        let Deserializer { source, flags } = self;
-        match source {
-            Source::Tree(NamedValue::Number(number)) => as_i128(*number, flags.coerces).is_some(),
+        match &self.source {
+            Source::Tree(NamedValue::Number(number)) => as_i128(*number, coerces).is_some(),
             _ => false,
         }
     }
 
     /// A number of 128 bits without a sign, or one coerced to it.
-    fn is_u128(&self) -> bool
-        ensures { is_some (refusal_of (number_from u128 (subject self.now))) ≡ not result }
+    fn is_u128(&self, coerces: bool) -> bool
+        ensures { is_some (refusal_of (number_at u128 coerces (subject self.now).origin)) ≡ not result }
     {
-        let Deserializer { source, flags } = self;
-        match source {
-            Source::Tree(NamedValue::Number(number)) => as_u128(*number, flags.coerces).is_some(),
+        match &self.source {
+            Source::Tree(NamedValue::Number(number)) => as_u128(*number, coerces).is_some(),
             _ => false,
         }
     }

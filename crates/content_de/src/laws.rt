@@ -11,8 +11,8 @@ use crate::deserializer::Deserializer;
 use std::cmp::Ordering;
 
 /// How deserializers are ordered: by what is read (a tree before an identifier, identifiers by
-/// name and then index), then whether it is for people, then whether numbers are coerced; what is
-/// off is less. It takes no memory.
+/// name and then index), then whether it is human readable, whether numbers are coerced, and whether
+/// it is buffered; what is off is less. It takes no memory.
 pub fn compare_deserializers<'de, 'n>(
     left: &Deserializer<'de, 'n>,
     right: &Deserializer<'de, 'n>,

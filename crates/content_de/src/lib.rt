@@ -37,7 +37,7 @@ pub use into::IntoDeserializer;
 pub use map::Map;
 pub use named_fields::{end_fields, field_or, named_field, skip_fields, tag_field};
 pub use node::Node;
-pub use parts::{end_parts, next_field, next_part, two_parts};
+pub use parts::{end_parts, finish_parts, next_field, next_part, two_parts};
 pub use plain::ValueVisitor;
 pub use seq::Seq;
 pub use unknown_names::unknown_variant;

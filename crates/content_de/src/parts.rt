@@ -7,8 +7,9 @@ ghost use Rattle.content_de.specs.Accesses.Seq.{seq_view, first_item, after_item
 ghost use Rattle.content_de.specs.Accesses.Map.{map_view, first_entry, after_entry};
 ghost use Rattle.content_de.specs.Reads.Read.{Reads};
 ghost use Rattle.content_de.specs.Reads.Tuples.{too_few, too_many, part_refusal, PartGives};
-ghost use Rattle.content_de.specs.Reads.Tuples.{part_then, no_part, PartThen, NoPart};
-ghost use Rattle.content_de.specs.Reads.Tuples.{PartMemoryless, MemorylessThen, no_more};
+ghost use Rattle.content_de.specs.Reads.Tuples.{part_then, end_of_parts, PartThen, NoPart};
+ghost use Rattle.content_de.specs.Reads.Tuples.{PartMemoryless, MemorylessThen, MayEnd};
+ghost use Rattle.content_de.specs.Reads.Tuples.{no_more};
 ghost use Rattle.content_de.specs.Reads.Own.{field_refusal, FieldGives};
 
 use crate::deserialize::Deserialize;
@@ -43,28 +44,46 @@ pub fn next_part<'de, 'n: 'de, T: Deserialize<'de>>(
     }
 }
 
-/// Both parts of a tuple of two, for a type of a caller's own; what is left over stays unread.
+/// Both parts of a tuple of two, and its [end](finish_parts), for a type of a caller's own.
 ///
 /// # Errors
 ///
-/// As those of [`next_part`].
+/// As those of [`next_part`] and [`finish_parts`].
 pub fn two_parts<'de, 'n: 'de, A: Deserialize<'de>, B: Deserialize<'de>>(
     alloc: Global,
     mut from: Seq<'de, 'n>,
 ) -> Result<(A, B)>
     ensures value { Reads
-        (part_then 2 0 A.refusal (part_then 2 1 B.refusal no_part) (seq_view from.entry))
+        (part_then 2 0 A.refusal (part_then 2 1 B.refusal (end_of_parts 2)) (seq_view from.entry))
         (λ p. PartThen A.gives p.0 (PartThen B.gives p.1 NoPart) (seq_view from.entry)) result }
-    ensures succeeds { MemorylessThen A.memoryless (MemorylessThen B.memoryless NoPart)
+    ensures succeeds { MemorylessThen A.memoryless (MemorylessThen B.memoryless (MayEnd 2))
         (seq_view from.entry) → IsOk result }
 {
     let first = next_part(alloc, &mut from, 2, 0)?;
     let second = next_part(alloc, &mut from, 2, 1)?;
+    finish_parts(alloc, from, 2)?;
     Ok((first, second))
 }
 
+/// The end of a tuple of `expected` parts, for a type of a caller's own, as Serde's derives have it:
+/// an item that is left over is refused in a [buffer](crate::Deserializer::buffered), and else stays
+/// unread.
+///
+/// # Errors
+///
+/// As those of [`end_parts`], in a buffer.
+pub fn finish_parts<'de, 'n>(alloc: Global, from: Seq<'de, 'n>, expected: usize) -> Result<()>
+    ensures value { Reads (end_of_parts expected (seq_view from.entry)) (λ _. ⊤) result }
+    ensures succeeds { MayEnd expected (seq_view from.entry) → IsOk result }
+{
+    if from.is_buffered() {
+        return end_parts(alloc, from, expected);
+    }
+    Ok(())
+}
+
 /// The end of a tuple of `expected` parts, for a type of a caller's own that takes no other length:
-/// an item that is left over is refused. Where it isn't asked, such items stay unread.
+/// an item that is left over is refused.
 ///
 /// # Errors
 ///

@@ -30,6 +30,13 @@ impl<'de, 'n> Seq<'de, 'n> {
         }
     }
 
+    /// Whether the items are read out of a buffer.
+    pub(crate) fn is_buffered(&self) -> bool
+        ensures { result ≡ (seq_view self.now).flags.buffered }
+    {
+        self.flags.buffered
+    }
+
     /// How many items are left, exactly. It takes no memory.
     #[tactic(auto, using(crate::proofs::Counts::count_values))]
     pub fn size_hint(&self) -> Option<usize>

@@ -4,8 +4,8 @@ ghost use Rattle.std.specs.Prelude.{◌≡◌, ◌≢◌, IfOk, IfErr};
 ghost use Rattle.content_tree.specs.Errors.Kind.{IsOutOfMemory};
 ghost use Rattle.content_tree.specs.Images.Found.{image_view};
 ghost use Rattle.content_de.specs.Outcomes.{cause, mismatch};
-ghost use Rattle.content_de.specs.Sources.Origin.{origin_image};
-ghost use Rattle.content_de.specs.Sources.Deserializer.{origin_of};
+ghost use Rattle.content_de.specs.Sources.Origin.{origin_image, buffering};
+ghost use Rattle.content_de.specs.Sources.Deserializer.{origin_of, flags_of};
 ghost use Rattle.content_tree.specs.Errors.Cause.{expectation_of, out_of_memory};
 ghost use Rattle.content_de.specs.Requests.Names.{a_struct, an_enum};
 
@@ -27,13 +27,28 @@ pub(crate) enum Source<'de, 'n> {
     },
 }
 
-/// The two flags.
+/// The flags.
 #[derive(Clone, Copy, Debug, PartialEq, Eq, PartialOrd, Ord)]
 pub(crate) struct Flags {
     /// What is read was written for people.
     pub(crate) human_readable: bool,
     /// Numbers are coerced.
     pub(crate) coerces: bool,
+    /// It is read as Serde reads out of a buffer.
+    pub(crate) buffered: bool,
+}
+
+impl Flags {
+    /// The flags in a buffer: numbers are coerced there.
+    pub(crate) fn buffering(self) -> Flags
+        ensures { flags_of result ≡ buffering (flags_of self) }
+    {
+        Flags {
+            human_readable: self.human_readable,
+            coerces: true,
+            buffered: true,
+        }
+    }
 }
 
 impl<'de, 'n> Source<'de, 'n> {

@@ -9,7 +9,7 @@ use Rattle.content_tree.specs.Errors.Cause.{Cause}
 use Rattle.content_ser.specs.Scripts.Script.{Script, calls_of, stop_of}
 use Rattle.content_ser.specs.Scripts.Standard.{ScriptOf}
 use Rattle.content_ser.specs.Grammar.Spells.{SpellsWhole}
-use Rattle.content_de.specs.Sources.Origin.{Origin, Flags, Subject, tree_under}
+use Rattle.content_de.specs.Sources.Origin.{Origin, Flags, under, tree_under}
 use Rattle.content_de.specs.Reads.Read.{Refusal, Gives}
 
 -- the script has no stop, and the tree that its calls spell is such a one
@@ -38,13 +38,9 @@ pub record EntriesExist {K V : Type 0} (key : K → Type 0) (value : V → Type 
   pub ascend : IsStrictlySortedBy order (keys_of es)
   pub each : AllByRecursion (λ e. key e.0 × value e.1) es
 
--- the two flags
+-- these two flags, out of a buffer
 abbrev pub flags : (human_readable coerces : Bool) → Flags
-flags h c = record { human_readable = h; coerces = c }
-
--- an origin with its flags
-abbrev pub under : Flags → Origin → Subject
-under f o = record { origin = o; flags = f }
+flags h c = record { human_readable = h; coerces = c; buffered = false }
 
 -- what a source may give without coercion it may give with it
 pub record CoercionKeeps {A : Type 0} (refusal : Refusal) (gives : Gives A) : Type 0 where

@@ -4,6 +4,7 @@
 ghost use Rattle.std.specs.Prelude.{Some};
 ghost use Rattle.content_tree.specs.Errors.Cause.{custom};
 ghost use Rattle.content_de.specs.Sources.Deserializer.{subject};
+ghost use Rattle.content_de.specs.Sources.Origin.{in_buffer};
 ghost use Rattle.content_de.specs.Reads.Attempts.{or_next};
 ghost use Rattle.content_de.specs.Reads.Read.{Reads};
 ghost use Rattle.serde_content.specs.Choices.{FirstComesBack, SecondComesBack};
@@ -47,8 +48,8 @@ pub enum OneOfFour<A, B, C, D> {
     Fourth(D),
 }
 
-/// A value of the first of two types that isn't refused, each tried on a copy of what is there; for
-/// an untagged enum of a caller's own.
+/// A value of the first of two types that isn't refused, each tried on a copy of what is there, in a
+/// [buffer](Deserializer::buffered); for an untagged enum of a caller's own.
 ///
 /// # Errors
 ///
@@ -59,10 +60,10 @@ pub fn first_of_two<'de, 'n: 'de, A: Deserialize<'de>, B: Deserialize<'de>>(
     none: &str,
 ) -> Result<OneOfTwo<A, B>>
     ensures { Reads
-        (or_next (A.refusal (subject from.entry))
-        (or_next (B.refusal (subject from.entry))
+        (or_next (A.refusal (in_buffer (subject from.entry)))
+        (or_next (B.refusal (in_buffer (subject from.entry)))
         (Some (custom none.now))))
-        (TwoGive A.refusal A.gives B.refusal B.gives (subject from.entry)) result }
+        (TwoGive A.refusal A.gives B.refusal B.gives (in_buffer (subject from.entry))) result }
 {
     if let Some(first) = attempt(alloc, &from)? {
         return Ok(OneOfTwo::First(first));
@@ -92,12 +93,12 @@ pub fn first_of_three<'de, 'n: 'de, A: Deserialize<'de>, B: Deserialize<'de>, C:
     none: &str,
 ) -> Result<OneOfThree<A, B, C>>
     ensures { Reads
-        (or_next (A.refusal (subject from.entry))
-        (or_next (B.refusal (subject from.entry))
-        (or_next (C.refusal (subject from.entry))
+        (or_next (A.refusal (in_buffer (subject from.entry)))
+        (or_next (B.refusal (in_buffer (subject from.entry)))
+        (or_next (C.refusal (in_buffer (subject from.entry)))
         (Some (custom none.now)))))
         (ThreeGive A.refusal A.gives B.refusal B.gives C.refusal C.gives
-        (subject from.entry)) result }
+        (in_buffer (subject from.entry))) result }
 {
     if let Some(first) = attempt(alloc, &from)? {
         return Ok(OneOfThree::First(first));
@@ -122,13 +123,13 @@ pub fn first_of_four<
     D: Deserialize<'de>,
 >(alloc: Global, from: Deserializer<'de, 'n>, none: &str) -> Result<OneOfFour<A, B, C, D>>
     ensures { Reads
-        (or_next (A.refusal (subject from.entry))
-        (or_next (B.refusal (subject from.entry))
-        (or_next (C.refusal (subject from.entry))
-        (or_next (D.refusal (subject from.entry))
+        (or_next (A.refusal (in_buffer (subject from.entry)))
+        (or_next (B.refusal (in_buffer (subject from.entry)))
+        (or_next (C.refusal (in_buffer (subject from.entry)))
+        (or_next (D.refusal (in_buffer (subject from.entry)))
         (Some (custom none.now))))))
         (FourGive A.refusal A.gives B.refusal B.gives C.refusal C.gives D.refusal D.gives
-        (subject from.entry)) result }
+        (in_buffer (subject from.entry))) result }
 {
     if let Some(first) = attempt(alloc, &from)? {
         return Ok(OneOfFour::First(first));

@@ -7,6 +7,6 @@ pub use crate::taking::{read_five, read_four, read_one, read_six, read_three, re
 pub use crate::variants::variant_index;
 pub use content_de::{
     Deserialize, EnumAccess, FieldsByName, IntoDeserializer, Map, Node, Seq, VariantAccess,
-    attempt, attempt_fitting, end_fields, end_parts, field_or, named_field, next_field, next_part,
-    skip_fields, tag_field, two_parts, unknown_variant,
+    attempt, attempt_fitting, end_fields, end_parts, field_or, finish_parts, named_field,
+    next_field, next_part, skip_fields, tag_field, two_parts, unknown_variant,
 };

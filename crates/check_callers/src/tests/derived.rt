@@ -1,6 +1,6 @@
 //! Types that `tools/derive` wrote: fields in another order, choices, and values that come back.
 
-use check_derive::choices::{Command, Setting};
+use check_derive::choices::{Color, Command, Setting};
 use check_derive::inlined::{Amount, Change, Line};
 use check_derive::sorts::{Message, Stop};
 use check_derive::types::{Order, Place, Step};
@@ -109,6 +109,8 @@ fn other_sorts_come_back(rt: HostRuntime) -> Result<(), Fail> {
     assert!(rt; shown.as_str() == "Message { t: \"Text\", c: \"hello\" }");
     assert!(rt; round_trip(alloc, &said, false, false)? == said);
     assert!(rt; round_trip(alloc, &Stop(-1, None), false, false)? == Stop(-1, None));
+    let opaque = Color::Rgba(1, 2, 3, 4);
+    assert!(rt; round_trip(alloc, &opaque, false, false)? == opaque);
     Ok(())
 }
 

@@ -4,10 +4,10 @@ ghost use Rattle.std.specs.Prelude.{codes, ⊤};
 ghost use Rattle.content_de.specs.Reads.Own.{unit_struct_refusal};
 ghost use Rattle.content_de.specs.Reads.Own.{newtype_struct_refusal, NewtypeStructGives};
 ghost use Rattle.content_de.specs.Reads.Own.{tuple_struct_refusal, TupleStructGives};
-ghost use Rattle.content_de.specs.Reads.Tuples.{part_then, no_part, PartThen, NoPart};
+ghost use Rattle.content_de.specs.Reads.Tuples.{part_then, end_of_parts, PartThen, NoPart};
 
 use serde_content::de::{Deserialize, two_parts};
-use serde_content::{Deserializer, Result as Answer, Value};
+use serde_content::{Deserializer, Error, Result as Answer, Value};
 use std::alloc::Global;
 use std::test::Fail;
 
@@ -51,7 +51,7 @@ impl<'de> Deserialize<'de> for Pair {
     ghost refusal = { tuple_struct_refusal (codes "Pair")
         (part_then 2 0 (⟦<u32 as Deserialize<'de>>⟧.refusal)
         (part_then 2 1 (⟦<u32 as Deserialize<'de>>⟧.refusal)
-        no_part)) };
+        (end_of_parts 2))) };
 
     ghost gives = { λ s p. TupleStructGives (codes "Pair")
         (PartThen (⟦<u32 as Deserialize<'de>>⟧.gives) p.0
@@ -74,5 +74,17 @@ fn structs_of_other_sorts_are_read(rt: HostRuntime) -> Result<(), Fail> {
     let pair: Pair = Deserializer::new(Value::Seq(items)).deserialize(alloc)?;
     assert!(rt; pair.0 == 1);
     assert!(rt; pair.1 == 2);
+    Ok(())
+}
+
+#[test]
+fn values_left_over_are_refused_in_a_buffer(rt: HostRuntime) -> Result<(), Fail> {
+    let alloc = rt.alloc();
+    let items = vec![in alloc; Value::from(1u32), Value::from(2u32), Value::from(3u32)]?;
+    let from = Deserializer::new(Value::Seq(items));
+    let pair: Pair = from.try_clone(alloc)?.deserialize(alloc)?;
+    assert!(rt; pair.1 == 2);
+    let read: Answer<Pair> = from.buffered().deserialize(alloc);
+    assert!(rt; read.err() == Some(Error::custom(alloc, "too many elements: expected 2")));
     Ok(())
 }

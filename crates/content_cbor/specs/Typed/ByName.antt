@@ -16,7 +16,7 @@ use Rattle.content_de.specs.Reads.ByName.{others_skipped, no_others, NoOthers, r
 use Rattle.serde_content.specs.RoundTrip.{GivesOnly}
 use Rattle.serde_content.specs.Laws.ByName.{named_under, skipped_free, entry_first, entry_refusal, EntryGives}
 use Rattle.serde_content.specs.Laws.Spelled.{FieldsSuch, Spelled, fields_end_such, fields_more_such}
-use Rattle.content_cbor.specs.Decoded.{read_flags}
+use Rattle.content_cbor.specs.Decoded.{flags_in}
 use Rattle.content_cbor.specs.Form.{form, text_form, field_forms, FieldsFit}
 use Rattle.content_cbor.specs.Typed.Kept.{FormComesBack}
 use Rattle.content_cbor.specs.Typed.Records.{FieldsKept}
@@ -29,15 +29,15 @@ form_entries (tree.field_then k t fs) = (text_form k.content, form t) ∷ form_e
 -- fields are sent so that their forms, taken by name, aren't refused and give only such values
 pub record NamedKept {Y : Type 0} (script : Bool → Script) (refusal : FieldsLeft → Option Cause) (given : Y → FieldsLeft → Type 0) (such : Y → Type 0) : Type 0 where
   pub spelled : Spelled (FieldsSuch (λ fs. FieldsFit fs
-      → GivesOnly (refusal (named_under read_flags (form_entries fs))) (λ y. given y (named_under read_flags (form_entries fs))) such)) (script false)
+      → (b : Bool) → GivesOnly (refusal (named_under (flags_in b) (form_entries fs))) (λ y. given y (named_under (flags_in b) (form_entries fs))) such)) (script false)
 
 -- no field, where others are skipped
 pub skipped_kept : {Y : Type 0} (known : List (List ℕ)) → NamedKept {Y = Y} end_script (others_skipped known) (λ y. NoOthers) (λ y. ⊤)
-skipped_kept known = record { spelled = fields_end_such (λ fits. record { free = skipped_free known read_flags; only = λ y h. tt }) }
+skipped_kept known = record { spelled = fields_end_such (λ fits b. record { free = skipped_free known (flags_in b); only = λ y h. tt }) }
 
 -- no field, where there are no others
 pub closed_kept : {Y : Type 0} (known : List (List ℕ)) → NamedKept {Y = Y} end_script (no_others known) (λ y. NoOthers) (λ y. ⊤)
-closed_kept known = record { spelled = fields_end_such (λ fits. record { free = refl; only = λ y h. tt }) }
+closed_kept known = record { spelled = fields_end_such (λ fits b. record { free = refl; only = λ y h. tt }) }
 
 -- a field, whatever a missing one comes to, and then the others
 entry_kept : {A Y : Type 0} {exists : A → Type 0} {script : ScriptOf A} {refusal : Refusal} {gives : Gives A} {eq : A → A → Bool} {rest : Bool → Script} {others : FieldsLeft → Option Cause}
@@ -46,7 +46,7 @@ entry_kept : {A Y : Type 0} {exists : A → Type 0} {script : ScriptOf A} {refus
     → NamedKept (field_first name (script x) rest) (entry_refusal name absent refusal others) (λ y. EntryGives name missing gives (see y) (given y)) (λ y. (eq x (see y) ≡ true) × such y)
 entry_kept {refusal} {gives} {others} {given} name absent missing kept x real see more = record {
   spelled = fields_more_such
-      (λ t fs one last fits. entry_first refusal gives others given name absent missing see read_flags (text_form name) (form t) (form_entries fs) ((bytes_eq-Decides name name).1 refl) (one fits.1) (last fits.2))
+      (λ t fs one last fits b. entry_first refusal gives others given name absent missing see (flags_in b) (text_form name) (form t) (form_entries fs) ((bytes_eq-Decides name name).1 refl) (one fits.1 b) (last fits.2 b))
       (kept.of_value x real) more.spelled;
 }
 
@@ -78,6 +78,6 @@ pub by_name_kept : {Y : Type 0} {script : Bool → Script} {refusal : FieldsLeft
     → NamedKept script refusal given such → FieldsKept script (read_by_name refusal) (λ y. ReadByName (given y)) such
 by_name_kept {Y} {script} {refusal} {given} {such} fields = record {
   spelled = fields_seen
-      (λ fs there fits. subst (λ es. GivesOnly (refusal (named_under read_flags es)) (λ y. given y (named_under read_flags es)) such) (entries_named fs) (there fits))
+      (λ fs there fits b. subst (λ es. GivesOnly (refusal (named_under (flags_in b) es)) (λ y. given y (named_under (flags_in b) es)) such) (entries_named fs) (there fits b))
       fields.spelled;
 }

@@ -20,22 +20,22 @@ use Rattle.serde_content.specs.Laws.Flattened.{flattened_script, flattened_first
 use Rattle.serde_content.specs.Laws.Flattened.{FlattenedGives, entry_more}
 use Rattle.serde_content.specs.Laws.Maps.{EntriesSuch}
 use Rattle.serde_content.specs.Laws.Spelled.{Spelled, spelled_only, spelled_call, such_spelled}
-use Rattle.content_cbor.specs.Decoded.{read_flags}
+use Rattle.content_cbor.specs.Decoded.{flags_in}
 use Rattle.content_cbor.specs.Form.{form, text_form, pair_forms, PairsFit}
 use Rattle.content_cbor.specs.Typed.Kept.{FormComesBack, FormGives}
 
--- the forms of pairs by name
-abbrev pub named_forms : Pairs → FieldsLeft
-named_forms ps = by_name (entries_under read_flags (entries_of_pairs (pair_forms ps)))
+-- the forms of pairs by name, in a buffer or out of it
+abbrev pub named_forms : (buffered : Bool) → Pairs → FieldsLeft
+named_forms b ps = by_name (entries_under (flags_in b) (entries_of_pairs (pair_forms ps)))
 
 -- entries are sent so that their forms, taken by name, aren't refused and give only such values
 pub record FlattenedKept {Y : Type 0} (script : Bool → Script) (refusal : FieldsLeft → Option Cause) (given : Y → FieldsLeft → Type 0) (such : Y → Type 0) : Type 0 where
-  pub spelled : Spelled (EntriesSuch (λ ps. PairsFit ps → GivesOnly (refusal (named_forms ps)) (λ y. given y (named_forms ps)) such)) (script false)
+  pub spelled : Spelled (EntriesSuch (λ ps. PairsFit ps → (b : Bool) → GivesOnly (refusal (named_forms b ps)) (λ y. given y (named_forms b ps)) such)) (script false)
 
 -- no entry
 pub flattened_end_kept : {Y : Type 0} (known : List (List ℕ)) → FlattenedKept {Y = Y} end_script (others_skipped known) (λ y. NoOthers) (λ y. ⊤)
 flattened_end_kept known = record {
-  spelled = spelled_only (λ rest. ([], items_end, λ t. refl, λ fits. record { free = skipped_free known read_flags; only = λ y h. tt }));
+  spelled = spelled_only (λ rest. ([], items_end, λ t. refl, λ fits b. record { free = skipped_free known (flags_in b); only = λ y h. tt }));
 }
 
 -- a field, whatever a missing one comes to, and then the others
@@ -46,10 +46,10 @@ entry_kept : {A Y : Type 0} {exists : A → Type 0} {script : ScriptOf A} {refus
 entry_kept {refusal} {gives} {eq} {others} {given} {such} name absent missing kept x real see more = record {
   spelled = entry_more name
       (FormGives refusal gives (λ y. eq x y ≡ true))
-      (λ ps. PairsFit ps → GivesOnly (others (named_forms ps)) (λ y. given y (named_forms ps)) such)
-      (λ ps. PairsFit ps → GivesOnly (entry_refusal name absent refusal others (named_forms ps)) (λ y. EntryGives name missing gives (see y) (given y) (named_forms ps)) (λ y. (eq x (see y) ≡ true) × such y))
-      (λ t ps one last fits. entry_first refusal gives others given name absent missing see read_flags (text_form name) (form t) (map (λ e. (key_tree e.0, e.1)) (entries_of_pairs (pair_forms ps)))
-      ((bytes_eq-Decides name name).1 refl) (one fits.1) (last fits.2))
+      (λ ps. PairsFit ps → (b : Bool) → GivesOnly (others (named_forms b ps)) (λ y. given y (named_forms b ps)) such)
+      (λ ps. PairsFit ps → (b : Bool) → GivesOnly (entry_refusal name absent refusal others (named_forms b ps)) (λ y. EntryGives name missing gives (see y) (given y) (named_forms b ps)) (λ y. (eq x (see y) ≡ true) × such y))
+      (λ t ps one last fits b. entry_first refusal gives others given name absent missing see (flags_in b) (text_form name) (form t) (map (λ e. (key_tree e.0, e.1)) (entries_of_pairs (pair_forms ps)))
+      ((bytes_eq-Decides name name).1 refl) (one fits.1 b) (last fits.2 b))
       (kept.of_value x real) more.spelled;
 }
 
@@ -72,4 +72,4 @@ pub flattened_kept : {Y : Type 0} {script : Bool → Script} {refusal : FieldsLe
     → FlattenedKept script refusal given such → ((y : Y) → such y → passes y)
     → SpellsSuch (FormGives (flattened_refusal (read_by_name refusal)) (λ s y. FlattenedGives (ReadByName (given y)) s) passes) (flattened_script script false)
 flattened_kept fields pass =
-    such_spelled (spelled_call (λ calls rest e. (tree.map (pairs e.0), spells_map e.1, λ fits. record { free = (e.3 fits.1).free; only = λ y h. pass y ((e.3 fits.1).only y h) })) fields.spelled)
+    such_spelled (spelled_call (λ calls rest e. (tree.map (pairs e.0), spells_map e.1, λ fits b. record { free = (e.3 fits.1 b).free; only = λ y h. pass y ((e.3 fits.1 b).only y h) })) fields.spelled)

@@ -7,12 +7,12 @@ use Rattle.content_ser.specs.Scripts.Script.{Script, calls_of}
 use Rattle.content_ser.specs.Scripts.Standard.{ScriptOf}
 use Rattle.content_de.specs.Reads.Read.{Refusal, Gives}
 use Rattle.serde_content.specs.RoundTrip.{GivesOnly, SpellsSuch}
-use Rattle.content_cbor.specs.Decoded.{as_read}
+use Rattle.content_cbor.specs.Decoded.{read_in}
 use Rattle.content_cbor.specs.Form.{Fits, form}
 
--- where the tree fits its form isn't refused, and each value that may be given of it is such a one
+-- where the tree fits, its form isn't refused, in a buffer or out of it, and each value that may be given of it is such a one
 abbrev pub FormGives : {A : Type 0} → Refusal → Gives A → (A → Type 0) → Tree → Type 0
-FormGives refusal gives such t = Fits t → GivesOnly (refusal (as_read (form t))) (gives (as_read (form t))) such
+FormGives refusal gives such t = Fits t → (b : Bool) → GivesOnly (refusal (read_in b (form t))) (gives (read_in b (form t))) such
 
 -- a value that exists is sent as a tree whose form, where it fits, is read as an equal value
 pub record FormComesBack {A : Type 0} (exists : A → Type 0) (script : ScriptOf A) (refusal : Refusal) (gives : Gives A) (eq : A → A → Bool) : Type 0 where
@@ -20,7 +20,7 @@ pub record FormComesBack {A : Type 0} (exists : A → Type 0) (script : ScriptOf
 
 -- null is refused
 pub record RefusesNull (refusal : Refusal) : Type 0 where
-  pub of_null : refusal (as_read tree.absent) ≡ None → ⊥
+  pub of_null : (b : Bool) → refusal (read_in b tree.absent) ≡ None → ⊥
 
 -- what CBOR keeps of the tree that a script's calls spell
 abbrev pub IsKeptOf : Script → Tree → Type 0

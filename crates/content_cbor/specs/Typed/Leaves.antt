@@ -26,17 +26,17 @@ use Rattle.content_de.specs.Reads.Standard.{HasContent}
 use Rattle.serde_content.specs.Laws.Leaves.{equal_to_itself}
 use Rattle.serde_content.specs.Laws.Spelled.{leaf_such}
 use Rattle.content_cbor.specs.Codes.{number_of}
-use Rattle.content_cbor.specs.Decoded.{as_read}
+use Rattle.content_cbor.specs.Decoded.{read_in}
 use Rattle.content_cbor.specs.Form.{form, in_own_range}
 use Rattle.content_cbor.specs.Typed.Kept.{FormComesBack, RefusesNull}
 
 -- a boolean
 pub bool_kept : FormComesBack (λ b. ⊤) (λ b. only (event.boolean b)) (λ s. refusal_of (bool_from s.origin)) (λ s b. bool_from s.origin ≡ taken b) beq
-bool_kept = record { of_value = λ x real. leaf_such (tree.boolean x) refl (λ fits. record { free = refl; only = λ y h. equal_to_itself bool_eq_equiv x y (cc) }) }
+bool_kept = record { of_value = λ x real. leaf_such (tree.boolean x) refl (λ fits b. record { free = refl; only = λ y h. equal_to_itself bool_eq_equiv x y (cc) }) }
 
 -- a text
 pub text_kept : FormComesBack (λ s. ⊤) (λ (s : String Global). only (event.text (string_bytes s))) (λ s. refusal_of (text_from s.origin)) (λ s x. IsTaken (text_from s.origin) (HasContent (string_bytes x))) string_eq
-text_kept = record { of_value = λ x real. leaf_such (tree.text (owned_text (string_bytes x))) refl (λ fits. record { free = refl; only = λ y h. equal_to_itself nat_list_eq_equiv (string_bytes x) (string_bytes y) h }) }
+text_kept = record { of_value = λ x real. leaf_such (tree.text (owned_text (string_bytes x))) refl (λ fits b. record { free = refl; only = λ y h. equal_to_itself nat_list_eq_equiv (string_bytes x) (string_bytes y) h }) }
 
 -- whichever kind a number gets, its value is this
 either_kind : (b : Bool) (m n : Number) (z : ℤ) → number_value m ≡ z → number_value n ≡ z → number_value (if b then m else n) ≡ z
@@ -55,8 +55,8 @@ taken_inside false true v z o e d = ap taken d
 taken_inside false false v z o e d = absurd (cc e)
 
 -- the form of a number in the range of a kind is taken as one of that kind
-form_taken : (k : NumberKind) (m : Number) (z : ℤ) → number_value m ≡ z → in_range k z ≡ true → number_from k (as_read (form (tree.number m))) ≡ taken z
-form_taken k m z e inside =
+form_taken : (b : Bool) (k : NumberKind) (m : Number) (z : ℤ) → number_value m ≡ z → in_range k z ≡ true → number_from k (read_in b (form (tree.number m))) ≡ taken z
+form_taken b k m z e inside =
     let n = number_of (number_value m) in
     let is : number_value n ≡ z = value_kept (number_value m) ∙ e in
     taken_inside (is_of_kind k n) (in_range k (number_value n)) (number_value n) z (misfit (of_tree (tree.number n)) (expected_number k)) (ap (in_range k) is ∙ inside) is
@@ -72,16 +72,16 @@ IntegerKept k n = FormComesBack (λ x. ⊤) (λ x. only (event.number (n x))) (�
 -- a number without a sign
 natural_kept : (k : NumberKind) (n : ℕ → Number) → ((x : ℕ) → in_own_range (n x) ≡ in_range k (pos x)) → ((x : ℕ) → number_value (n x) ≡ pos x) → NaturalKept k n
 natural_kept k n own value = record {
-  of_value = λ x real. leaf_such (tree.number (n x)) refl (λ fits.
-      let is = form_taken k (n x) (pos x) (value x) (sym (own x) ∙ fits) in
+  of_value = λ x real. leaf_such (tree.number (n x)) refl (λ fits b.
+      let is = form_taken b k (n x) (pos x) (value x) (sym (own x) ∙ fits) in
       record { free = ap refusal_of is; only = λ y h. equal_to_itself nat_eq_equiv x y (cc) });
 }
 
 -- a number with a sign
 integer_kept : (k : NumberKind) (n : ℤ → Number) → ((x : ℤ) → in_own_range (n x) ≡ in_range k x) → ((x : ℤ) → number_value (n x) ≡ x) → IntegerKept k n
 integer_kept k n own value = record {
-  of_value = λ x real. leaf_such (tree.number (n x)) refl (λ fits.
-      let is = form_taken k (n x) x (value x) (sym (own x) ∙ fits) in
+  of_value = λ x real. leaf_such (tree.number (n x)) refl (λ fits b.
+      let is = form_taken b k (n x) x (value x) (sym (own x) ∙ fits) in
       record { free = ap refusal_of is; only = λ y h. equal_to_itself int_eq_equiv x y (cc) });
 }
 
@@ -127,12 +127,12 @@ i128_kept = integer_kept kind.i128 num.I128 (λ x. refl) (λ x. refl)
 
 -- a number isn't read of null
 pub number_not_null : (k : NumberKind) → RefusesNull (λ s. refusal_of (number_from k s))
-number_not_null k = record { of_null = λ e. absurd (cc e) }
+number_not_null k = record { of_null = λ b e. absurd (cc e) }
 
 -- nor a boolean
 pub bool_not_null : RefusesNull (λ s. refusal_of (bool_from s.origin))
-bool_not_null = record { of_null = λ e. absurd (cc e) }
+bool_not_null = record { of_null = λ b e. absurd (cc e) }
 
 -- nor a text
 pub text_not_null : RefusesNull (λ s. refusal_of (text_from s.origin))
-text_not_null = record { of_null = λ e. absurd (cc e) }
+text_not_null = record { of_null = λ b e. absurd (cc e) }

@@ -20,13 +20,13 @@ use Rattle.serde_content.specs.RoundTrip.{EntriesExist}
 use Rattle.serde_content.specs.Laws.Spelled.{Spelled, spelled_call, such_spelled}
 use Rattle.serde_content.specs.Laws.Maps.{EntriesSuch, EntriesBack, entries_end, entries_more, no_entries}
 use Rattle.serde_content.specs.Laws.Maps.{entry_first, first_below, others_ascend, same_entry}
-use Rattle.content_cbor.specs.Decoded.{read_flags}
+use Rattle.content_cbor.specs.Decoded.{flags_in}
 use Rattle.content_cbor.specs.Form.{form, pair_forms, PairsFit}
 use Rattle.content_cbor.specs.Typed.Kept.{FormComesBack, FormGives, RefusesNull}
 
 -- the forms of pairs are read as entries that equal these
 abbrev PairsBack : {K V : Type 0} → (key value : Refusal) → Gives K → Gives V → (K → K → Ordering) → (K × V → K × V → Bool) → List (K × V) → Pairs → Type 0
-PairsBack key value gives_key gives_value order same es ps = PairsFit ps → EntriesBack key value gives_key gives_value order same read_flags es (pair_forms ps)
+PairsBack key value gives_key gives_value order same es ps = PairsFit ps → (b : Bool) → EntriesBack key value gives_key gives_value order same (flags_in b) es (pair_forms ps)
 
 -- entries that exist
 entries_kept : {K V : Type 0} {key_exists : K → Type 0} {value_exists : V → Type 0} {key_script : ScriptOf K} {value_script : ScriptOf V} {key value : Refusal} {gives_key : Gives K} {gives_value : Gives V}
@@ -35,15 +35,15 @@ entries_kept : {K V : Type 0} {key_exists : K → Type 0} {value_exists : V → 
     → (es : List (K × V)) → IsStrictlySortedBy order (keys_of es) → AllByRecursion (λ e. key_exists e.0 × value_exists e.1) es
     → Spelled (EntriesSuch (PairsBack key value gives_key gives_value order (same_entry eq_key eq_value) es)) (entries_script key_script value_script es false)
 entries_kept {key} {value} {gives_key} {gives_value} {order} {eq_key} {eq_value} total ties keys values [] ascend each =
-    entries_end (PairsBack key value gives_key gives_value order (same_entry eq_key eq_value) []) (λ fits. no_entries)
+    entries_end (PairsBack key value gives_key gives_value order (same_entry eq_key eq_value) []) (λ fits b. no_entries)
 entries_kept {key} {value} {gives_key} {gives_value} {order} {eq_key} {eq_value} total ties keys values (e ∷ es) ascend each =
     entries_more
     (FormGives key gives_key (λ y. eq_key e.0 y ≡ true))
     (FormGives value gives_value (λ y. eq_value e.1 y ≡ true))
     (PairsBack key value gives_key gives_value order (same_entry eq_key eq_value) es)
     (PairsBack key value gives_key gives_value order (same_entry eq_key eq_value) (e ∷ es))
-    (λ k t ps one two others fits. entry_first {key = key} {value = value} {gives_key = gives_key} {gives_value = gives_value} {order = order} {f = read_flags} eq_key eq_value total ties e es
-    (first_below order e.0 (keys_of es) ascend) (form k) (form t) (pair_forms ps) (one fits.0) (two fits.1) (others fits.2))
+    (λ k t ps one two others fits b. entry_first {key = key} {value = value} {gives_key = gives_key} {gives_value = gives_value} {order = order} {f = flags_in b} eq_key eq_value total ties e es
+    (first_below order e.0 (keys_of es) ascend) (form k) (form t) (pair_forms ps) (one fits.0 b) (two fits.1 b) (others fits.2 b))
     (keys.of_value e.0 each.0.0) (values.of_value e.1 each.0.1) (entries_kept total ties keys values es (others_ascend order e.0 (keys_of es) ascend) each.1)
 
 -- a map
@@ -56,10 +56,10 @@ map_kept {eq_key} {eq_value} total ties keys values = record {
   of_value = λ es real. such_spelled (spelled_call (λ calls rest e. (
     tree.map (pairs e.0),
     spells_map e.1,
-    λ fits. record {
-      free = (e.3 fits.1).free;
+    λ fits b. record {
+      free = (e.3 fits.1 b).free;
       only = λ new h.
-          let back = (e.3 fits.1).only [] new tt h in
+          let back = (e.3 fits.1 b).only [] new tt h in
           subst (λ ys. pointwise (same_entry eq_key eq_value) es ys ≡ true) (sym back.1) back.2;
     },
   )) (entries_kept total ties keys values es real.ascend real.each));
@@ -67,4 +67,4 @@ map_kept {eq_key} {eq_value} total ties keys values = record {
 
 -- a map isn't read of null
 pub map_not_null : (key value : Refusal) → RefusesNull (λ s. refusal_then (map_at s) (map_refusal key value))
-map_not_null key value = record { of_null = λ e. absurd (cc e) }
+map_not_null key value = record { of_null = λ b e. absurd (cc e) }

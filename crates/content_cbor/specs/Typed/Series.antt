@@ -14,22 +14,23 @@ use Rattle.content_de.specs.Outcomes.{refusal_then, IsTaken}
 use Rattle.content_de.specs.Accesses.Seq.{SeqLeft, tuple_at, items_under}
 use Rattle.content_de.specs.Reads.Read.{Refusal, Gives}
 use Rattle.content_de.specs.Reads.Own.{tuple_struct_refusal, TupleStructGives}
-use Rattle.content_de.specs.Reads.Tuples.{part_then, no_part, PartThen, NoPart}
+use Rattle.content_de.specs.Reads.Tuples.{part_then, end_of_parts, PartThen, NoPart}
 use Rattle.serde_content.specs.RoundTrip.{SpellsSuch, GivesOnly}
 use Rattle.serde_content.specs.Laws.Holders.{both_free}
+use Rattle.serde_content.specs.Laws.Series.{nothing_left}
 use Rattle.serde_content.specs.Laws.Spelled.{RowSuch, Spelled, spelled_call, such_spelled}
 use Rattle.serde_content.specs.Laws.Spelled.{row_end, row_more}
-use Rattle.content_cbor.specs.Decoded.{read_flags}
+use Rattle.content_cbor.specs.Decoded.{flags_in}
 use Rattle.content_cbor.specs.Form.{each_form, EachFits}
 use Rattle.content_cbor.specs.Typed.Kept.{FormComesBack, FormGives, RefusesNull}
 
 -- parts are sent as items whose forms aren't refused and give only such values
 pub record PartsKept {Y : Type 0} (m : ItemCall) (script : Bool → Script) (refusal : SeqLeft → Option Cause) (given : Y → SeqLeft → Type 0) (such : Y → Type 0) : Type 0 where
-  pub spelled : Spelled (RowSuch m (λ ts. EachFits ts → GivesOnly (refusal (items_under read_flags (each_form ts))) (λ y. given y (items_under read_flags (each_form ts))) such)) (script false)
+  pub spelled : Spelled (RowSuch m (λ ts. EachFits ts → (b : Bool) → GivesOnly (refusal (items_under (flags_in b) (each_form ts))) (λ y. given y (items_under (flags_in b) (each_form ts))) such)) (script false)
 
 -- no part
-pub parts_end_kept : {Y : Type 0} {m : ItemCall} → PartsKept {Y = Y} m (only event.end) no_part (λ y. NoPart) (λ y. ⊤)
-parts_end_kept = record { spelled = row_end (λ fits. record { free = refl; only = λ y h. tt }) }
+pub parts_end_kept : {Y : Type 0} {m : ItemCall} (n : ℕ) → PartsKept {Y = Y} m (only event.end) (end_of_parts n) (λ y. NoPart) (λ y. ⊤)
+parts_end_kept n = record { spelled = row_end (λ fits b. record { free = nothing_left n (flags_in b); only = λ y h. tt }) }
 
 -- a part after its call, and then the others
 part_kept : {A Y : Type 0} {exists : A → Type 0} {script : ScriptOf A} {refusal : Refusal} {gives : Gives A} {eq : A → A → Bool} {m : ItemCall} {rest : Bool → Script} {others : SeqLeft → Option Cause}
@@ -38,7 +39,7 @@ part_kept : {A Y : Type 0} {exists : A → Type 0} {script : ScriptOf A} {refusa
     → PartsKept m (item_first c (script x) rest) (part_then expected found refusal others) (λ y. PartThen gives (see y) (given y)) (λ y. (eq x (see y) ≡ true) × such y)
 part_kept c is kept x real see expected found more = record {
   spelled = row_more is
-      (λ t ts one last fits. record { free = both_free (one fits.0).free (last fits.1).free; only = λ y h. ((one fits.0).only (see y) h.0, (last fits.1).only y h.1) })
+      (λ t ts one last fits b. record { free = both_free (one fits.0 b).free (last fits.1 b).free; only = λ y h. ((one fits.0 b).only (see y) h.0, (last fits.1 b).only y h.1) })
       (kept.of_value x real) more.spelled;
 }
 
@@ -61,15 +62,15 @@ pub tuple_kept : {Y : Type 0} {script : Bool → Script} {refusal : SeqLeft → 
     → PartsKept token.element script refusal given such → ((y : Y) → such y → passes y)
     → SpellsSuch (FormGives (λ s. refusal_then (tuple_at n s) refusal) (λ s y. IsTaken (tuple_at n s) (given y)) passes) (tuple_script n script false)
 tuple_kept parts pass =
-    such_spelled (spelled_call (λ calls rest e. (tree.tuple e.0, spells_series e.1, λ fits. record { free = (e.2 fits.1).free; only = λ y h. pass y ((e.2 fits.1).only y h) })) parts.spelled)
+    such_spelled (spelled_call (λ calls rest e. (tree.tuple e.0, spells_series e.1, λ fits b. record { free = (e.2 fits.1 b).free; only = λ y h. pass y ((e.2 fits.1 b).only y h) })) parts.spelled)
 
 -- a struct of these values by place
 pub tuple_struct_kept : {Y : Type 0} {script : Bool → Script} {refusal : SeqLeft → Option Cause} {given : Y → SeqLeft → Type 0} {such passes : Y → Type 0} {name : List ℕ} {len : ℕ}
     → PartsKept token.tuple_field script refusal given such → ((y : Y) → such y → passes y)
     → SpellsSuch (FormGives (tuple_struct_refusal name refusal) (λ s y. TupleStructGives name (given y) s) passes) (tuple_struct_script name len script false)
 tuple_struct_kept parts pass =
-    such_spelled (spelled_call (λ calls rest e. (_, spells_series e.1, λ fits. record { free = (e.2 fits.1).free; only = λ y h. pass y ((e.2 fits.1).only y h) })) parts.spelled)
+    such_spelled (spelled_call (λ calls rest e. (_, spells_series e.1, λ fits b. record { free = (e.2 fits.1 b).free; only = λ y h. pass y ((e.2 fits.1 b).only y h) })) parts.spelled)
 
 -- a tuple isn't read of null
 pub tuple_not_null : (n : ℕ) (refusal : SeqLeft → Option Cause) → RefusesNull (λ s. refusal_then (tuple_at n s) refusal)
-tuple_not_null n refusal = record { of_null = λ e. absurd (cc e) }
+tuple_not_null n refusal = record { of_null = λ b e. absurd (cc e) }

@@ -15,14 +15,14 @@ use Rattle.serde_content.specs.Laws.ByName.{named_under}
 use Rattle.serde_content.specs.Laws.Spelled.{FieldsSuch, spelled_call, such_spelled, leaf_such}
 use Rattle.serde_content.specs.Laws.Spelled.{fields_more_such}
 use Rattle.serde_content.specs.Laws.Tagged.{IsTagged, tagged_script}
-use Rattle.content_cbor.specs.Decoded.{as_read, read_flags}
+use Rattle.content_cbor.specs.Decoded.{read_in, flags_in}
 use Rattle.content_cbor.specs.Form.{text_form, field_forms, FieldsFit}
 use Rattle.content_cbor.specs.Typed.ByName.{NamedKept, form_entries, entries_named}
 use Rattle.content_cbor.specs.Typed.Kept.{FormGives}
 
--- what stands beside the tag in a form
-abbrev pub beside_form : Fields → FieldsLeft
-beside_form fs = named_under read_flags (map (λ e. (key_tree e.0, e.1)) (entries_of_pairs (field_forms fs)))
+-- what stands beside the tag in a form, in a buffer or out of it
+abbrev pub beside_form : (buffered : Bool) → Fields → FieldsLeft
+beside_form b fs = named_under (flags_in b) (map (λ e. (key_tree e.0, e.1)) (entries_of_pairs (field_forms fs)))
 
 -- the form of a variant: a map, its first entry the tag
 abbrev pub tagged_form : (tag variant : List ℕ) → Fields → Tree
@@ -31,18 +31,18 @@ tagged_form tag variant fs = tree.map (tree.pair_then (text_form tag) (text_form
 -- a value of this variant comes back, where its form is refused as what stands beside the tag is, and gives what that gives
 pub tagged_kept : {P Y : Type 0} {name tag variant : List ℕ} {len : ℕ} {rest : Bool → Script} {own : FieldsLeft → Option Cause} {given : P → FieldsLeft → Type 0} {such : P → Type 0}
     (refusal : Refusal) (gives : Gives Y) {passes : Y → Type 0} → NamedKept rest own given such
-    → ((fs : Fields) → refusal (as_read (tagged_form tag variant fs)) ≡ own (beside_form fs))
-    → ((fs : Fields) → ((z : P) → given z (beside_form fs) → such z) → (y : Y) → gives (as_read (tagged_form tag variant fs)) y → passes y)
+    → ((b : Bool) (fs : Fields) → refusal (read_in b (tagged_form tag variant fs)) ≡ own (beside_form b fs))
+    → ((b : Bool) (fs : Fields) → ((z : P) → given z (beside_form b fs) → such z) → (y : Y) → gives (read_in b (tagged_form tag variant fs)) y → passes y)
     → SpellsSuch (FormGives refusal gives passes) (tagged_script name len tag variant rest false)
 tagged_kept {P} {Y} {name} {tag} {variant} {len} {rest} {own} {given} {such} refusal gives {passes} fields refused_so given_so =
     such_spelled (spelled_call
-    {Q = FieldsSuch (IsTagged tag variant (λ fs. FieldsFit fs → GivesOnly (own (named_under read_flags (form_entries fs))) (λ z. given z (named_under read_flags (form_entries fs))) such))}
+    {Q = FieldsSuch (IsTagged tag variant (λ fs. FieldsFit fs → (b : Bool) → GivesOnly (own (named_under (flags_in b) (form_entries fs))) (λ z. given z (named_under (flags_in b) (form_entries fs))) such))}
     (λ calls others e. (
       _,
       spells_record e.1,
-      subst (λ fs. FormGives refusal gives passes (tree.structure (static_name name) (tree.named fs))) (sym e.2.1) (λ fits.
-          let beside = subst (λ es. GivesOnly (own (named_under read_flags es)) (λ z. given z (named_under read_flags es)) such) (entries_named e.2.0) (e.2.2 fits.1.2) in
-          record { free = refused_so e.2.0 ∙ beside.free; only = given_so e.2.0 beside.only }),
+      subst (λ fs. FormGives refusal gives passes (tree.structure (static_name name) (tree.named fs))) (sym e.2.1) (λ fits b.
+          let beside = subst (λ es. GivesOnly (own (named_under (flags_in b) es)) (λ z. given z (named_under (flags_in b) es)) such) (entries_named e.2.0) (e.2.2 fits.1.2 b) in
+          record { free = refused_so b e.2.0 ∙ beside.free; only = given_so b e.2.0 beside.only }),
     ))
     (fields_more_such {p = λ t. t ≡ tree.text (owned_text variant)}
     (λ t fs is one. (fs, ap (λ u. tree.field_then (static_name tag) u fs) is, one))

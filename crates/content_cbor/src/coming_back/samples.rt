@@ -19,5 +19,5 @@ impl<'de> CborRoundTrip<'de> for Point {
 }
 
 impl<'de> NotNull<'de> for Point {
-    ghost refuses_null = { record { of_null = λ e. absurd (cc e) } };
+    ghost refuses_null = { record { of_null = λ b e. absurd (cc e) } };
 }

@@ -1,5 +1,5 @@
--- What tuples read: each part in turn; items that are left over stay unread.
-use Rattle.std.specs.Prelude.{ℕ, ◌++◌, Option, Some, None, codes, ⊤}
+-- What tuples read: each part in turn; items that are left over stay unread, but in a buffer they are refused.
+use Rattle.std.specs.Prelude.{ℕ, ◌++◌, Option, Some, None, ◌≡◌, codes, if◌then◌else◌, ⊤}
 use Rattle.std.specs.Fmt.{decimal}
 use Rattle.content_tree.specs.Values.Tree.{no_trees, tree_then}
 use Rattle.content_tree.specs.Errors.Cause.{Cause, custom}
@@ -40,9 +40,9 @@ abbrev pub part_then : (expected found : ℕ) → Refusal → (SeqLeft → Optio
 part_then expected found refusal others s =
     first_of (part_refusal expected found refusal (first_item s)) (others (after_item s))
 
--- no part is left to read
-abbrev pub no_part : SeqLeft → Option Cause
-no_part s = None
+-- no part is left to read; in a buffer no item may be left over
+abbrev pub end_of_parts : (expected : ℕ) → SeqLeft → Option Cause
+end_of_parts expected s = if s.flags.buffered then no_more expected s else None
 
 -- this value for one part, and then the others
 abbrev pub PartThen : {A : Type 0} → Gives A → A → (SeqLeft → Type 0) → SeqLeft → Type 0
@@ -55,3 +55,7 @@ MemorylessThen memoryless others s = PartMemoryless memoryless (first_item s) ×
 -- no part is left to read
 abbrev pub NoPart : SeqLeft → Type 0
 NoPart s = ⊤
+
+-- what is left over isn't refused
+abbrev pub MayEnd : (expected : ℕ) → SeqLeft → Type 0
+MayEnd expected s = end_of_parts expected s ≡ None

@@ -14,7 +14,7 @@ origin_of (source.Identifier n i) = of_identifier (text_of n) i
 
 -- the flags
 abbrev pub flags_of : read.Flags → Flags
-flags_of s = record { human_readable = s.human_readable; coerces = s.coerces }
+flags_of s = record { human_readable = s.human_readable; coerces = s.coerces; buffered = s.buffered }
 
 -- what a deserializer stands for
 abbrev pub subject : Deserializer → Subject

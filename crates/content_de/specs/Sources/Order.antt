@@ -15,9 +15,10 @@ origin_cmp (of_tree a) (of_identifier m j) = Less
 origin_cmp (of_identifier n i) (of_tree b) = Greater
 origin_cmp (of_identifier n i) (of_identifier m j) = ordering_then (text_cmp n m) (nat_cmp i j)
 
--- first whether what is read is for people, then whether numbers are coerced
+-- first whether what is read is human readable, then whether numbers are coerced, then whether it is buffered
 abbrev pub flags_cmp : Flags → Flags → Ordering
-flags_cmp f g = ordering_then (bool_cmp f.human_readable g.human_readable) (bool_cmp f.coerces g.coerces)
+flags_cmp f g = ordering_then (bool_cmp f.human_readable g.human_readable)
+    (ordering_then (bool_cmp f.coerces g.coerces) (bool_cmp f.buffered g.buffered))
 
 -- by origin, then by the flags
 abbrev pub subject_cmp : Subject → Subject → Ordering

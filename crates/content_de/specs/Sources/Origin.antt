@@ -24,27 +24,40 @@ abbrev pub origin_image : Origin → Image
 origin_image (of_tree t) = image t
 origin_image (of_identifier n i) = identifier n.content
 
--- the two flags: what is read is for people, and numbers are coerced
+-- the flags: what is read is human readable, numbers are coerced, and it is read as Serde reads out of a buffer
 pub record Flags : Type 0 where
   pub human_readable : Bool
   pub coerces : Bool
+  pub buffered : Bool
 
--- both off
+-- all off
 abbrev pub no_flags : Flags
-no_flags = record { human_readable = false; coerces = false }
+no_flags = record { human_readable = false; coerces = false; buffered = false }
+
+-- the flags in a buffer: numbers are coerced there
+abbrev pub buffering : Flags → Flags
+buffering f = record { human_readable = f.human_readable; coerces = true; buffered = true }
 
 -- an origin with its flags
 pub record Subject : Type 0 where
   pub origin : Origin
   pub flags : Flags
 
+-- an origin with these flags
+abbrev pub under : Flags → Origin → Subject
+under f o = record { origin = o; flags = f }
+
 -- a tree with these flags
 abbrev pub tree_under : Flags → Tree → Subject
 tree_under f t = record { origin = of_tree t; flags = f }
 
--- an identifier is for people, whatever stands around it, and coerces as that does
+-- the same, read out of a buffer
+abbrev pub in_buffer : Subject → Subject
+in_buffer s = record { origin = s.origin; flags = buffering s.flags }
+
+-- an identifier is human readable, and has the other flags of what it is a part of
 abbrev pub identifier_flags : Flags → Flags
-identifier_flags f = record { human_readable = true; coerces = f.coerces }
+identifier_flags f = record { human_readable = true; coerces = f.coerces; buffered = f.buffered }
 
 -- a key or a tag under the flags of what it stands in
 abbrev pub subject_under : Flags → Origin → Subject

@@ -10,7 +10,7 @@ use Rattle.content_tree.specs.Errors.Cause.{Cause}
 use Rattle.content_ser.specs.Grammar.Token as token
 use Rattle.content_ser.specs.Grammar.Spells.{spells_series}
 use Rattle.content_ser.specs.Scripts.Standard.{ScriptOf, option_script, items_script, seq_script}
-use Rattle.content_de.specs.Sources.Origin.{Origin, of_tree, of_identifier, Flags, tree_under}
+use Rattle.content_de.specs.Sources.Origin.{Origin, of_tree, of_identifier, Flags, tree_under, under}
 use Rattle.content_de.specs.Outcomes.{refusal_then, IsTaken}
 use Rattle.content_de.specs.Requests.Leaves.{held_by}
 use Rattle.content_de.specs.Accesses.Seq.{seq_at}
@@ -18,7 +18,7 @@ use Rattle.content_de.specs.Reads.Read.{Refusal, Gives, first_of}
 use Rattle.content_de.specs.Reads.Standard.{held_refusal, HeldGives, items_refusal, ItemsGive}
 use Rattle.content_de.specs.Reads.Standard.{seq_refusal, SeqGives}
 use Rattle.serde_content.specs.RoundTrip.{SpellsSuch, GivesOnly, ComesBack, MayGive, CoercionKeeps}
-use Rattle.serde_content.specs.RoundTrip.{flags, under}
+use Rattle.serde_content.specs.RoundTrip.{flags}
 use Rattle.serde_content.specs.Laws.Spelled.{RowSuch, Spelled, spelled_call, such_spelled}
 use Rattle.serde_content.specs.Laws.Spelled.{leaf_such}
 use Rattle.serde_content.specs.Laws.Spelled.{wrapped_such, row_end, row_more}

@@ -20,7 +20,7 @@ use Rattle.content_tree.specs.contracts.number.NumberPartialEq.TheImpl as number
 use Rattle.content_tree.proofs.DerivedTies.{equal_numbers}
 use Rattle.content_ser.specs.Calls.Event as event
 use Rattle.content_ser.specs.Scripts.Standard.{only}
-use Rattle.content_de.specs.Sources.Origin.{Origin, of_tree, Flags, tree_under}
+use Rattle.content_de.specs.Sources.Origin.{Origin, of_tree, Flags, tree_under, under}
 use Rattle.content_de.specs.Outcomes.{Outcome, taken, refused, misfit, IsRefused, IsTaken}
 use Rattle.content_de.specs.Outcomes.{refusal_of}
 use Rattle.content_de.specs.Requests.Data.{or_else}
@@ -29,7 +29,7 @@ use Rattle.content_de.specs.Requests.Numbers.{number_from, expected_number}
 use Rattle.content_de.specs.Accesses.Node.{shape_at}
 use Rattle.content_de.specs.Reads.Standard.{HasContent, number_in, number_refusal}
 use Rattle.serde_content.specs.RoundTrip.{ComesBack, CoercionKeeps}
-use Rattle.serde_content.specs.RoundTrip.{flags, under}
+use Rattle.serde_content.specs.RoundTrip.{flags}
 use Rattle.serde_content.specs.Laws.Spelled.{leaf_such}
 
 -- what is the same is equal

@@ -21,14 +21,14 @@ use Rattle.content_ser.specs.Grammar.Spells.{MapItem, entry, value_among, pairs,
 use Rattle.content_ser.specs.Grammar.Spells.{spells_map, items_end, items_entry}
 use Rattle.content_ser.specs.Scripts.Script.{Script, done, call_then, and_then}
 use Rattle.content_ser.specs.Scripts.Standard.{ScriptOf, entries_script, map_script}
-use Rattle.content_de.specs.Sources.Origin.{Origin, of_tree, Flags, tree_under}
+use Rattle.content_de.specs.Sources.Origin.{Origin, of_tree, Flags, tree_under, under}
 use Rattle.content_de.specs.Outcomes.{refusal_then, IsTaken}
 use Rattle.content_de.specs.Requests.Compounds.{entries_of_pairs}
 use Rattle.content_de.specs.Accesses.Map.{map_at}
 use Rattle.content_de.specs.Reads.Read.{Refusal, Gives}
 use Rattle.content_de.specs.Reads.Maps.{entries_refusal, EntriesGive, map_refusal, MapGives}
 use Rattle.serde_content.specs.RoundTrip.{SpellsSuch, GivesOnly, ComesBack, MayGive, CoercionKeeps}
-use Rattle.serde_content.specs.RoundTrip.{EntriesExist, flags, under}
+use Rattle.serde_content.specs.RoundTrip.{EntriesExist, flags}
 use Rattle.serde_content.specs.Laws.Spelled.{TreeSuch, Spelled, spelled_only, spelled_call}
 use Rattle.serde_content.specs.Laws.Spelled.{spelled_then, spelled_such, such_spelled}
 use Rattle.serde_content.specs.Laws.Holders.{both_free, first_free, second_free}

@@ -12,7 +12,7 @@ use Rattle.content_ser.specs.Scripts.Script.{Script}
 use Rattle.content_ser.specs.Scripts.Standard.{ScriptOf}
 use Rattle.content_ser.specs.Scripts.Own.{end_script, field_first, struct_script}
 use Rattle.content_ser.specs.Scripts.Own.{newtype_struct_script}
-use Rattle.content_de.specs.Sources.Origin.{Origin, of_tree, of_identifier, Flags, tree_under}
+use Rattle.content_de.specs.Sources.Origin.{Origin, of_tree, of_identifier, Flags, tree_under, under}
 use Rattle.content_de.specs.Outcomes.{Outcome, taken, refused, outcome_map, refusal_then, IsTaken}
 use Rattle.content_de.specs.Requests.Leaves.{text_from}
 use Rattle.content_de.specs.Requests.Compounds.{entries_of_fields, newtype_in, struct_from}
@@ -23,7 +23,7 @@ use Rattle.content_de.specs.Reads.Own.{no_field}
 use Rattle.content_de.specs.Reads.Own.{FieldThen, NoField, newtype_struct_refusal}
 use Rattle.content_de.specs.Reads.Own.{NewtypeStructGives}
 use Rattle.serde_content.specs.RoundTrip.{SpellsSuch, GivesOnly, ComesBack, MayGive, CoercionKeeps}
-use Rattle.serde_content.specs.RoundTrip.{flags, under}
+use Rattle.serde_content.specs.RoundTrip.{flags}
 use Rattle.serde_content.specs.Laws.Spelled.{FieldsSuch, Spelled, spelled_call, such_spelled}
 use Rattle.serde_content.specs.Laws.Spelled.{wrapped_such, fields_end_such, fields_more_such}
 use Rattle.serde_content.specs.Laws.Holders.{both_free, first_free, second_free}

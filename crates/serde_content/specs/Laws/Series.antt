@@ -1,5 +1,5 @@
 -- Values by place come back where each part does.
-use Rattle.std.specs.Prelude.{◌≡◌, ℕ, Bool, true, false, ◌&&◌, List, Option, refl, ⊤}
+use Rattle.std.specs.Prelude.{◌≡◌, ℕ, Bool, true, false, ◌&&◌, List, Option, None, if◌then◌else◌, refl, ⊤}
 use Rattle.content_tree.specs.Values.Tree as tree
 use Rattle.content_tree.specs.Values.Tree.{Trees}
 use Rattle.content_tree.specs.Errors.Cause.{Cause}
@@ -18,7 +18,7 @@ use Rattle.content_de.specs.Requests.Compounds.{tuple_from, tuple_struct_from}
 use Rattle.content_de.specs.Accesses.Seq.{SeqLeft, tuple_at, items_under}
 use Rattle.content_de.specs.Reads.Read.{Refusal, Gives}
 use Rattle.content_de.specs.Reads.Own.{tuple_struct_refusal, TupleStructGives}
-use Rattle.content_de.specs.Reads.Tuples.{part_then, no_part, PartThen, NoPart}
+use Rattle.content_de.specs.Reads.Tuples.{part_then, end_of_parts, PartThen, NoPart}
 use Rattle.serde_content.specs.RoundTrip.{SpellsSuch, GivesOnly, ComesBack, MayGive, CoercionKeeps}
 use Rattle.serde_content.specs.RoundTrip.{flags}
 use Rattle.serde_content.specs.Laws.Spelled.{RowSuch, Spelled, spelled_call, such_spelled}
@@ -33,9 +33,18 @@ both_hold e d = rw (e, d) refl
 pub record PartsBack {Y : Type 0} (m : ItemCall) (script : Bool → Script) (refusal : SeqLeft → Option Cause) (given : Y → SeqLeft → Type 0) (such : Y → Type 0) : Type 0 where
   pub of_flags : (f : Flags) → Spelled (RowSuch m (λ ts. GivesOnly (refusal (items_under f ts)) (λ y. given y (items_under f ts)) such)) (script f.human_readable)
 
+-- the same in both cases
+either_way : {A : Type 0} (b : Bool) (x : A) → (if b then x else x) ≡ x
+either_way true x = refl
+either_way false x = refl
+
+-- where nothing is left over, nothing is refused, in a buffer or out of it
+pub nothing_left : (n : ℕ) (f : Flags) → end_of_parts n (items_under f tree.no_trees) ≡ None
+nothing_left n f = either_way f.buffered None
+
 -- no part
-pub parts_end : {Y : Type 0} {m : ItemCall} → PartsBack {Y = Y} m (only event.end) no_part (λ y. NoPart) (λ y. ⊤)
-parts_end = record { of_flags = λ f. row_end (record { free = refl; only = λ y h. tt }) }
+pub parts_end : {Y : Type 0} {m : ItemCall} (n : ℕ) → PartsBack {Y = Y} m (only event.end) (end_of_parts n) (λ y. NoPart) (λ y. ⊤)
+parts_end n = record { of_flags = λ f. row_end (record { free = nothing_left n f; only = λ y h. tt }) }
 
 -- a part after its call, and then the others
 part_after : {A Y : Type 0} {exists : A → Type 0} {script : ScriptOf A} {refusal : Refusal} {gives : Gives A} {eq : A → A → Bool} {m : ItemCall} {rest : Bool → Script} {others : SeqLeft → Option Cause}
@@ -73,8 +82,8 @@ pub record PartsKeep {Y : Type 0} (refusal : SeqLeft → Option Cause) (given : 
       → MayGive (refusal (items_under (flags h true) ts)) (λ z. given z (items_under (flags h true) ts)) y
 
 -- no part
-pub parts_end_keeps : {Y : Type 0} → PartsKeep {Y = Y} no_part (λ y. NoPart)
-parts_end_keeps = record { of_items = λ ts h y p. record { free = refl; given = tt } }
+pub parts_end_keeps : {Y : Type 0} (n : ℕ) → PartsKeep {Y = Y} (end_of_parts n) (λ y. NoPart)
+parts_end_keeps n = record { of_items = λ ts h y p. record { free = refl; given = tt } }
 
 -- one part, and then the others
 part_kept : {A Y : Type 0} {refusal : Refusal} {gives : Gives A} {others : SeqLeft → Option Cause} {given : Y → SeqLeft → Type 0} (see : Y → A) (expected found : ℕ)

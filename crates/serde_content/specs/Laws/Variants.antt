@@ -15,7 +15,7 @@ use Rattle.content_ser.specs.Scripts.Script.{Script}
 use Rattle.content_ser.specs.Scripts.Standard.{ScriptOf}
 use Rattle.content_ser.specs.Scripts.Own.{unit_variant_script, newtype_variant_script}
 use Rattle.content_ser.specs.Scripts.Own.{tuple_variant_script, struct_variant_script}
-use Rattle.content_de.specs.Sources.Origin.{Origin, of_tree, of_identifier, Flags, tree_under}
+use Rattle.content_de.specs.Sources.Origin.{Origin, of_tree, of_identifier, Flags, tree_under, under}
 use Rattle.content_de.specs.Outcomes.{Outcome, taken, refused, refusal_then, IsTaken}
 use Rattle.content_de.specs.Requests.Data.{or_else}
 use Rattle.content_de.specs.Requests.Leaves.{text_from}
@@ -31,7 +31,7 @@ use Rattle.content_de.specs.Reads.Own.{tuple_variant_refusal, TupleVariantGives}
 use Rattle.content_de.specs.Reads.Own.{struct_variant_refusal, StructVariantGives}
 use Rattle.content_tree.specs.declared.expected.DataType.TheVariants as kind
 use Rattle.serde_content.specs.RoundTrip.{SpellsSuch, GivesOnly, ComesBack, MayGive, CoercionKeeps}
-use Rattle.serde_content.specs.RoundTrip.{flags, under}
+use Rattle.serde_content.specs.RoundTrip.{flags}
 use Rattle.serde_content.specs.Laws.Spelled.{spelled_call, such_spelled, leaf_such, wrapped_such}
 use Rattle.serde_content.specs.Laws.Series.{PartsBack, PartsKeep}
 use Rattle.serde_content.specs.Laws.Records.{FieldsBack, FieldsKeep}

@@ -14,11 +14,11 @@ impl<'de, A: RoundTrip<'de>> RoundTrip<'de> for (A,) {
 
     ghost comes_back = { record {
       of_value = λ x real f. tuple_back
-          (element_back A.comes_back x.0 real (λ y. y.0) 1 0 parts_end)
+          (element_back A.comes_back x.0 real (λ y. y.0) 1 0 (parts_end 1))
           f (λ y h. h.0);
     } };
 
-    ghost keeps = { tuple_keeps 1 (part_keeps (λ y. y.0) 1 0 A.keeps parts_end_keeps) };
+    ghost keeps = { tuple_keeps 1 (part_keeps (λ y. y.0) 1 0 A.keeps (parts_end_keeps 1)) };
 }
 
 impl<'de, A: RoundTrip<'de>, B: RoundTrip<'de>> RoundTrip<'de> for (A, B) {
@@ -32,12 +32,12 @@ impl<'de, A: RoundTrip<'de>, B: RoundTrip<'de>> RoundTrip<'de> for (A, B) {
     ghost comes_back = { record {
       of_value = λ x real f. tuple_back
           (element_back A.comes_back x.0 real.0 (λ y. y.0) 2 0
-          (element_back B.comes_back x.1 real.1 (λ y. y.1) 2 1 parts_end))
+          (element_back B.comes_back x.1 real.1 (λ y. y.1) 2 1 (parts_end 2)))
           f (λ y h. both_hold h.0 h.1.0);
     } };
 
     ghost keeps = { tuple_keeps 2 (part_keeps (λ y. y.0) 2 0 A.keeps
-        (part_keeps (λ y. y.1) 2 1 B.keeps parts_end_keeps)) };
+        (part_keeps (λ y. y.1) 2 1 B.keeps (parts_end_keeps 2))) };
 }
 
 impl<'de, A: RoundTrip<'de>, B: RoundTrip<'de>, C: RoundTrip<'de>> RoundTrip<'de> for (A, B, C) {
@@ -53,13 +53,13 @@ impl<'de, A: RoundTrip<'de>, B: RoundTrip<'de>, C: RoundTrip<'de>> RoundTrip<'de
       of_value = λ x real f. tuple_back
           (element_back A.comes_back x.0 real.0 (λ y. y.0) 3 0
           (element_back B.comes_back x.1 real.1 (λ y. y.1) 3 1
-          (element_back C.comes_back x.2 real.2 (λ y. y.2) 3 2 parts_end)))
+          (element_back C.comes_back x.2 real.2 (λ y. y.2) 3 2 (parts_end 3))))
           f (λ y h. both_hold (both_hold h.0 h.1.0) h.1.1.0);
     } };
 
     ghost keeps = { tuple_keeps 3 (part_keeps (λ y. y.0) 3 0 A.keeps
         (part_keeps (λ y. y.1) 3 1 B.keeps
-        (part_keeps (λ y. y.2) 3 2 C.keeps parts_end_keeps))) };
+        (part_keeps (λ y. y.2) 3 2 C.keeps (parts_end_keeps 3)))) };
 }
 
 impl<'de, A: RoundTrip<'de>, B: RoundTrip<'de>, C: RoundTrip<'de>, D: RoundTrip<'de>> RoundTrip<'de>
@@ -78,12 +78,12 @@ impl<'de, A: RoundTrip<'de>, B: RoundTrip<'de>, C: RoundTrip<'de>, D: RoundTrip<
           (element_back A.comes_back x.0 real.0 (λ y. y.0) 4 0
           (element_back B.comes_back x.1 real.1 (λ y. y.1) 4 1
           (element_back C.comes_back x.2 real.2 (λ y. y.2) 4 2
-          (element_back D.comes_back x.3 real.3 (λ y. y.3) 4 3 parts_end))))
+          (element_back D.comes_back x.3 real.3 (λ y. y.3) 4 3 (parts_end 4)))))
           f (λ y h. both_hold (both_hold (both_hold h.0 h.1.0) h.1.1.0) h.1.1.1.0);
     } };
 
     ghost keeps = { tuple_keeps 4 (part_keeps (λ y. y.0) 4 0 A.keeps
         (part_keeps (λ y. y.1) 4 1 B.keeps
         (part_keeps (λ y. y.2) 4 2 C.keeps
-        (part_keeps (λ y. y.3) 4 3 D.keeps parts_end_keeps)))) };
+        (part_keeps (λ y. y.3) 4 3 D.keeps (parts_end_keeps 4))))) };
 }

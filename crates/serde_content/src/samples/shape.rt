@@ -9,7 +9,7 @@ ghost use Rattle.content_ser.specs.Laws.OwnScripts.{tuple_variant_lawful, unit_v
 ghost use Rattle.content_ser.specs.Scripts.Own.{end_script, field_first, newtype_variant_script};
 ghost use Rattle.content_ser.specs.Scripts.Own.{struct_variant_script, tuple_field_first};
 ghost use Rattle.content_ser.specs.Scripts.Own.{tuple_variant_script, unit_variant_script};
-ghost use Rattle.content_de.specs.Reads.Tuples.{part_then, no_part, PartThen, NoPart};
+ghost use Rattle.content_de.specs.Reads.Tuples.{part_then, end_of_parts, PartThen, NoPart};
 ghost use Rattle.content_de.specs.Reads.Own.{field_then, no_field, FieldThen, NoField};
 ghost use Rattle.content_de.specs.Reads.Own.{enum_refusal, variant_or, no_variant, EnumGives};
 ghost use Rattle.content_de.specs.Reads.Own.{unit_variant_refusal, UnitVariantGives};
@@ -104,7 +104,7 @@ impl Serialize for Shape {
     }
 }
 
-/// The variant that the tag names; further values stay unread.
+/// The variant that the tag names; further values stay unread, but in a buffer.
 impl<'de> Deserialize<'de> for Shape {
     ghost refusal = { enum_refusal (codes "Shape")
         (variant_or (codes "Dot") unit_variant_refusal
@@ -112,7 +112,7 @@ impl<'de> Deserialize<'de> for Shape {
         (variant_or (codes "Span") (tuple_variant_refusal
         (part_then 2 0 (⟦<i32 as Deserialize<'de>>⟧.refusal)
         (part_then 2 1 (⟦<i32 as Deserialize<'de>>⟧.refusal)
-        no_part)))
+        (end_of_parts 2))))
         (variant_or (codes "Area") (struct_variant_refusal
         (field_then (codes "w") (⟦<u32 as Deserialize<'de>>⟧.refusal)
         (field_then (codes "h") (⟦<u32 as Deserialize<'de>>⟧.refusal)
@@ -181,7 +181,7 @@ impl<'de> RoundTrip<'de> for Shape {
             (tuple_variant_back
             (tuple_field_back i32_back a tt (λ (z : ℤ × ℤ). z.0) 2 0
             (tuple_field_back i32_back b tt (λ (z : ℤ × ℤ). z.1) 2 1
-            parts_end)))
+            (parts_end 2))))
             f (λ d. refl)
             (λ d only. elim [
               | shape.Dot ↦ λ it. other_variant it.0 refl
@@ -219,7 +219,7 @@ impl<'de> RoundTrip<'de> for Shape {
             (tuple_variant_keeps
             (part_keeps (λ (z : ℤ × ℤ). z.0) 2 0 (integer_keeps kind.i32)
             (part_keeps (λ (z : ℤ × ℤ). z.1) 2 1 (integer_keeps kind.i32)
-            parts_end_keeps)))
+            (parts_end_keeps 2))))
             o people (a, b) p.free p.given in
             record { free = q.0; given = q.1 }
         | shape.Area w h ↦ λ p.
