@@ -3,7 +3,7 @@ from typing import Callable, List
 
 from .declarations import Data, Item, Variant
 from .holder import Holder
-from .literals import OPENED, list_function, list_term, name_call, name_term
+from .literals import list_impl, name_call, name_term, opened
 from .text import DESERIALIZE, KNOWN, SERIALIZE, alias, all_hold, arm, bracketed, clause, elim
 from .text import facts, function, ghost, together
 from .types import in_term, snake
@@ -14,7 +14,7 @@ class EnumWriter:
 
     def __init__(self, item: Item):
         self.item, self.name, self.cases = item, name_term(item.wire), alias(item.name)
-        self.names = [v.wire for v in item.variants]
+        self.list = f"VariantsOf{item.name}"
         self.reader_name = f"read_{snake(item.name)}"
         self.sends, self.reads = "Serialize" in item.derives, "Deserialize" in item.derives
         self.variants = [(v, Holder("Variant", [item.wire, i, v.wire], v.data, item.name + v.name))
@@ -49,20 +49,12 @@ class EnumWriter:
         """Those that the impls call."""
         return [text for v, holder in self.variants
                 for text in self.maker(v) * self.reads + holder.send_function() * self.sends
-                + (holder.names_function() + self.reader(v, holder)) * self.reads
-                ] + (self.names_functions() + self.variants_reader()) * self.reads
+                + (holder.names_lists() + self.reader(v, holder)) * self.reads
+                ] + (self.names_list() + self.variants_reader()) * self.reads
 
-    def names_functions(self) -> List[str]:
-        """The functions that hand the names of the variants out, and find a tag among them."""
-        known, names = f"variants_of_{snake(self.item.name)}", list_term(self.names)
-        return [list_function(known, "The names of its variants.", self.names),
-                f"/// The index of the variant that the tag names.\nfn index_of_{snake(self.item.name)}(tag: &str) -> Option<usize>\n"
-                + clause("ensures", f"IsIndexAmong {names}\ntag.now result") + f"{{\nvariant_index(tag, {known}())\n}}\n"]
-
-    @property
-    def known(self) -> str:
-        """The names of its variants in code."""
-        return f"variants_of_{snake(self.item.name)}()"
+    def names_list(self) -> List[str]:
+        """The type that stands for the names of the variants."""
+        return [list_impl(self.list, "The names of its variants.", [v.wire for v in self.item.variants])]
 
     def reader(self, v: Variant, holder: Holder) -> List[str]:
         """The function that reads a variant's fields, all values as one."""
@@ -106,9 +98,19 @@ class EnumWriter:
         each = [f"({name_term(v.wire)[1:-1]}, {self.refusal_of(holder).strip()})" for v, holder in self.variants]
         return "(variants (\n" + "\n∷ ".join(each + ["[]))"])
 
-    def given(self, v: Variant, holder: Holder, values: List[str]) -> str:
-        """What a variant may give."""
-        return f"EnumGives {self.name} {name_term(v.wire)} {bracketed(holder.gives(values))}"
+    def gives(self, holder: Holder, values: List[str]) -> str:
+        """What a variant may give, but for its name."""
+        return holder.gives(values)
+
+    def which(self, value: str) -> str:
+        """The name of a value's variant."""
+        named = elim([f"{self.case(v)} {name_term(v.wire)[1:-1]}" for v, _ in self.variants])
+        return f"({named.replace('elim', f'elim {value}', 1)})"
+
+    def held(self, value: str) -> str:
+        """What a value's variant may give, but for its name."""
+        given = self.each(lambda v, holder, x: self.gives(holder, x))
+        return f"({given.replace('elim', f'elim {value}', 1)})"
 
     def arm_lines(self, v: Variant, holder: Holder) -> List[str]:
         """The statements that read a variant."""
@@ -117,23 +119,22 @@ class EnumWriter:
     def dispatch(self, tag: str) -> List[str]:
         """The statements that read the variant that a tag names."""
         arms = [arm(f"Some({i})", self.arm_lines(v, holder)) for i, (v, holder) in enumerate(self.variants)]
-        return [f"match index_of_{snake(self.item.name)}({tag}) {{", *arms,
-                f"_ => Err(unknown_variant(alloc, {tag}, {self.known})),", "}"]
+        return [f"match variant_index({tag}, &{self.list}) {{", *arms,
+                f"_ => Err(no_such_variant(alloc, {tag}, &{self.list})),", "}"]
 
     def variants_reader(self) -> List[str]:
         """The function that reads the variant that a tag names."""
-        held = "(variant_view variant.entry)"
-        gives = self.each(lambda v, holder, x: f"(tag.now ≡ {name_term(v.wire)[1:-1]}) × {holder.gives(x)} {held}")
-        lines = "\n".join(self.dispatch("tag"))
+        lines, left = "\n".join(self.dispatch("tag")), "(variant_view variant.entry)"
         return [f"/// The variant that the tag names.\nfn {self.reader_name}<'de, 'n: 'de>(alloc: Global, tag: &str,"
                 f" variant: VariantAccess<'de, 'n>) -> Result<{self.item.name}>\n"
-                + clause("ensures", f"Reads ({self.refusals()}\ntag.now {held})\n({gives}) result") + f"{{\n{lines}\n}}\n"]
+                + clause("ensures", f"Reads ({self.refusals()}\ntag.now {left})\n(λ y. VariantGives {self.which('y')}\n"
+                         f"{self.held('y')}\ntag.now {left}) result") + f"{{\n{lines}\n}}\n"]
 
     def deserialize(self) -> List[str]:
         return [ghost("refusal", f"enum_refusal {self.name} {self.refusals()}"),
-                ghost("gives", "λ s. " + self.each(lambda v, h, x: f"{self.given(v, h, x)} s")),
+                ghost("gives", f"λ s y. EnumGives {self.name}\n{self.which('y')}\n{self.held('y')} s"),
                 function(DESERIALIZE.format(self.item.name),
-                         f"let access = from.deserialize_enum(alloc, {name_call(self.item.wire)}, {self.known})?;",
+                         f"let access = from.deserialize_enum(alloc, {name_call(self.item.wire)}, {self.list}::names())?;",
                          "let (tag, variant) = access.variant::<CowStr<'de>>(alloc)?;",
                          f"{self.reader_name}(alloc, tag.as_str(), variant)")]
 
@@ -152,7 +153,7 @@ class EnumWriter:
         looks = self.item.asked()
         return [ghost("exists", self.each(lambda v, holder, x: holder.exists(x)))] * looks + [
             function(KNOWN, *self.match(known) * looks),
-            ghost("comes_back", f"record {{\nof_value = {self.each(self.back)};\n}}"),
+            ghost("comes_back", opened(f"record {{\nof_value = {self.each(self.back)};\n}}")),
             ghost("keeps", self.coercion_keeps())]
 
     def coercion_keeps(self) -> str:
@@ -162,18 +163,18 @@ class EnumWriter:
     def back(self, v: Variant, holder: Holder, values: List[str]) -> str:
         """That a variant comes back."""
         law = f"{holder.word}_back{holder.back(values, self.sees(holder))}"
-        return (f"λ real f. variant_back Self.refusal Self.gives {bracketed(law)}\nf (λ d. {OPENED})\n"
+        return (f"λ real f. variant_back Self.refusal Self.gives {bracketed(law)}\nf (λ d. refl)\n"
                 f"(λ d only. {elim([self.read(v, w) for w in self.item.variants])})")
 
     def cbor_round_trip(self) -> List[str]:
-        return [ghost("kept", f"record {{\nof_value = {self.each(self.kept)};\n}}")]
+        return [ghost("kept", opened(f"record {{\nof_value = {self.each(self.kept)};\n}}"))]
 
     def kept(self, v: Variant, holder: Holder, values: List[str]) -> str:
         """That a variant comes back from CBOR."""
         law = f"{holder.word}_kept{holder.kept(values, self.sees(holder))}"
         it = f"(given_as b {self.name} {name_term(v.wire)} d it)"
         read = elim([self.read(v, w, f"{it}.named", f"{it}.held") for w in self.item.variants])
-        return f"λ real. variant_comes_back _ Self.gives {bracketed(law)}\n(λ v. {OPENED})\n(λ b d only. {read})"
+        return f"λ real. variant_comes_back _ Self.gives {bracketed(law)}\n(λ v. refl)\n(λ b d only. {read})"
 
     def read(self, sent: Variant, read: Variant, named: str = "it.0", held: str = "it.1") -> str:
         """That a variant that was read is equal to the one that was sent, by what is known of its
@@ -181,7 +182,7 @@ class EnumWriter:
         values = self.leaves(read, "y")
         pattern = self.case(read, "y") + " λ it. "
         if read is not sent:
-            return pattern + f"other_variant {named} (unfold name in refl)"
+            return pattern + f"other_variant {named} refl"
         if not values:
             return pattern + "refl"
         if self.alone(read):
@@ -195,7 +196,7 @@ class EnumWriter:
     def keeps(self, v: Variant, holder: Holder, values: List[str]) -> str:
         """That a variant is given with coercion where it is without."""
         law = f"{holder.word}_keeps{holder.keeps(self.sees(holder))}"
-        return (f"λ p.\nlet q = variant_kept {self.name} {name_term(v.wire)} _ (λ v. {OPENED}) {bracketed(law)}\n"
+        return (f"λ p.\nlet q = variant_kept {self.name} {name_term(v.wire)} _ (λ v. refl) {bracketed(law)}\n"
                 f"o people {together(values)} p.free p.given in\nrecord {{ free = q.0; given = q.1 }}")
 
     @staticmethod

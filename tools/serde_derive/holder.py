@@ -2,7 +2,7 @@
 from typing import Callable, List, NamedTuple, Optional, Tuple
 
 from .declarations import Data, Field
-from .literals import list_function, list_term, name_call, name_term
+from .literals import list_impl, list_term, name_call, name_term
 from .text import clause, fields_reader, together
 from .types import READ, TRIP, nest, snake
 from .words import READERS, SENDERS
@@ -71,24 +71,31 @@ class Holder:
         self.call = f"Call::{self.camel}({', '.join(written)})"
         self.of_variant = sort == "Variant"
         self.sender, self.reader = f"send_{snake(owner)}", f"read_{snake(owner)}"
-        self.known_function = f"fields_of_{snake(owner)}"
+        self.list = f"FieldsOf{owner}"
         self.names_known = [f.wire for f in data.fields]
         self.before: List[Tuple[str, str]] = []
         self.head = "" if self.of_variant else " " + self.names
         self.name = "" if self.of_variant else written[0]
 
-    @property
-    def known(self) -> str:
-        """The names of its fields in code."""
-        if len(self.names_known) > 1:
-            return f"{self.known_function}()"
-        return f"&[{', '.join(name_call(name) for name in self.names_known)}]"
-
-    def names_function(self) -> List[str]:
-        """The function that hands the names of its fields out, where there are several."""
-        if not self.data.named or len(self.names_known) < 2:
+    def names_lists(self) -> List[str]:
+        """The types that stand for the names of its fields: all, and those that are read together."""
+        if not self.data.named or not self.names_known:
             return []
-        return [list_function(self.known_function, "The names of its fields.", self.names_known)]
+        groups = [(start, end) for start, end in self.groups() if self.names_in(start, end) != self.names_known]
+        return [list_impl(self.list, "The names of its fields.", self.names_known)] + [
+            list_impl(self.group_list(start, end), "Those that are read together.", self.names_in(start, end))
+            for start, end in groups]
+
+    def names_in(self, start: int, end: int) -> List[str]:
+        return [f.wire for f in self.fields[start:end]]
+
+    def groups(self) -> List[Tuple[int, int]]:
+        """The fields by name that are read in one call."""
+        return [(0, self.count)] * bool(self.count)
+
+    def group_list(self, start: int, end: int) -> str:
+        """The type that stands for the names of some fields."""
+        return self.list if self.names_in(start, end) == self.names_known else f"{self.list}{start + 1}To{end}"
 
     def row(self, member: str, inners: List[str], sees: Optional[List[str]] = None, start: int = 0) -> str:
         """All its values in a member of the impls, or the one, after a blank or a line's end; or
@@ -186,7 +193,7 @@ class Holder:
 
     def read(self, make: Callable[[List[str]], str]) -> List[str]:
         """The statements that read it and make a value of what came."""
-        more = {"Struct": self.known, "Tuple": str(self.count)}.get(self.data.style)
+        more = {"Struct": f"{self.list}::names()", "Tuple": str(self.count)}.get(self.data.style)
         arguments = ", ".join(filter(None, ["alloc", self.name, more]))
         start = f"{'variant.' if self.of_variant else 'from.deserialize_'}{self.word}({arguments})?"
         places = self.data.places()
@@ -240,9 +247,11 @@ class Holder:
 
     def taken(self, fields: List[Field]) -> str:
         """The call that reads all fields, up to six, and what is left over."""
-        each = "".join(f"{name_call(f.wire)}, {f'Some({f.missing[0]})' if f.missing else 'None'}, " for f in fields)
+        start = self.fields.index(fields[0])
+        names = self.group_list(start, start + len(fields))
+        each = "".join(f"{f'Some({f.missing[0]})' if f.missing else 'None'}, " for f in fields)
         closed = "true" if self.data.closed else "false"
-        return f"{READERS[len(fields) - 1]}(alloc, fields, {each}{self.known}, {closed})"
+        return f"{READERS[len(fields) - 1]}(alloc, fields, &{names}, {each}&{self.list}, {closed})"
 
     def reader_at(self, start: int) -> str:
         return f"{self.reader}_from_{start + 1}" if start else self.reader

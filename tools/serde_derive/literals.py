@@ -7,11 +7,10 @@ import re
 from itertools import chain, count
 from typing import Dict, List
 
-from .text import clause
+from .text import clause, ghost
 
 CALL = re.compile("\x02([^\x03]*)\x03")
 SEALED = "#[tactic(auto, unfolding(serde_content::specs::Literals::name))]"
-OPENED = "unfold name index_among in refl"
 
 
 def name_term(name: str) -> str:
@@ -29,12 +28,17 @@ def list_term(names: List[str]) -> str:
     return "(" + " ∷ ".join([name_term(name)[1:-1] for name in names] + ["[]"]) + ")"
 
 
-def list_function(function: str, about: str, names: List[str]) -> str:
-    """The function that hands a list of names out."""
+def opened(term: str) -> str:
+    """A term that looks into names."""
+    return f"unfold name index_among in {term}"
+
+
+def list_impl(owner: str, about: str, names: List[str]) -> str:
+    """The type that stands for a list of names, which hands it out."""
     shown = ", ".join(f'"{name}"' for name in names)
-    return (f"/// {about}\n{SEALED}\nfn {function}() -> &'static [&'static str]\n"
-            + clause("ensures", f"map (λ name. name.now) result.now ≡ {list_term(names)[1:-1]}")
-            + f"{{\n&[{shown}]\n}}\n")
+    return (f"/// {about}\nstruct {owner};\n\nimpl Names for {owner} {{\n"
+            + ghost("names", list_term(names)[1:-1])
+            + f"\n\n{SEALED}\nfn names() -> &'static [&'static str] {{\n&[{shown}]\n}}\n}}\n")
 
 
 def name_function(function: str, name: str) -> str:

@@ -54,7 +54,7 @@ class StructWriter:
         read = self.holder.read_functions(
             self.item.data.made(self.item.name, self.holder.data.places()), self.item.name,
             [f"z.{in_term(f.name)}" for f in self.fields])
-        return self.holder.send_function() * self.sends + (self.holder.names_function() + read) * self.reads
+        return self.holder.send_function() * self.sends + (self.holder.names_lists() + read) * self.reads
 
     def serialize(self) -> List[str]:
         return [ghost("script", f"λ p. {self.holder.script(self.values)}"),

@@ -6,7 +6,7 @@ from typing import List, Optional
 from .declarations import Data, Field, Item, Refused, Variant
 from .enums import EnumWriter
 from .holder import Holder
-from .literals import OPENED, name_call, name_term
+from .literals import name_call, name_term
 from .text import DESERIALIZE, arm, elim, fields_reader, function, ghost, together
 from .types import DEFAULTS, nest
 
@@ -64,22 +64,25 @@ class TaggedWriter(EnumWriter):
     def refusal_of(self, holder: Holder) -> str:
         return holder.refusal_row()
 
-    def given(self, v: Variant, holder: Holder, values: List[str]) -> str:
-        return f"TagThen {name_term(self.tag)} {name_term(v.wire)}{holder.gives_row(values)}"
+    def gives(self, holder: Holder, values: List[str]) -> str:
+        return holder.gives_row(values).strip()
 
     def arm_lines(self, v: Variant, holder: Holder) -> List[str]:
         places = v.data.places()
         end = "end" if v.data.closed else "skip"
         read = f"let {together(places)} = {holder.reader}(alloc, fields)?;" if places else (
-            f"{end}_fields(alloc, fields, {holder.known})?;")
+            f"{end}_fields(alloc, fields, &[{name_call(self.tag)}])?;")
         return [read, f"Ok({self.making(v)(places)})"]
+
+    def given(self) -> str:
+        """What its fields may give for a value `y`."""
+        return f"TagThen {name_term(self.tag)}\n{self.which('y')}\n{self.held('y')}"
 
     def variants_reader(self) -> List[str]:
         """The function that reads the tag, and then the variant."""
-        gives = self.each(lambda v, holder, x: f"{self.given(v, holder, x)} (fields_left fields.entry)")
         return [fields_reader(
             "The variant that its tag names.", self.reader_name, self.item.name,
-            f"tag_then {name_term(self.tag)} {self.refusals()}", gives,
+            f"tag_then {name_term(self.tag)} {self.refusals()}", f"λ y. {self.given()} (fields_left fields.entry)",
             [f"let tag = tag_field(alloc, &mut fields, {name_call(self.tag)})?;", *self.dispatch("tag.as_str()")])]
 
     def deserialize(self) -> List[str]:
@@ -87,8 +90,7 @@ class TaggedWriter(EnumWriter):
         read = f"read_by_name (tag_then {name_term(self.tag)} {self.refusals()})"
         request = f"from.deserialize_struct(alloc, {name_call(self.item.wire)}, &[{name_call(self.tag)}])?"
         return [ghost("refusal", f"struct_refusal {name} ({read})"),
-                ghost("gives", "λ s. " + self.each(
-                    lambda v, holder, x: f"StructGives {name} (ReadByName\n({self.given(v, holder, x)})) s")),
+                ghost("gives", f"λ s y. StructGives {name} (ReadByName\n({self.given()})) s"),
                 function(DESERIALIZE.format(self.item.name),
                          f"let fields = {request}.by_name();", f"{self.reader_name}(alloc, fields)")]
 
@@ -99,17 +101,17 @@ class TaggedWriter(EnumWriter):
 
     def back(self, v: Variant, holder: Holder, values: List[str]) -> str:
         row = self.unit(v, holder.back_row(values, self.sees(holder)))
-        return (f"λ real f. tagged_back Self.refusal Self.gives{row}\nf (λ fs. {OPENED})\n"
+        return (f"λ real f. tagged_back Self.refusal Self.gives{row}\nf (λ fs. refl)\n"
                 f"(λ fs only. {elim([self.read(v, w) for w in self.item.variants])})")
 
     def kept(self, v: Variant, holder: Holder, values: List[str]) -> str:
         row = self.unit(v, holder.kept_row(values, self.sees(holder)))
-        return (f"λ real. tagged_kept Self.refusal Self.gives{row}\n(λ b fs. {OPENED})\n"
+        return (f"λ real. tagged_kept Self.refusal Self.gives{row}\n(λ b fs. refl)\n"
                 f"(λ b fs only. {elim([self.read(v, w) for w in self.item.variants])})")
 
     def keeps(self, v: Variant, holder: Holder, values: List[str]) -> str:
         row = self.unit(v, holder.keeps_row(self.sees(holder)))
         return (f"λ p.\nlet q = (struct_keeps {name_term(self.item.wire)} (by_name_keeps\n"
-                f"(tag_keeps {name_term(self.tag)} {name_term(v.wire)} {self.refusals()} (λ f. {OPENED}){row}))).of_origin o people"
+                f"(tag_keeps {name_term(self.tag)} {name_term(v.wire)} {self.refusals()} (λ f. refl){row}))).of_origin o people"
                 f" {together(values)}\n(record {{ free = p.free; given = p.given }}) in\n"
                 "record { free = q.free; given = q.given }")

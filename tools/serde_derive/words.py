@@ -46,7 +46,7 @@ content_de.specs.Reads.Tagged tag_then TagThen
 content_de.specs.Reads.Own enum_refusal EnumGives
 content_de.specs.Reads.Own {' '.join(f'{s}_refusal {pascal(s)}Gives' for s in STYLES)}
 serde_content.specs.Literals name
-serde_content.specs.Variants index_among IsIndexAmong variants
+serde_content.specs.Variants index_among variants VariantGives
 serde_content.specs.RoundTrip ComesBack CoercionKeeps
 serde_content.specs.Laws.Leaves heedless_keeps natural_keeps integer_keeps
 serde_content.specs.Laws.Leaves {' '.join(laws.back for laws in LEAVES.values())}
@@ -92,15 +92,15 @@ std.specs.declared.boxed.Box Box
 std.specs.declared.collections.BTreeMap BTreeMap
 """)
 COUNTS = "one two three four five six seven eight".split()
-SENDERS, READERS = [f"send_{count}" for count in COUNTS], [f"read_{count}" for count in COUNTS[:6]]
+SENDERS, READERS = [f"send_{count}" for count in COUNTS], [f"read_{count}_of" for count in COUNTS[:6]]
 PLACES = "First Second Third Fourth".split()
 CHOICES = [(f"first_of_{count}", f"OneOf{count.title()}") for count in COUNTS[1:len(PLACES)]]
 USES = {
     "content_cbor": "CborRoundTrip NotNull",
     "serde_content": "CowStr Deserializer Error Result RoundTrip",
-    "serde_content::de": f"Deserialize FieldsByName {' '.join(sorted(one for _, one in CHOICES))} VariantAccess attempt end_fields"
-                         f" field_or finish_parts {' '.join(sorted(first for first, _ in CHOICES))} named_field next_part"
-                         f" {' '.join(sorted(READERS))} skip_fields tag_field two_parts unknown_variant variant_index",
+    "serde_content::de": f"Deserialize FieldsByName {' '.join(sorted(one for _, one in CHOICES))} Names VariantAccess attempt end_fields"
+                         f" field_or finish_parts {' '.join(sorted(first for first, _ in CHOICES))} named_field next_part no_such_variant"
+                         f" {' '.join(sorted(READERS))} skip_fields tag_field two_parts variant_index",
     "serde_content::ser": f"Call Parts Serialize Serializer {' '.join(sorted(SENDERS))}",
     "std::alloc": "Global",
     "std::collections": "BTreeMap",

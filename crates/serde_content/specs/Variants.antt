@@ -26,3 +26,7 @@ abbrev pub variants : {A : Type 0} → List (List ℕ × (A → Option Cause)) �
 variants by_name tag =
     let names = map (λ variant. variant.0) by_name in
     refusal_at by_name (unknown_variant tag names) (index_among names tag)
+
+-- the tag is this name, and what it tags gives this
+abbrev pub VariantGives : {A : Type 0} → List ℕ → (A → Type 0) → List ℕ → A → Type 0
+VariantGives name held tag v = (tag ≡ name) × held v
