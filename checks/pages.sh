@@ -1,6 +1,7 @@
 #!/usr/bin/env bash
 # checks/pages.sh: compares the pages (README.md, CHANGELOG.md, CONTRIBUTING.md, docs/, bench/README.md and each crate's
 # README.md) with the repository, and ends with status 1 where one of these fails:
+# - No page has more words than the table in checks/pages/pages.py allows it; one that isn't in the table has at most 300.
 # - Each relative link leads to a file, and where it names a heading, to one of that page; each file that a page names in
 #   code type is there; each page can be reached from README.md.
 # - Each block of Rust or of definitions stands word for word, paragraph by paragraph and in its order, in one file of a

@@ -1,63 +1,63 @@
-//! Declarations that tools/derive refuses, each below the line and the reason that it answers.
+//! Declarations that tools/derive refuses, each below the lines that it answers.
 
-// 3: field `x`: floats are not covered
+// 3: A.x: floats are not covered
 #[derive(Serialize)]
 struct A {
     x: Vec<f64>,
 }
 
-// 2: `A`: type parameters and lifetimes are not covered
+// 2: A: type parameters and lifetimes are not covered: write a type for each that you use
 #[derive(Serialize)]
 struct A<T>(T);
 
-// 3: field `x`: a type that begins with `&` is not covered
+// 3: A.x: a type that begins with `&` is not covered: hold the value itself, as String for &str
 #[derive(Serialize)]
 struct A {
     x: &'static str,
 }
 
-// 2: `union` is not covered: only structs, enums and `use` are
+// 2: A: a union is not covered: write an enum
 #[derive(Serialize)]
 union A {
     x: u8,
 }
 
-// 3: serde's `skip_serializing_if` on a field is not covered: what is left out is not always read as what it was
+// 3: A.x: serde's `skip_serializing_if` on a field is not covered: what is left out is not always read as what it was
 #[derive(Serialize)]
 struct A {
     #[serde(skip_serializing_if = "Option::is_none")]
     x: Option<u8>,
 }
 
-// 3: `A`: such attributes don't go together
+// 3: A: such attributes don't go together: write `tag`, `tag` and `content`, or `untagged`
 #[derive(Serialize)]
 #[serde(content = "sort")]
 enum A {
     X,
 }
 
-// 4: variant `X`: of an enum that is tagged internally, only variants with no values and with a struct, or values by name, are covered
+// 4: A.X: of an enum that is tagged internally, only variants with no values and with a struct, or values by name, are covered
 #[derive(Serialize)]
 #[serde(tag = "sort")]
 enum A {
     X(u8, u8),
 }
 
-// 4: variant `X`: what stands beside a tag is covered where it is a struct of this file with named fields and without `deny_unknown_fields` and `flatten`
+// 4: A.X: what stands beside a tag is covered where it is a struct of this file with named fields and without `deny_unknown_fields` and `flatten`
 #[derive(Serialize)]
 #[serde(tag = "sort")]
 enum A {
     X(u8),
 }
 
-// 4: field `x`: what is flattened is covered where it is a struct of this file with named fields and without `deny_unknown_fields`
+// 4: A.x: what is flattened is covered where it is a struct of this file with named fields and without `deny_unknown_fields`
 #[derive(Serialize)]
 struct A {
     #[serde(flatten)]
     x: BTreeMap<String, u8>,
 }
 
-// 3: `A`: serde's `flatten` is covered in structs with named fields and without `deny_unknown_fields`
+// 3: A: serde's `flatten` is covered in structs with named fields and without `deny_unknown_fields`
 #[derive(Serialize)]
 #[serde(deny_unknown_fields)]
 struct A {
@@ -69,7 +69,7 @@ struct B {
     y: u8,
 }
 
-// 2: `A`: two fields are called `y`
+// 2: A: two fields are called `y`: give one another name by `rename`
 #[derive(Serialize)]
 struct A {
     y: u8,
@@ -81,7 +81,7 @@ struct B {
     y: u8,
 }
 
-// 2: `A`: such attributes don't go together
+// 2: A: such attributes don't go together: `flatten` stands alone
 #[derive(Serialize)]
 struct A {
     #[serde(flatten, default)]
@@ -92,40 +92,32 @@ struct B {
     y: u8,
 }
 
-// 3: serde's `default` so is not covered: a function of your own has no contract here
+// 3: A.x: serde's `default` so is not covered: a function of your own has no contract here
 #[derive(Serialize)]
 struct A {
     #[serde(default = "one")]
     x: u8,
 }
 
-// 2: serde's `rename` by direction is not covered: one name goes both ways
+// 2: A: serde's `rename` by direction is not covered: one name goes both ways
 #[derive(Serialize)]
 #[serde(rename(serialize = "B"))]
 struct A(u8);
 
-// 2: serde's `rename_all` knows no case `Title Case`
+// 2: A: serde's `rename_all` knows no case `Title Case`: it has lowercase, UPPERCASE, PascalCase, camelCase, snake_case, SCREAMING_SNAKE_CASE, kebab-case, SCREAMING-KEBAB-CASE
 #[derive(Serialize)]
 #[serde(rename_all = "Title Case")]
 struct A(u8);
 
-// 1: the attribute `repr` is not covered
-#[repr(C)]
-#[derive(Serialize)]
-struct A(u8);
-
-// 1: `A` derives neither Serialize nor Deserialize
-struct A(u8);
-
-// 2: the name `Call` is one that the module uses itself
+// 2: Call: the name `Call` is one that the module uses itself: give the type another name, and this one by `#[serde(rename = "Call")]`
 #[derive(Serialize)]
 struct Call(u8);
 
-// 2: `A` contains itself, which is not covered
+// 2: A.0: `A` contains itself, which is not covered, as its contract would speak of itself: write its impls by hand
 #[derive(Serialize)]
 struct A(Option<Box<A>>);
 
-// 5: two are called `x`
+// 5: A.y: two are called `x`: give one another name by `rename`
 #[derive(Serialize)]
 struct A {
     x: u8,
@@ -133,48 +125,257 @@ struct A {
     y: u8,
 }
 
-// 2: field `0`: the type `B` is not covered; one of your own is declared in this file, or named by its full path
+// 2: A.0: the type `B` is not covered; one of your own is declared in this file, or named by its full path
 #[derive(Serialize)]
 struct A(B);
 
-// 4: field `0`: `A` does not derive Eq, PartialEq
+// 4: B.0: `A` does not derive Eq, PartialEq
 #[derive(Serialize, Deserialize)]
 struct A(u8);
 #[derive(Serialize, Deserialize, PartialEq, Eq)]
 struct B(A);
 
-// 2: field `0`: a map with keys of type `Vec<u8>` is not covered
+// 2: A.0: a map with keys of type `Vec<u8>` is not covered
 #[derive(Serialize)]
 struct A(BTreeMap<Vec<u8>, u8>);
 
-// 2: field `0`: a HashMap is not covered: a BTreeMap is
+// 2: A.0: a HashMap is not covered: a BTreeMap is
 #[derive(Serialize)]
 struct A(HashMap<u8, u8>);
 
-// 2: what has no fields is covered without brackets alone
+// 2: A: what has no fields is covered without brackets alone: delete them
 #[derive(Serialize)]
 struct A {}
 
-// 3: variant `X`: a discriminant is not covered
-#[derive(Serialize)]
-enum A {
-    X = 1,
-}
-
-// 4: field `x`: its default is not covered
+// 4: A.x: its default is not covered: those of numbers, bool, String, Option, Vec and BTreeMap are, in fields with names
 #[derive(Serialize)]
 struct A {
     #[serde(default)]
     x: char,
 }
 
-// 3: the name `é` is not covered: printable ASCII but " and \ is
+// 3: A: the name `é` is not covered: printable ASCII but " and \ is
 #[derive(Serialize)]
 #[serde(rename = "é")]
 struct A(u8);
 
-// 3: `r#type` is not covered: give it a plain name, and rename it
+// 3: A.r#type: the name `r#type` is not covered: give it a plain name, and its own by `#[serde(rename = "type")]`
 #[derive(Serialize)]
 struct A {
     r#type: u8,
 }
+
+// 1: passed over: `struct A`, which derives neither Serialize nor Deserialize
+// 1: no struct or enum here derives Serialize or Deserialize: derive one of them
+struct A(u8);
+
+// 3: A.x: floats are not covered
+// 4: A.y: serde's `skip` on a field is not covered: what is left out would not come back
+// 6: A.z: `#[cfg(unix)]` is not covered, as the module is written once for all: delete it, or move what it is about to a file of its own
+// 7: A.z: a type that begins with `&` is not covered: hold the value itself, as String for &str
+// 9: A.größe: the name `größe` is not covered, as Rattle takes names in ASCII alone: give it another
+// 13: B.X.2: a type that begins with `[` is not covered: write a Vec, or a tuple of up to four
+// 13: B.X.0: floats are not covered
+// 14: B.Y.a: lifetimes are not covered: hold the value itself, as String for &str
+// 14: B.Y.b: a type that begins with `dyn` is not covered: write an enum of the types that it may be
+// 15: B.Z.0: the type `Duration` is not covered; one of your own is declared in this file, or named by its full path
+#[derive(Serialize)]
+struct A {
+    x: f32,
+    #[serde(skip, with = "x")]
+    y: u8,
+    #[cfg(unix)]
+    z: BTreeMap<&'static str, u8>,
+    ok: u8,
+    größe: u8,
+}
+#[derive(Serialize)]
+enum B {
+    X(f64, u8, [u8; 3]),
+    Y { a: Foo<'a, T>, b: Box<dyn Fn(u8) -> u8> },
+    Z(Duration),
+    W,
+}
+#[derive(Serialize)]
+struct C(A, B);
+
+// 4: A.x: the type `std::time::Duration` is not covered: hold what it is made of, as a number or a String
+// 4: A.y: the type `std::path::PathBuf` is not covered: hold what it is made of, as a number or a String
+// 4: A.z: the type `serde::Value` is not covered: hold what it is made of, as a number or a String
+// 4: A.w: a HashMap is not covered: a BTreeMap is
+use std::time::Duration;
+use serde::Value;
+#[derive(Serialize)]
+struct A { x: Duration, y: std::path::PathBuf, z: Option<Value>, w: std::collections::HashMap<u8, u8> }
+
+// 3: A.0: `Vec` is `indexmap::Vec` here, which is not covered: import it by another name
+use indexmap::Vec;
+#[derive(Serialize)]
+struct A(Vec<u8>);
+
+// 3: A.0: the name `Error` is one that the module uses itself: call that type otherwise
+use crate::errors::Error;
+#[derive(Serialize)]
+struct A(Error);
+
+// 1: passed over: `struct Plain`, which derives neither Serialize nor Deserialize
+// 4: A.x: `Plain` derives neither Serialize nor Deserialize (line 1): derive what is derived here
+struct Plain(u8);
+#[derive(Serialize)]
+struct A {
+    x: Option<Plain>,
+}
+
+// 1: passed over: `type List<T> = Vec<T>`
+// 2: passed over: `type Loop = Option<Loop>`, which is written as the type that it stands for
+// 5: A.x: the type `List<u8>` is not covered: the types that are stand in docs/OWN_TYPES.md
+// 6: A.y: the alias `Loop` stands for itself
+type List<T> = Vec<T>;
+type Loop = Option<Loop>;
+#[derive(Serialize)]
+struct A {
+    x: List<u8>,
+    y: Loop,
+}
+
+// 1: passed over: `type A1 = (u8, u8, u8, u8)`, which is written as the type that it stands for
+// 2: passed over: `type A2 = (A1, A1, A1, A1)`, which is written as the type that it stands for
+// 3: passed over: `type A3 = (A2, A2, A2, A2)`, which is written as the type that it stands for
+// 4: passed over: `type A4 = (A3, A3, A3, A3)`, which is written as the type that it stands for
+// 5: passed over: `type A5 = (A4, A4, A4, A4)`, which is written as the type that it stands for
+// 7: A.0: a type of more than 48 levels or 500 parts is not covered: divide it into structs
+type A1 = (u8, u8, u8, u8);
+type A2 = (A1, A1, A1, A1);
+type A3 = (A2, A2, A2, A2);
+type A4 = (A3, A3, A3, A3);
+type A5 = (A4, A4, A4, A4);
+#[derive(Serialize)]
+struct A(A5);
+
+// 2: A.next: `A` contains itself, which is not covered, as its contract would speak of itself: write its impls by hand
+// 6: C.X.0: `B` contains itself, which is not covered, as its contract would speak of itself: write its impls by hand
+#[derive(Serialize)]
+struct A { next: Option<Box<Self>> }
+#[derive(Serialize)]
+struct B(Vec<C>);
+#[derive(Serialize)]
+enum C { X(B) }
+
+// 1: A: `derive(JsonSchema)` is not covered, as no rule of Rattle writes it: delete it here, and write its impl by hand where you need it
+// 1: A: `derive(strum::Display)` is not covered, as no rule of Rattle writes it: delete it here, and write its impl by hand where you need it
+// 2: A: the attribute `strum` is not covered, as no derive of Rattle reads it: delete it
+// 3: A.x: the attribute `arg` is not covered, as no derive of Rattle reads it: delete it
+#[derive(Serialize, JsonSchema, strum::Display)]
+#[strum(serialize_all = "x")]
+struct A { #[arg(short)] x: u8 }
+
+// 1: A: `derive(rkyv::Deserialize)` is not covered, as no rule of Rattle writes it: delete it here, and write its impl by hand where you need it
+#[derive(Serialize, rkyv::Deserialize)]
+struct A(u8);
+
+// 2: A.x: `derive(Copy)` is not covered beside `String`, which has memory of its own: delete Copy
+// 2: A.y: `derive(Copy)` is not covered beside `Vec<u8>`, which has memory of its own: delete Copy
+// 2: A.z: `B` does not derive Copy, as what holds it does
+#[derive(Serialize, Clone, Copy)]
+struct A { x: Option<String>, y: (u8, Vec<u8>), z: B }
+#[derive(Serialize, Clone)]
+struct B(u8);
+
+// 2: A.x: `derive(Default)` is not covered beside `String`, which takes an allocator: delete Default, and write a `new(alloc)`
+// 2: A.y: `derive(Default)` is not covered beside `Box<u8>`, which takes an allocator: delete Default, and write a `new(alloc)`
+// 2: A.b: `B` does not derive Default, as what holds it does
+#[derive(Serialize, Default)]
+struct A { x: String, y: (u8, Box<u8>), z: Option<Box<u8>>, b: B }
+#[derive(Serialize)]
+struct B(u8);
+
+// 2: A: `derive(Copy)` needs Clone: derive that too
+// 4: B: `derive(Eq)` needs PartialEq: derive that too
+// 6: C: `derive(Hash)` needs Eq: derive that too
+// 6: C: `derive(Ord)` needs Eq and PartialOrd: derive that too
+#[derive(Serialize, Copy)]
+struct A(u8);
+#[derive(Serialize, Eq)]
+struct B(u8);
+#[derive(Serialize, Hash, Ord)]
+struct C(u8);
+
+// 2: A: `derive(Default)` on an enum needs `#[default]` before one variant with no values
+// 4: B.X: `#[default]` is for enums that derive Default: delete it
+// 6: C: `derive(Default)` on an enum needs `#[default]` before one variant with no values
+#[derive(Serialize, Default)]
+enum A { X, Y }
+#[derive(Serialize)]
+enum B { #[default] X, Y }
+#[derive(Serialize, Default)]
+enum C { #[default] X(u8), Y }
+
+// 2: A.ghost: `ghost` is a word of Rattle's: give the field another name, and this one by `#[serde(rename = "ghost")]`
+// 2: A.requires: `requires` is a word of Rattle's: give the field another name, and this one by `#[serde(rename = "requires")]`
+// 2: A.ensures: `ensures` is a word of Rattle's: give the field another name, and this one by `#[serde(rename = "ensures")]`
+// 2: A.deriving: `deriving` is a word of Rattle's: give the field another name, and this one by `#[serde(rename = "deriving")]`
+// 4: B.X.ensures: `ensures` is a word of Rattle's: give the field another name, and this one by `#[serde(rename = "ensures")]`
+// 4: B.ghost: `ghost` is a word of Rattle's: give the variant another name, and this one by `#[serde(rename = "ghost")]`
+#[derive(Serialize)]
+struct A { ghost: u8, requires: u8, ensures: u8, deriving: u8 }
+#[derive(Serialize)]
+enum B { ghost, X { ensures: u8 } }
+
+// 4: FOO: Rattle does not tell it from `Foo` (line 2), as it writes a file for each: give the type another name, and this one by `#[serde(rename = "FOO")]`
+#[derive(Serialize)]
+struct Foo(u8);
+#[derive(Serialize)]
+struct FOO(u8);
+
+// 2: S: the name `S` is one that the module uses itself: give the type another name, and this one by `#[serde(rename = "S")]`
+// 4: tuple: the name `tuple` is one that the module uses itself: give the type another name, and this one by `#[serde(rename = "tuple")]`
+// 6: Vec: the name `Vec` is one that the module uses itself: give the type another name, and this one by `#[serde(rename = "Vec")]`
+#[derive(Serialize)]
+enum S { X }
+#[derive(Serialize)]
+struct tuple(u8);
+#[derive(Serialize)]
+struct Vec(u8);
+
+// 4: A.1: `Other` has the name of another type that is used here: call one of them otherwise
+use crate::a::Thing;
+use crate::b::Thing as Other;
+#[derive(Serialize)]
+struct A(Thing, Other);
+
+// 5: passed over: `struct B`, which derives neither Serialize nor Deserialize
+// 2: A: `#[cfg(feature = "x")]` is not covered, as the module is written once for all: delete it, or move what it is about to a file of its own
+#[derive(Serialize)]
+#[cfg(feature = "x")]
+struct A(u8);
+#[cfg(feature = "x")]
+struct B(u8);
+
+// 2: A: serde's `transparent` on a container is not covered
+// 3: A: serde's `bound` on a container is not covered
+#[derive(Serialize)]
+#[serde(transparent)]
+#[serde(bound = "x")]
+struct A(u8);
+
+// 2: A.1: the name `Größe` is not covered, as Rattle takes names in ASCII alone: give it another
+// 2: A.2: a type that begins with `<` is not covered: write the type itself
+// 2: A.3: a type that begins with `*` is not covered: hold the value itself
+// 2: A.4: a type that begins with `impl` is not covered
+// 2: A.5: a type that begins with `!` is not covered
+// 2: A.6: a type with `::` in it is not covered: write the type itself
+// 2: A.7: a type with `!` in it is not covered: write the type itself
+// 2: A.8: a type that begins with `3` is not covered
+// 2: A.9: values as arguments of a type are not covered
+// 2: A.10: lifetimes are not covered: hold the value itself, as String for &str
+#[derive(Serialize)]
+struct A(u8, Größe, <u8 as X>::Y, *const u8, impl X, !, Vec<u8>::Item, m!(x), A<3>, A<{ 3 }>, Vec<'a>);
+
+// 3: A.X: of an enum that is tagged adjacently, only variants with no values and with one value are covered
+// 6: B.X: of an untagged enum, only one to four values by place are covered
+#[derive(Serialize, Deserialize)]
+#[serde(tag = "t", content = "c")]
+enum A { X(u8, u8) }
+#[derive(Serialize, Deserialize)]
+#[serde(untagged)]
+enum B { X, Y { x: u8 } }

@@ -37,6 +37,26 @@ FILES = files_below(TOP)
 PAGES = [it for it in FILES if re.fullmatch(r"[A-Z]+\.md|docs/\w+\.md|(bench|crates/\w+)/README\.md", it)]
 CRATES = re.findall(r"^(\w+):", read(f"{TOP}/crates.txt"), re.M)
 
+# The most words of each page, as `wc -w` counts them; a page that isn't here has at most OTHER_PAGE.
+MOST_WORDS = {
+    "README.md": 900,
+    "CHANGELOG.md": 250,
+    "CONTRIBUTING.md": 600,
+    "bench/README.md": 750,
+    "crates/check_rows/README.md": 1250,
+    "docs/ARCHITECTURE.md": 1400,
+    "docs/CALLING.md": 900,
+    "docs/CALLS.md": 1500,
+    "docs/CBOR.md": 850,
+    "docs/DIFFERENCES.md": 1000,
+    "docs/HOSTILE_INPUT.md": 850,
+    "docs/OWN_TYPES.md": 2400,
+    "docs/READING.md": 1300,
+    "docs/USES.md": 600,
+    "docs/VALUES.md": 600,
+}
+OTHER_PAGE = 300
+
 
 def blocks_of(text):
     """The fenced blocks: the words behind the fence, the text, and the text of the page before each, from the block above."""
@@ -55,6 +75,13 @@ def anchors_of(text):
     """The anchors of a page's headings."""
     heads = re.findall(r"^#+ (.*)$", prose_of(text), re.M)
     return {re.sub(r"[^\w\- ]", "", it.lower()).replace(" ", "-") for it in heads}
+
+
+def check_lengths():
+    for page in PAGES:
+        words, most = len(read(f"{TOP}/{page}").split()), MOST_WORDS.get(page, OTHER_PAGE)
+        if words > most:
+            fault(page, f"{words} words, of at most {most}")
 
 
 def check_links():
@@ -226,6 +253,7 @@ def check_readme():
 
 
 def main():
+    check_lengths()
     check_links()
     check_names()
     check_blocks()

@@ -1,17 +1,51 @@
 """Structs and enums, as they are declared."""
+import re
 from dataclasses import dataclass, field, replace
 from itertools import combinations, islice
 from typing import Dict, List, Optional, Tuple
 
 from .types import SIGNED, Type
+from .words import NO_PLACES
+
+
+MENTIONED = re.compile(r"(?:`\w+`: )?(?:(?:field|variant) `([\w.]+)`: )?")
 
 
 class Refused(Exception):
-    """What is not covered, at a line of the input."""
+    """What is not covered, at a line of the input; `where` is the type and what of it is meant."""
 
-    def __init__(self, line: int, reason: str):
+    status = 2
+
+    def __init__(self, line: int, reason: str, where: str = ""):
         super().__init__(reason)
-        self.line = line
+        self.line, self.reason, self.where = line, reason, where
+
+    def inside(self, name: str) -> "Refused":
+        """The same inside of a type, or of what is in it."""
+        found = MENTIONED.match(self.reason)
+        if found:
+            self.where = ".".join(filter(None, [found.group(1), self.where]))
+            self.reason = self.reason[found.end():]
+        self.where = ".".join(filter(None, [name, self.where]))
+        return self
+
+    def __str__(self) -> str:
+        return f"{self.where}: {self.reason}" if self.where else self.reason
+
+
+class NotRust(Refused):
+    """What is no Rust, at a line of the input."""
+
+    status = 1
+
+
+class Refusals(Exception):
+    """All that a file is refused for, in the order of its lines."""
+
+    def __init__(self, each: List[Refused]):
+        super().__init__(f"{len(each)} refused")
+        self.each = sorted(each, key=lambda refused: refused.line)
+        self.status = min(refused.status for refused in each)
 
 
 @dataclass
@@ -69,10 +103,18 @@ class Data:
         return [f for f in self.fields if not f.type.plain]
 
     def places(self) -> List[str]:
-        """The names of its values in code."""
-        taken = ("alloc", "fields", "serializer")
-        return [f"{f.name}_field" if f.name in taken else f.name.replace(".", "_") if self.named else f"x{i + 1}"
-                for i, f in enumerate(self.fields)]
+        """The names of its values in code, each once."""
+        if not self.named:
+            return [f"x{i + 1}" for i in range(len(self.fields))]
+        kept = {f.name for f in self.fields} - NO_PLACES
+        places, taken = [], NO_PLACES | kept
+        for f in self.fields:
+            place = f.name.replace(".", "_")
+            while f.name not in kept and place in taken:
+                place += "_field"
+            taken.add(place)
+            places.append(place)
+        return places
 
     def made(self, name: str, places: List[str]) -> str:
         """A value or a pattern of it, from its leaves."""
@@ -96,10 +138,11 @@ class Data:
 @dataclass
 class Variant(Named):
     """A variant of an enum. Where it holds a struct whose fields stand beside the tag, `beside` is
-    that struct."""
+    that struct. Its functions are called after its `owner`."""
 
     data: Data = field(default_factory=Data)
     beside: Optional["Item"] = None
+    owner: str = ""
 
     def signed(self) -> bool:
         return any(f.type.name in SIGNED for f in self.data.fields)
@@ -112,13 +155,19 @@ class Variant(Named):
 
 @dataclass
 class Item(Named):
-    """A struct or an enum, with the traits that it derives."""
+    """A struct or an enum, with the traits that it derives. Its functions are called after its
+    `owner`, and contracts know an enum's variants by `cases`. `levels` is how deep what is flattened
+    stands; what is not `covered` is not written."""
 
     sort: str = "struct"
     visible: str = ""
     derives: List[str] = field(default_factory=list)
     data: Data = field(default_factory=Data)
     variants: List[Variant] = field(default_factory=list)
+    covered: bool = True
+    levels: int = 1
+    owner: str = ""
+    cases: str = ""
 
     def parts(self) -> List[Data]:
         """The data of the struct, or of each variant."""

@@ -1,23 +1,23 @@
 """The impls of an enum that is tagged externally, and what those of others share with them."""
 from typing import Callable, List
 
+from .cases import pascal
 from .declarations import Data, Item, Variant
 from .holder import Holder
-from .literals import list_impl, name_call, name_term, opened
-from .text import DESERIALIZE, KNOWN, SERIALIZE, alias, all_hold, arm, bracketed, clause, elim
+from .literals import list_impl, name_method, name_term, opened
+from .text import DESERIALIZE, KNOWN, SERIALIZE, all_hold, arm, bracketed, clause, elim
 from .text import facts, function, ghost, together
-from .types import in_term, snake
+from .types import in_term
 
 
 class EnumWriter:
     """The impls of an enum, each member by cases."""
 
     def __init__(self, item: Item):
-        self.item, self.name, self.cases = item, name_term(item.wire), alias(item.name)
-        self.list = f"VariantsOf{item.name}"
-        self.reader_name = f"read_{snake(item.name)}"
+        self.item, self.name, self.cases = item, name_term(item.wire), item.cases
+        self.list = f"NamesOf{pascal(item.owner)}"
         self.sends, self.reads = "Serialize" in item.derives, "Deserialize" in item.derives
-        self.variants = [(v, Holder("Variant", [item.wire, i, v.wire], v.data, item.name + v.name))
+        self.variants = [(v, Holder("Variant", [item.wire, i, v.wire], v.data, v.owner))
                          for i, v in enumerate(item.variants)]
 
     @staticmethod
@@ -50,7 +50,7 @@ class EnumWriter:
         return [text for v, holder in self.variants
                 for text in self.maker(v) * self.reads + holder.send_function() * self.sends
                 + (holder.names_lists() + self.reader(v, holder)) * self.reads
-                ] + (self.names_list() + self.variants_reader()) * self.reads
+                ] + self.names_list() * self.reads
 
     def names_list(self) -> List[str]:
         """The type that stands for the names of the variants."""
@@ -78,7 +78,7 @@ class EnumWriter:
                 + clause("ensures", f"result ≡ {made}") + f"{{\n{self.made(v, places)}\n}}\n"]
 
     def maker_name(self, v: Variant) -> str:
-        return f"make_{snake(self.item.name + v.name)}"
+        return f"make_{v.owner}"
 
     def match(self, arms: List[str]) -> List[str]:
         return ["match self {"] + arms + ["}"]
@@ -99,18 +99,8 @@ class EnumWriter:
         return "(variants (\n" + "\n∷ ".join(each + ["[]))"])
 
     def gives(self, holder: Holder, values: List[str]) -> str:
-        """What a variant may give, but for its name."""
+        """What a variant gives, whatever its name."""
         return holder.gives(values)
-
-    def which(self, value: str) -> str:
-        """The name of a value's variant."""
-        named = elim([f"{self.case(v)} {name_term(v.wire)[1:-1]}" for v, _ in self.variants])
-        return f"({named.replace('elim', f'elim {value}', 1)})"
-
-    def held(self, value: str) -> str:
-        """What a value's variant may give, but for its name."""
-        given = self.each(lambda v, holder, x: self.gives(holder, x))
-        return f"({given.replace('elim', f'elim {value}', 1)})"
 
     def arm_lines(self, v: Variant, holder: Holder) -> List[str]:
         """The statements that read a variant."""
@@ -122,21 +112,32 @@ class EnumWriter:
         return [f"match variant_index({tag}, &{self.list}) {{", *arms,
                 f"_ => Err(no_such_variant(alloc, {tag}, &{self.list})),", "}"]
 
-    def variants_reader(self) -> List[str]:
-        """The function that reads the variant that a tag names."""
-        lines, left = "\n".join(self.dispatch("tag")), "(variant_view variant.entry)"
-        return [f"/// The variant that the tag names.\nfn {self.reader_name}<'de, 'n: 'de>(alloc: Global, tag: &str,"
-                f" variant: VariantAccess<'de, 'n>) -> Result<{self.item.name}>\n"
-                + clause("ensures", f"Reads ({self.refusals()}\ntag.now {left})\n(λ y. VariantGives {self.which('y')}\n"
-                         f"{self.held('y')}\ntag.now {left}) result") + f"{{\n{lines}\n}}\n"]
+    def variants_ghosts(self) -> List[str]:
+        """What contracts see of the variants."""
+        return [ghost("name", self.name[1:-1]),
+                ghost("refusal", self.refusals()[1:-1]),
+                ghost("named", self.each(lambda v, holder, x: name_term(v.wire)[1:-1])),
+                ghost("held", self.each(lambda v, holder, x: self.gives(holder, x)))]
+
+    def variants_impl(self) -> List[str]:
+        """The members of the impl that reads the variant that a tag names."""
+        read = (f"fn read_variant<'n: 'de>(alloc: Global, tag: &str, variant: VariantAccess<'de, 'n>)"
+                f" -> Result<{self.item.name}>")
+        return self.variants_ghosts() + [
+            name_method("name", self.item.wire),
+            f"fn names() -> &'static [&'static str] {{\n{self.list}::names()\n}}",
+            function(read, *self.dispatch("tag"))]
+
+    variants_trait = "Variants<'de>"
+
+    def member(self, word: str) -> str:
+        """A ghost member of that impl."""
+        return f"⟦<{self.item.name} as {self.variants_trait}>⟧.{word}"
 
     def deserialize(self) -> List[str]:
-        return [ghost("refusal", f"enum_refusal {self.name} {self.refusals()}"),
-                ghost("gives", f"λ s y. EnumGives {self.name}\n{self.which('y')}\n{self.held('y')} s"),
-                function(DESERIALIZE.format(self.item.name),
-                         f"let access = from.deserialize_enum(alloc, {name_call(self.item.wire)}, {self.list}::names())?;",
-                         "let (tag, variant) = access.variant::<CowStr<'de>>(alloc)?;",
-                         f"{self.reader_name}(alloc, tag.as_str(), variant)")]
+        return [ghost("refusal", f"enum_refusal {self.name} {self.member('refusal')}"),
+                ghost("gives", f"λ s y. EnumGives {self.name}\n({self.member('named')} y)\n({self.member('held')} y) s"),
+                function(DESERIALIZE.format(self.item.name), "read_enum(alloc, from)")]
 
     def making(self, v: Variant) -> Callable[[List[str]], str]:
         """How the code makes a variant: by its own function, where it has one."""

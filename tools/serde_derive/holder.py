@@ -1,6 +1,7 @@
 """What is written of what a struct or a variant holds."""
 from typing import Callable, List, NamedTuple, Optional, Tuple
 
+from .cases import pascal
 from .declarations import Data, Field
 from .literals import list_impl, list_term, name_call, name_term
 from .text import clause, fields_reader, together
@@ -70,8 +71,8 @@ class Holder:
         written = [str(n) if isinstance(n, int) else name_call(n) for n in names + [self.count] * self.many]
         self.call = f"Call::{self.camel}({', '.join(written)})"
         self.of_variant = sort == "Variant"
-        self.sender, self.reader = f"send_{snake(owner)}", f"read_{snake(owner)}"
-        self.list = f"FieldsOf{owner}"
+        self.sender, self.reader = f"send_{owner}", f"read_{owner}"
+        self.list = f"FieldsOf{pascal(owner)}"
         self.names_known = [f.wire for f in data.fields]
         self.before: List[Tuple[str, str]] = []
         self.head = "" if self.of_variant else " " + self.names
@@ -90,8 +91,11 @@ class Holder:
         return [f.wire for f in self.fields[start:end]]
 
     def groups(self) -> List[Tuple[int, int]]:
-        """The fields by name that are read in one call."""
-        return [(0, self.count)] * bool(self.count)
+        """The fields that are read in one call: the last, up to six."""
+        start = 0
+        while self.count - start > len(READERS):
+            start += 2
+        return [(start, self.count)] * (start < self.count)
 
     def group_list(self, start: int, end: int) -> str:
         """The type that stands for the names of some fields."""
@@ -158,9 +162,10 @@ class Holder:
             inner = [f"(T{i}.script x{i}.now)" for i in places]
             script = f"P.first parts{self.row('script', inner, start=start)}" if start else self.script(
                 [f"{v}.now" for v in values], [f"T{i}.script" for i in places])
-            later = self.count if len(pairs) <= len(SENDERS) else start + len(SENDERS) - len(before)
+            calls = len(self.announced("", ""))
+            later = self.count if len(pairs) <= len(SENDERS) else start + (len(SENDERS) - len(before)) // calls
             body = sending(head, pairs) if later == self.count else (
-                f"let parts = {handed_on(head, pairs[:len(SENDERS)])};\n"
+                f"let parts = {handed_on(head, pairs[:len(before) + (later - start) * calls])};\n"
                 f"{self.sender_at(later)}(alloc, serializer, parts, {', '.join(values[later - start:])})")
             types = ", ".join(["S: Serializer"] + ["P: Parts"] * bool(start) + [f"T{i}: Serialize" for i in places])
             given = ", ".join(["alloc: Global", "serializer: &mut S"] + ["parts: P"] * bool(start)

@@ -41,6 +41,11 @@ def list_impl(owner: str, about: str, names: List[str]) -> str:
             + f"\n\n{SEALED}\nfn names() -> &'static [&'static str] {{\n&[{shown}]\n}}\n}}\n")
 
 
+def name_method(method: str, name: str) -> str:
+    """The method that hands a name out."""
+    return f'{SEALED}\nfn {method}() -> &\'static str {{\n"{name}"\n}}'
+
+
 def name_function(function: str, name: str) -> str:
     """The function that hands a name out."""
     return (f'/// The name `{name}`.\n{SEALED}\nfn {function}() -> &\'static str\n'

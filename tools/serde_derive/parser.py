@@ -1,243 +1,169 @@
-"""Reads the declarations of a file of Rust."""
-import re
-from typing import Callable, Dict, List, NamedTuple, Optional, Tuple
+"""Reads structs and enums."""
+from typing import Callable, List, Optional, Tuple
 
-from .declarations import Data, Field, Item, Refused, Variant
-from .names import CASES
+from .attributes import Attributes, Head
+from .declarations import Data, Field, Item, NotRust, Refused, Variant
+from .tokens import KEYWORDS
 from .types import Type
 
-
-class Token(NamedTuple):
-    """A token of Rust; a documentation comment is one too."""
-
-    sort: str
-    text: str
-    line: int
-
-
-TOKEN = re.compile(r"""
-    (?P<blank>\s+|//(?![/!])[^\n]*|////[^\n]*|/\*(?:[^*]|\*(?!/))*\*/)
-  | (?P<doc>//[/!][^\n]*)
-  | (?P<text>"(?:[^"\\]|\\.)*")
-  | (?P<lifetime>'[A-Za-z_]\w*(?!'))
-  | (?P<name>(?:r\#)?[A-Za-z_]\w*)
-  | (?P<sign>::|->|=>|.)""", re.VERBOSE | re.DOTALL)
-
-COVERED = {
-    "a container": {"rename", "rename_all", "rename_all_fields", "deny_unknown_fields", "untagged",
-                    "tag", "content"},
-    "a variant": {"rename", "rename_all"},
-    "a field": {"rename", "default", "flatten"},
-}
-NOT_COVERED = {
-    "f32": "floats are not covered", "f64": "floats are not covered",
-    "HashMap": "a HashMap is not covered: a BTreeMap is",
-    "skip_serializing_if": "what is left out is not always read as what it was",
-    "skip": "what is left out would not come back",
-    "skip_serializing": "what is left out would not come back",
-    "skip_deserializing": "what is left unread would not come back",
-    "with": "a function of your own has no contract here",
+DEEPEST = 48
+MOST_FIELDS, MOST_VARIANTS = 250, 500
+BEGINS = {
+    "&": "hold the value itself, as String for &str", "[": "write a Vec, or a tuple of up to four",
+    "*": "hold the value itself", "dyn": "write an enum of the types that it may be",
+    "<": "write the type itself",
 }
 
 
-class Parser:
-    """Reads the declarations of a file."""
+class Parser(Attributes):
+    """Reads structs and enums; what is refused in one of them is kept, and the next part is read."""
 
     def __init__(self, source: str):
-        self.tokens, self.place, line = [], 0, 1
-        for found in TOKEN.finditer(source):
-            if found.lastgroup != "blank":
-                self.tokens.append(Token(found.lastgroup, found.group(), line))
-            line += found.group().count("\n")
-        self.tokens.append(Token("end", "the end of the file", line))
-
-    @property
-    def next(self) -> Token:
-        return self.tokens[self.place]
-
-    def take(self) -> str:
-        self.place += self.next.sort != "end"
-        return self.tokens[self.place - 1].text
-
-    def eat(self, text: str) -> bool:
-        """Takes this token, if it comes next."""
-        came = self.next.text == text
-        self.place += came
-        return came
-
-    def expect(self, text: str) -> None:
-        if not self.eat(text):
-            raise Refused(self.next.line, f"expected `{text}`, found `{self.next.text}`")
-
-    def name(self) -> str:
-        if self.next.sort != "name":
-            raise Refused(self.next.line, f"expected a name, found `{self.next.text}`")
-        if self.next.text.startswith("r#"):
-            raise Refused(self.next.line, f"`{self.next.text}` is not covered: give it a plain name, and rename it")
-        return self.take()
-
-    def path(self) -> List[str]:
-        """Names with `::` between them."""
-        self.eat("::")
-        names = [self.name()]
-        while self.next.text == "::" and self.tokens[self.place + 1].sort == "name":
-            self.take()
-            names.append(self.name())
-        return names
-
-    def listed(self, close: str, one: Callable[[], None]) -> bool:
-        """Items with commas between them, up to the closing sign; whether a comma was the last."""
-        comma = False
-        while not self.eat(close):
-            one()
-            comma = self.eat(",")
-            if not comma:
-                self.expect(close)
-                break
-        return comma
-
-    def file(self) -> Tuple[List[str], Dict[str, List[str]], List[Item]]:
-        """The file's documentation, the paths that it uses, and its declarations."""
-        docs, uses, items = [], {}, []
-        while self.next.text.startswith("//!"):
-            docs.append(self.take().rstrip())
-        while self.next.sort != "end":
-            if self.eat("use"):
-                self.used([], uses)
-                self.expect(";")
-            else:
-                items.append(self.item())
-        return docs, uses, items
-
-    def used(self, before: List[str], into: Dict[str, List[str]]) -> None:
-        """A path of a `use`, or several in braces."""
-        path = before + self.path()
-        if self.eat("::"):
-            self.expect("{")
-            self.listed("}", lambda: self.used(path, into))
-        else:
-            into[self.name() if self.eat("as") else path[-1]] = path
-
-    def head(self, level: str) -> Tuple[List[str], List[str], Dict[str, str]]:
-        """The lines before a declaration that are kept, its derives and Serde's attributes."""
-        lines, derives, serde = [], [], {}
-        while self.next.text == "#" or self.next.text.startswith("///"):
-            if not self.eat("#"):
-                lines.append(self.take().rstrip())
-                continue
-            self.expect("[")
-            line, attribute = self.next.line, self.name()
-            if attribute == "derive":
-                self.expect("(")
-                self.listed(")", lambda: derives.append(self.path()[-1]))
-            elif attribute == "serde":
-                self.expect("(")
-                self.listed(")", lambda: self.serde(level, serde))
-            elif attribute == "default" and level == "a variant":
-                lines.append("#[default]")
-            else:
-                raise Refused(line, f"the attribute `{attribute}` is not covered")
-            self.expect("]")
-        return lines, derives, serde
-
-    def serde(self, level: str, into: Dict[str, str]) -> None:
-        """One of Serde's attributes."""
-        line, key = self.next.line, self.name()
-        if key not in COVERED[level]:
-            why = NOT_COVERED.get(key)
-            raise Refused(line, f"serde's `{key}` on {level} is not covered" + (f": {why}" if why else ""))
-        if self.next.text == "(":
-            raise Refused(line, f"serde's `{key}` by direction is not covered: one name goes both ways")
-        valued = self.eat("=")
-        if valued != (key in ("tag", "content") or key.startswith("rename")):
-            why = NOT_COVERED["with"] if valued else "it lacks a value"
-            raise Refused(line, f"serde's `{key}` so is not covered: {why}")
-        if key in into:
-            raise Refused(line, f"serde's `{key}` stands twice")
-        into[key] = self.take()[1:-1] if valued else ""
-        if key.startswith("rename_all") and into[key] not in CASES:
-            raise Refused(line, f"serde's `{key}` knows no case `{into[key]}`")
+        super().__init__(source)
+        self.refused: List[Refused] = []
+        self.notes: List[Tuple[int, str]] = []
 
     def visibility(self) -> str:
         """`pub`, with what stands in its brackets, and a blank."""
         if not self.eat("pub"):
             return ""
-        words = []
-        if self.eat("("):
-            while not self.eat(")"):
-                words.append(self.take())
-        return f"pub({' '.join(words)}) " if words else "pub "
+        inside = self.after()
+        one = self.place in self.pairs and self.pairs[self.place] == self.place + 2
+        if self.next.text != "(" or not (inside.text == "in" or (one and inside.text in ("crate", "self", "super"))):
+            return "pub "
+        start = self.place
+        self.pass_one()
+        return f"pub{self.shown(start)} "
 
-    def type(self) -> Type:
+    def type(self, depth: int = 0) -> Type:
         """A type; those that aren't known yet have no home."""
-        line, arguments = self.next.line, []
+        line = self.next.line
+        if depth > DEEPEST:
+            raise Refused(line, f"a type of more than {DEEPEST} levels is not covered: divide it into structs")
+        arguments: List[Type] = []
         if self.eat("("):
-            comma = self.listed(")", lambda: arguments.append(self.type()))
+            comma = self.listed(")", lambda: arguments.append(self.type(depth + 1)))
             if len(arguments) == 1 and not comma:
                 return arguments[0]
             return Type("tuple", tuple(arguments)) if arguments else Type("()")
-        if self.next.sort != "name" or self.next.text in ("dyn", "impl", "fn", "unsafe", "extern"):
-            raise Refused(line, f"a type that begins with `{self.next.text}` is not covered")
+        self.check_begins(line)
         path = self.path()
-        if self.eat("<"):
-            if self.next.sort == "lifetime":
-                raise Refused(line, "lifetimes are not covered")
-            self.listed(">", lambda: arguments.append(self.type()))
-        standard = path[0] in ("std", "core", "alloc")
-        return Type(path[-1] if standard else "::".join(path), tuple(arguments))
+        if self.eat("<") or (self.next.text == "::" and self.after().text == "<" and self.take() and self.take()):
+            self.listed(">", lambda: arguments.append(self.type(depth + 1)))
+        if self.next.text in ("::", "!", "="):
+            raise Refused(line, f"a type with `{self.next.text}` in it is not covered: write the type itself")
+        return Type("::".join(path), tuple(arguments))
 
-    def field(self, place: Optional[int]) -> Field:
-        """A field, by name where it has no place."""
-        head, _, serde = self.head("a field")
-        line, visible = self.next.line, self.visibility()
-        name = self.name() if place is None else str(place)
-        if place is None:
-            self.expect(":")
+    def check_begins(self, line: int) -> None:
+        """Refuses what begins a type that is not covered."""
+        begins, sort = self.next.text, self.next.sort
+        if sort == "lifetime":
+            raise Refused(line, "lifetimes are not covered: hold the value itself, as String for &str")
+        if begins in BEGINS or begins in ("!", "impl", "fn", "unsafe", "extern", "for", "_") or sort in ("number", "text"):
+            hint = BEGINS.get(begins)
+            raise Refused(line, f"a type that begins with `{begins}` is not covered" + (f": {hint}" if hint else ""))
+        if begins == "{":
+            raise Refused(line, "values as arguments of a type are not covered")
+
+    def guarded(self, name: str, head: Head, read: Callable[[], None], angles: bool = False) -> bool:
+        """Reads a part of a declaration; what is refused in it is kept under its name, and the part is
+        passed. Whether it was read."""
+        before, start = len(self.refused), self.place
         try:
-            return Field(name, line, head, serde, type=self.type(), visible=visible)
+            read()
+        except NotRust:
+            raise
         except Refused as refused:
-            raise Refused(refused.line, f"field `{name}`: {refused}") from None
+            self.refused.append(refused)
+            self.place = start
+            self.pass_to(",", angles=angles)
+        self.refused += head.refused
+        self.notes += head.notes
+        for refused in self.refused[before:]:
+            refused.inside(name)
+        return len(self.refused) == before
+
+    def field(self, place: Optional[int], into: List[Field]) -> None:
+        """A field, by name where it has no place."""
+        head = self.head("a field")
+        line, visible = self.next.line, self.visibility()
+        into.append(Field(self.next.text if place is None else str(place), line, head.lines, head.serde, visible=visible))
+
+        def read() -> None:
+            if place is None:
+                into[-1].name = self.name()
+                self.expect(":")
+            into[-1].type = self.type()
+
+        self.guarded(into[-1].name, head, read, angles=True)
 
     def data(self) -> Data:
         """What stands in braces or brackets, or nothing."""
         line, fields = self.next.line, []
         if self.eat("{"):
             style = "Struct"
-            self.listed("}", lambda: fields.append(self.field(None)))
+            self.listed("}", lambda: self.field(None, fields))
         elif self.eat("("):
-            self.listed(")", lambda: fields.append(self.field(len(fields))))
+            self.listed(")", lambda: self.field(len(fields), fields))
             style = "Tuple" if len(fields) > 1 else "Newtype"
         else:
             return Data()
         if not fields:
-            raise Refused(line, "what has no fields is covered without brackets alone")
+            raise Refused(line, "what has no fields is covered without brackets alone: delete them")
+        if len(fields) > MOST_FIELDS:
+            raise Refused(line, f"more than {MOST_FIELDS} fields are not covered: put some into a struct with `flatten`")
         return Data(style, fields)
 
-    def variant(self) -> Variant:
+    def variant(self, into: List[Variant]) -> None:
         """A variant of an enum."""
-        head, _, serde = self.head("a variant")
-        line, name = self.next.line, self.name()
-        variant = Variant(name, line, head, serde, data=self.data())
-        if self.next.text == "=":
-            raise Refused(line, f"variant `{name}`: a discriminant is not covered")
-        return variant
+        head = self.head("a variant")
+        into.append(Variant(self.next.text, self.next.line, head.lines, head.serde))
 
-    def item(self) -> Item:
-        """A struct or an enum."""
-        head, derives, serde = self.head("a container")
-        visible, line, sort = self.visibility(), self.next.line, self.take()
-        if sort not in ("struct", "enum"):
-            raise Refused(line, f"`{sort}` is not covered: only structs, enums and `use` are")
-        item = Item(self.name(), line, head, serde, sort=sort, visible=visible, derives=derives)
+        def read() -> None:
+            into[-1].name = self.name()
+            into[-1].data = self.data()
+            if self.next.text == "=":
+                start, line = self.place, self.next.line
+                self.pass_to(",")
+                self.notes.append((line, f"left out: the discriminant `{into[-1].name} {self.shown(start)}`"))
+
+        self.guarded(into[-1].name, head, read)
+
+    def item(self, head: Head, visible: str) -> Item:
+        """A struct or an enum, from that word on."""
+        line, sort = self.next.line, self.take().text
+        item = Item(self.next.text, line, head.lines, head.serde, sort=sort, visible=visible, derives=head.derives)
+        start = self.place
+        item.covered = self.guarded(item.name, head, lambda: self.body(item))
+        if not item.covered:
+            self.place = start
+            self.pass_item()
+        return item
+
+    def body(self, item: Item) -> None:
+        """The name of a struct or an enum, and what it holds."""
+        line = self.next.line
+        item.name = self.name()
+        if item.sort == "union":
+            raise Refused(line, "a union is not covered: write an enum")
         if self.next.text in ("<", "where"):
-            raise Refused(line, f"`{item.name}`: type parameters and lifetimes are not covered")
-        if sort == "struct":
+            raise Refused(line, "type parameters and lifetimes are not covered: write a type for each that you use")
+        if item.sort == "struct":
             item.data = self.data()
             if not item.data.named:
                 self.expect(";")
-        else:
-            self.expect("{")
-            self.listed("}", lambda: item.variants.append(self.variant()))
-            if not item.variants:
-                raise Refused(line, f"`{item.name}`: an enum of no variants is not covered")
-        return item
+            return
+        self.expect("{")
+        self.listed("}", lambda: self.variant(item.variants))
+        if not item.variants:
+            raise Refused(line, "an enum of no variants is not covered, as no value of it is sent or read")
+        if len(item.variants) > MOST_VARIANTS:
+            raise Refused(line, f"more than {MOST_VARIANTS} variants are not covered: hold a text or a number")
+
+    def pass_item(self) -> None:
+        """Passes an item up to its end: a `;`, or what stands in braces."""
+        while self.next.sort != "end" and not self.eat(";"):
+            brace = self.next.text == "{"
+            self.pass_one()
+            if brace:
+                break

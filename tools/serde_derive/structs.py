@@ -14,7 +14,7 @@ class FlattenedHolder(Holder):
     by_key = FLATTENED
 
     def __init__(self, item: Item):
-        super().__init__("Struct", [], item.data.flat(), item.name)
+        super().__init__("Struct", [], item.data.flat(), item.owner)
         self.word, self.camel, self.head, self.call = "flattened", "Flattened", "", "Call::Map(None)"
 
     def script(self, values: List[str], members: Optional[List[str]] = None) -> str:
@@ -45,7 +45,7 @@ class StructWriter:
     def __init__(self, item: Item):
         self.item, self.fields = item, item.data.leaves()
         self.sends, self.reads = "Serialize" in item.derives, "Deserialize" in item.derives
-        self.holder = FlattenedHolder(item) if item.flattens() else Holder("Struct", [item.wire], item.data, item.name)
+        self.holder = FlattenedHolder(item) if item.flattens() else Holder("Struct", [item.wire], item.data, item.owner)
         self.values = [f"p.{in_term(f.name)}" for f in self.fields]
         self.sees = [f"(λ q. q.{in_term(f.name)})" for f in self.fields]
 

@@ -6,8 +6,8 @@ from typing import List, Optional
 from .declarations import Data, Field, Item, Refused, Variant
 from .enums import EnumWriter
 from .holder import Holder
-from .literals import name_call, name_term
-from .text import DESERIALIZE, arm, elim, fields_reader, function, ghost, together
+from .literals import name_call, name_method, name_term
+from .text import DESERIALIZE, elim, function, ghost, together
 from .types import DEFAULTS, nest
 
 
@@ -18,7 +18,7 @@ class TaggedHolder(Holder):
 
     def __init__(self, item: Item, tag: str, v: Variant, fields: List[Field]):
         data, name = Data("Struct", fields, v.data.closed), (v.beside or item).wire
-        super().__init__("Struct", [name], data, item.name + v.name)
+        super().__init__("Struct", [name], data, v.owner)
         self.names_known = [tag] + self.names_known
         self.tag, self.variant = tag, v.wire
         self.call = f"Call::Struct({name_call(name)}, {self.count + 1})"
@@ -74,25 +74,28 @@ class TaggedWriter(EnumWriter):
             f"{end}_fields(alloc, fields, &[{name_call(self.tag)}])?;")
         return [read, f"Ok({self.making(v)(places)})"]
 
-    def given(self) -> str:
-        """What its fields may give for a value `y`."""
-        return f"TagThen {name_term(self.tag)}\n{self.which('y')}\n{self.held('y')}"
+    @property
+    def buffered(self) -> str:
+        """What the words say where the fields beside the tag are read out of a buffer."""
+        return "" if self.content else "buffered"
 
-    def variants_reader(self) -> List[str]:
-        """The function that reads the tag, and then the variant."""
-        return [fields_reader(
-            "The variant that its tag names.", self.reader_name, self.item.name,
-            f"tag_then {name_term(self.tag)} {self.refusals()}", f"λ y. {self.given()} (fields_left fields.entry)",
-            [f"let tag = tag_field(alloc, &mut fields, {name_call(self.tag)})?;", *self.dispatch("tag.as_str()")])]
+    variants_trait = "TaggedVariants<'de>"
+
+    def variants_impl(self) -> List[str]:
+        read = (f"fn read_variant<'n: 'de>(alloc: Global, tag: &str, fields: FieldsByName<'de, 'n>)"
+                f" -> Result<{self.item.name}>")
+        ghosts = self.variants_ghosts()
+        return [*ghosts[:1], ghost("tag_name", name_term(self.tag)[1:-1]), *ghosts[1:],
+                name_method("name", self.item.wire), name_method("tag", self.tag),
+                function(read, *self.dispatch("tag"))]
 
     def deserialize(self) -> List[str]:
-        name = name_term(self.item.wire)
-        read = f"read_by_name (tag_then {name_term(self.tag)} {self.refusals()})"
-        request = f"from.deserialize_struct(alloc, {name_call(self.item.wire)}, &[{name_call(self.tag)}])?"
-        return [ghost("refusal", f"struct_refusal {name} ({read})"),
-                ghost("gives", f"λ s y. StructGives {name} (ReadByName\n({self.given()})) s"),
+        name, tag, ending = name_term(self.item.wire), name_term(self.tag), "_buffered" * bool(self.buffered)
+        fields = f"TagThen{self.buffered.title()} {tag}\n({self.member('named')} y)\n({self.member('held')} y)"
+        return [ghost("refusal", f"struct_refusal {name} (read_by_name (tag_then{ending} {tag}\n{self.member('refusal')}))"),
+                ghost("gives", f"λ s y. StructGives {name} (ReadByName\n({fields})) s"),
                 function(DESERIALIZE.format(self.item.name),
-                         f"let fields = {request}.by_name();", f"{self.reader_name}(alloc, fields)")]
+                         f"read_{'tagged' if self.buffered else 'adjacent'}(alloc, from)")]
 
     @staticmethod
     def unit(v: Variant, row: str) -> str:
@@ -101,17 +104,27 @@ class TaggedWriter(EnumWriter):
 
     def back(self, v: Variant, holder: Holder, values: List[str]) -> str:
         row = self.unit(v, holder.back_row(values, self.sees(holder)))
-        return (f"λ real f. tagged_back Self.refusal Self.gives{row}\nf (λ fs. refl)\n"
+        beside = "(buffering f)" if self.buffered else "f"
+        return (f"λ real f. tagged_back Self.refusal Self.gives{row}\nf {beside} refl (λ fs. refl)\n"
                 f"(λ fs only. {elim([self.read(v, w) for w in self.item.variants])})")
 
     def kept(self, v: Variant, holder: Holder, values: List[str]) -> str:
         row = self.unit(v, holder.kept_row(values, self.sees(holder)))
-        return (f"λ real. tagged_kept Self.refusal Self.gives{row}\n(λ b fs. refl)\n"
+        inside = "true" if self.buffered else "b"
+        return (f"λ real. tagged_kept Self.refusal Self.gives{row}\n(λ b. {inside}) (λ b fs. refl)\n"
                 f"(λ b fs only. {elim([self.read(v, w) for w in self.item.variants])})")
 
     def keeps(self, v: Variant, holder: Holder, values: List[str]) -> str:
-        row = self.unit(v, holder.keeps_row(self.sees(holder)))
         return (f"λ p.\nlet q = (struct_keeps {name_term(self.item.wire)} (by_name_keeps\n"
-                f"(tag_keeps {name_term(self.tag)} {name_term(v.wire)} {self.refusals()} (λ f. refl){row}))).of_origin o people"
+                f"({self.tag_keeps(v, holder)}))).of_origin o people"
                 f" {together(values)}\n(record {{ free = p.free; given = p.given }}) in\n"
                 "record { free = q.free; given = q.given }")
+
+    def tag_keeps(self, v: Variant, holder: Holder) -> str:
+        """The law that what the fields give without coercion they give with it."""
+        words = f"{name_term(self.tag)} {name_term(v.wire)} {self.member('refusal')}"
+        if not self.buffered:
+            return f"tag_keeps {words} (λ f. refl){self.unit(v, holder.keeps_row(self.sees(holder)))}"
+        values = ["z"] if holder.count == 1 else [f"z.{i}" for i in range(holder.count)]
+        seen = " × ".join(f.type.seen() for f in holder.fields) or "Unit {0}"
+        return f"tag_keeps_buffered {words}\n(λ (z : {seen}).{holder.gives_row(values)})"

@@ -2,8 +2,8 @@
 import re
 from typing import List
 
-from .types import RESERVED, snake
-from .words import ALIASES, WORDS
+from .types import snake
+from .words import ALIASES, RESERVED, WORDS
 
 
 SERIALIZE = "fn serialize<S: Serializer>(&self, alloc: Global, serializer: &mut S) -> Result<()>"
@@ -82,10 +82,11 @@ def together(values: List[str]) -> str:
     return f"({', '.join(values)})" if len(values) > 1 else "".join(values) or "tt"
 
 
-BOUND = set("b d f h it m o only p people q readable real s same v x y z".split())
+BOUND = set("b cc d e f fits free fs given h it law m o one only p people q readable real refl result s same search t"
+            " there tt v x y z absurd grind".split())
 
 
 def alias(name: str) -> str:
     """What the cases of an enum are called, apart from the other names of contracts."""
     short = snake(name)
-    return f"the_{short}" if short in BOUND or short in RESERVED or short in WORDS or short in ALIASES else short
+    return f"the_{short}" if short in BOUND | RESERVED or short in WORDS or short in ALIASES else short

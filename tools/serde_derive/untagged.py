@@ -4,7 +4,7 @@ from typing import List
 from .declarations import Item, Refused, Variant
 from .enums import EnumWriter
 from .holder import Holder, sending
-from .text import DESERIALIZE, SERIALIZE, all_hold, arm, bracketed, codes, elim, facts, function, ghost
+from .text import DESERIALIZE, SERIALIZE, all_hold, arm, bracketed, clause, codes, elim, facts, function, ghost
 from .text import together
 from .types import READ, nest
 from .words import CHOICES, PLACES
@@ -22,7 +22,24 @@ class UntaggedWriter(EnumWriter):
         self.last = f"data did not match any variant of untagged enum {item.name}"
 
     def functions(self) -> List[str]:
-        return [text for v in self.item.variants for text in self.maker(v) * self.reads]
+        return [text for v in self.item.variants for text in self.maker(v) * self.reads + self.sender(v) * self.sends]
+
+    def sender(self, v: Variant) -> List[str]:
+        """The function that sends the values of a variant as a tuple."""
+        count = len(v.data.fields)
+        if count == 1:
+            return []
+        types = "".join(f", T{i + 1}: Serialize" for i in range(count))
+        given = "".join(f", x{i + 1}: &T{i + 1}" for i in range(count))
+        script = self.tuple_script([f"T{i + 1}.script x{i + 1}.now" for i in range(count)])
+        return ["/// Sends values of any types, so that its proof looks into none.\n"
+                f"fn {self.sender_name(v)}<S: Serializer{types}>(alloc: Global, serializer: &mut S{given}) -> Result<()>\n"
+                + clause("ensures", f"Sends S.step S.refuses (S.seen serializer.old)\n({script})\n"
+                         "result (S.seen serializer.new)")
+                + f"{{\n{sending(f'Call::Tuple({count})', [('Call::Element', p) for p in v.data.places()])}\n}}\n"]
+
+    def sender_name(self, v: Variant) -> str:
+        return dict((w.name, holder) for w, holder in self.variants)[v.name].sender
 
     def serialize(self) -> List[str]:
         return [ghost("script", self.each(lambda v, holder, x: self.script(v, x))),
@@ -33,8 +50,11 @@ class UntaggedWriter(EnumWriter):
     @staticmethod
     def script(v: Variant, values: List[str]) -> str:
         parts = [f"{f.type.member('Serialize', 'script')} {x}" for f, x in zip(v.data.fields, values)]
-        if len(parts) == 1:
-            return parts[0]
+        return parts[0] if len(parts) == 1 else UntaggedWriter.tuple_script(parts)
+
+    @staticmethod
+    def tuple_script(parts: List[str]) -> str:
+        """The calls of a tuple of these parts."""
         return f"tuple_script {len(parts)}" + nest([f"element_first ({part})" for part in parts], "end_script")
 
     @staticmethod
@@ -44,12 +64,11 @@ class UntaggedWriter(EnumWriter):
             return laws[0]
         return "tuple_lawful" + nest([f"element_fits ({law})" for law in laws], "end_fits")
 
-    @staticmethod
-    def send(v: Variant) -> str:
+    def send(self, v: Variant) -> str:
         places = v.data.places()
         if len(places) == 1:
             return f"{places[0]}.serialize(alloc, serializer)"
-        return sending(f"Call::Tuple({len(places)})", [("Call::Element", p) for p in places])
+        return f"{self.sender_name(v)}(alloc, serializer, {', '.join(places)})"
 
     def deserialize(self) -> List[str]:
         refusals = [f"({v.held().member(READ, 'refusal')} (in_buffer s))" for v in self.item.variants]
@@ -122,7 +141,7 @@ class UntaggedWriter(EnumWriter):
         if len(laws) == 1:
             return f"({laws[0]}.of_value {values[0]} {real[0]}{flags})"
         parts = nest([f"element_{member} {law} {x} {r} {see} {len(laws)} {i}" for i, (law, x, r, see) in enumerate(
-            zip(laws, values, real, self.sees(holder)))], end)
+            zip(laws, values, real, self.sees(holder)))], f"({end} {len(laws)})")
         return f"(tuple_{member}{parts}\n{flags.lstrip()}{' ' * bool(flags)}(λ y h. h))"
 
     def read_as(self, sent: Variant, read: Variant, one: str, source: str) -> str:

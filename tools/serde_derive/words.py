@@ -2,8 +2,8 @@
 import re
 from typing import Dict, List
 
-from .names import pascal
-from .types import HOLDERS, LEAVES
+from .cases import pascal
+from .types import HOLDERS, LEAVES, RESERVED
 
 
 def word_table(text: str) -> Dict[str, str]:
@@ -18,7 +18,7 @@ def word_table(text: str) -> Dict[str, str]:
 STYLES = [f"{style}_{sort}" for style in ("unit", "newtype", "tuple", "struct") for sort in ("struct", "variant")]
 STYLES[STYLES.index("struct_struct")] = "struct"
 WORDS = word_table(f"""
-std.specs.Prelude ◌≡◌ ◌∷◌ [] ℕ ℤ Bool Option None Some IsSome true false pos map codes string_bytes refl ⊤
+std.specs.Prelude ◌≡◌ ◌∷◌ [] ℕ ℤ Bool Option None Some IsSome true false pos codes string_bytes refl ⊤
 std.specs.Cmp nat_cmp_total int_cmp_total unsigned_ties
 std.specs.Cmp.Lexicographic texts_ties
 std.specs.String string_cmp_total
@@ -37,16 +37,15 @@ content_de.specs.Reads.Standard HasContent
 content_de.specs.Sources.Origin tree_under in_buffer buffering
 content_de.specs.Reads.Tuples part_then end_of_parts PartThen NoPart
 content_de.specs.Accesses.ByName fields_left
-content_de.specs.Accesses.Enum variant_view
 content_de.specs.Reads.Read Reads
 content_de.specs.Reads.Attempts IsTakenAs or_next
 content_de.specs.Reads.ByName read_by_name named_then named_or_then others_skipped no_others
 content_de.specs.Reads.ByName ReadByName NamedThen NamedOrThen NoOthers
-content_de.specs.Reads.Tagged tag_then TagThen
+content_de.specs.Reads.Tagged tag_then TagThen tag_then_buffered TagThenBuffered
 content_de.specs.Reads.Own enum_refusal EnumGives
 content_de.specs.Reads.Own {' '.join(f'{s}_refusal {pascal(s)}Gives' for s in STYLES)}
 serde_content.specs.Literals name
-serde_content.specs.Variants index_among variants VariantGives
+serde_content.specs.Variants index_among variants
 serde_content.specs.RoundTrip ComesBack CoercionKeeps
 serde_content.specs.Laws.Leaves heedless_keeps natural_keeps integer_keeps
 serde_content.specs.Laws.Leaves {' '.join(laws.back for laws in LEAVES.values())}
@@ -61,7 +60,7 @@ serde_content.specs.Laws.ByName by_name_keeps named_keeps named_or_keeps skipped
 serde_content.specs.Laws.Flattened flattened_script flattened_first flattened_fits flattened_end_fits
 serde_content.specs.Laws.Flattened flattened_lawful flattened_refusal FlattenedGives flattened_end_back
 serde_content.specs.Laws.Flattened flattened_named_back flattened_named_or_back flattened_back flattened_keeps
-serde_content.specs.Laws.Tagged tagged_script tagged_back tag_keeps
+serde_content.specs.Laws.Tagged tagged_script tagged_back tag_keeps tag_keeps_buffered
 serde_content.specs.Laws.Untagged such_seen first_taken later_taken taken_by_one not_refused
 serde_content.specs.Laws.Untagged unit_takes bool_takes number_takes char_takes text_takes seq_takes tuple_takes
 serde_content.specs.Laws.Untagged map_takes struct_takes tuple_counts part_counts parts_end_counts
@@ -98,15 +97,18 @@ CHOICES = [(f"first_of_{count}", f"OneOf{count.title()}") for count in COUNTS[1:
 USES = {
     "content_cbor": "CborRoundTrip NotNull",
     "serde_content": "CowStr Deserializer Error Result RoundTrip",
-    "serde_content::de": f"Deserialize FieldsByName {' '.join(sorted(one for _, one in CHOICES))} Names VariantAccess attempt end_fields"
-                         f" field_or finish_parts {' '.join(sorted(first for first, _ in CHOICES))} named_field next_part no_such_variant"
-                         f" {' '.join(sorted(READERS))} skip_fields tag_field two_parts variant_index",
+    "serde_content::de": f"Deserialize FieldsByName Names {' '.join(sorted(one for _, one in CHOICES))} TaggedVariants"
+                         f" VariantAccess Variants attempt end_fields field_or finish_parts {' '.join(sorted(first for first, _ in CHOICES))}"
+                         f" named_field next_part no_such_variant read_adjacent read_enum {' '.join(sorted(READERS))} read_tagged"
+                         f" skip_fields two_parts variant_index",
     "serde_content::ser": f"Call Parts Serialize Serializer {' '.join(sorted(SENDERS))}",
     "std::alloc": "Global",
     "std::collections": "BTreeMap",
 }
-IN_TEXT = {"[]": "[]", "form": "(form t)", "custom": "(custom ", "Some": "(Some (", "None": "≡ None", "true": "fits true",
-           "false": "≡ false", "name": 'name "', "map": "map (λ name.", "variants": "(variants ("}
+NO_PLACES = RESERVED | {"alloc", "fields", "serializer", "result"} | {
+    name for names in USES.values() for name in names.split() if name.islower()}
+IN_TEXT = {"[]": r"\[\]", "form": r"\(form t\)", "custom": r"\(custom ", "Some": r"\(Some \(", "None": "≡ None",
+           "true": r"(?:fits|λ b\.) true", "false": "≡ false", "name": 'name "', "variants": r"variants \( \(name"}
 METHODS = {"Parts": r"\.(?:with|around)\("}
 TAKEN = {name for names in USES.values() for name in names.split()} | set(HOLDERS) | {"String", "Ok", "Err"}
 
@@ -117,7 +119,7 @@ def words_of(text: str, table: Dict[str, str]) -> List[str]:
     used = set(re.findall(r"[^\W\d]\w*|[^\w\s]", text))
     by_module: Dict[str, List[str]] = {}
     for word, module in table.items():
-        if IN_TEXT[word] in text if word in IN_TEXT else word.strip("◌") in used:
+        if re.search(IN_TEXT[word], text) if word in IN_TEXT else word.strip("◌") in used:
             by_module.setdefault(module, []).append(word)
     lines = []
     for module, words in by_module.items():

@@ -18,19 +18,17 @@ ghost use Rattle.content_de.specs.Reads.Attempts.{IsTakenAs, or_next};
 ghost use Rattle.content_de.specs.Reads.ByName.{read_by_name, named_then, named_or_then};
 ghost use Rattle.content_de.specs.Reads.ByName.{others_skipped, ReadByName, NamedThen, NamedOrThen};
 ghost use Rattle.content_de.specs.Reads.ByName.{NoOthers};
-ghost use Rattle.content_de.specs.Reads.Tagged.{tag_then, TagThen};
+ghost use Rattle.content_de.specs.Reads.Tagged.{tag_then_buffered, TagThenBuffered};
 ghost use Rattle.content_de.specs.Reads.Own.{variant_or, no_variant_of, struct_refusal};
 ghost use Rattle.content_de.specs.Reads.Own.{StructGives};
-ghost use Rattle.serde_content.specs.RoundTrip.{ComesBack, CoercionKeeps};
-ghost use Rattle.serde_content.specs.Laws.Leaves.{integer_keeps, bool_back, text_back, u8_back};
-ghost use Rattle.serde_content.specs.Laws.Leaves.{i32_back};
-ghost use Rattle.serde_content.specs.Laws.Holders.{option_back, option_keeps};
+ghost use Rattle.serde_content.specs.RoundTrip.{ComesBack};
+ghost use Rattle.serde_content.specs.Laws.Leaves.{bool_back, text_back, u8_back, i32_back};
+ghost use Rattle.serde_content.specs.Laws.Holders.{option_back};
 ghost use Rattle.serde_content.specs.Laws.Series.{both_hold, element_back, tuple_back, parts_end};
 ghost use Rattle.serde_content.specs.Laws.Records.{struct_keeps};
 ghost use Rattle.serde_content.specs.Laws.ByName.{named_back, named_or_back, skipped_back};
-ghost use Rattle.serde_content.specs.Laws.ByName.{by_name_keeps, named_keeps, named_or_keeps};
-ghost use Rattle.serde_content.specs.Laws.ByName.{skipped_keeps};
-ghost use Rattle.serde_content.specs.Laws.Tagged.{tagged_script, tagged_back, tag_keeps};
+ghost use Rattle.serde_content.specs.Laws.ByName.{by_name_keeps};
+ghost use Rattle.serde_content.specs.Laws.Tagged.{tagged_script, tagged_back, tag_keeps_buffered};
 ghost use Rattle.serde_content.specs.Laws.Untagged.{such_seen, first_taken, later_taken};
 ghost use Rattle.serde_content.specs.Laws.Untagged.{taken_by_one, not_refused, bool_takes};
 ghost use Rattle.serde_content.specs.Laws.Untagged.{number_takes, text_takes, tuple_takes};
@@ -53,8 +51,8 @@ ghost use Rattle.check_derive.specs.declared.choices.Color.TheVariants as color;
 
 use content_cbor::{CborRoundTrip, NotNull};
 use serde_content::de::{
-    Deserialize, FieldsByName, OneOfFour, OneOfTwo, first_of_four, first_of_two, read_two,
-    skip_fields, tag_field, unknown_variant,
+    Deserialize, FieldsByName, OneOfFour, OneOfTwo, first_of_four, first_of_two, internal_tag,
+    read_two, skip_fields, unknown_variant,
 };
 use serde_content::ser::{Call, Serialize, Serializer, send_four, send_one, send_three, send_two};
 use serde_content::{Deserializer, Result, RoundTrip};
@@ -139,7 +137,7 @@ fn read_command_move<'de, 'n: 'de>(
 
 /// The variant that its tag names.
 fn read_command<'de, 'n: 'de>(alloc: Global, mut fields: FieldsByName<'de, 'n>) -> Result<Command>
-    ensures { Reads (tag_then (codes "kind")
+    ensures { Reads (tag_then_buffered (codes "kind")
         (variant_or (codes "stop")
         (others_skipped (codes "kind" ∷ []))
         (variant_or (codes "move")
@@ -149,16 +147,16 @@ fn read_command<'de, 'n: 'de>(alloc: Global, mut fields: FieldsByName<'de, 'n>) 
         (no_variant_of (codes "stop" ∷ codes "move" ∷ []))))
         (fields_left fields.entry))
         (elim [
-          | command.Stop ↦ TagThen (codes "kind") (codes "stop")
+          | command.Stop ↦ TagThenBuffered (codes "kind") (codes "stop")
               NoOthers (fields_left fields.entry)
-          | command.Move x1 x2 ↦ TagThen (codes "kind") (codes "move")
+          | command.Move x1 x2 ↦ TagThenBuffered (codes "kind") (codes "move")
               (NamedThen (codes "x") (⟦<i32 as Deserialize<'de>>⟧.gives) x1
               (NamedOrThen (codes "y") (λ (x : (Option ℤ)). x ≡ None)
               (⟦<Option<i32> as Deserialize<'de>>⟧.gives) x2
               NoOthers)) (fields_left fields.entry)
         ]) result }
 {
-    let tag = tag_field(alloc, &mut fields, "kind")?;
+    let tag = internal_tag(alloc, &mut fields, "kind")?;
     match tag.as_str() {
         "stop" => {
             skip_fields(alloc, fields, &["kind"])?;
@@ -212,7 +210,7 @@ impl Serialize for Command {
 
 impl<'de> Deserialize<'de> for Command {
     ghost refusal = { struct_refusal (codes "Command")
-        (read_by_name (tag_then (codes "kind")
+        (read_by_name (tag_then_buffered (codes "kind")
         (variant_or (codes "stop")
         (others_skipped (codes "kind" ∷ []))
         (variant_or (codes "move")
@@ -223,10 +221,10 @@ impl<'de> Deserialize<'de> for Command {
 
     ghost gives = { λ s. elim [
       | command.Stop ↦ StructGives (codes "Command") (ReadByName
-          (TagThen (codes "kind") (codes "stop")
+          (TagThenBuffered (codes "kind") (codes "stop")
           NoOthers)) s
       | command.Move x1 x2 ↦ StructGives (codes "Command") (ReadByName
-          (TagThen (codes "kind") (codes "move")
+          (TagThenBuffered (codes "kind") (codes "move")
           (NamedThen (codes "x") (⟦<i32 as Deserialize<'de>>⟧.gives) x1
           (NamedOrThen (codes "y") (λ (x : (Option ℤ)). x ≡ None)
           (⟦<Option<i32> as Deserialize<'de>>⟧.gives) x2
@@ -260,7 +258,7 @@ impl<'de> RoundTrip<'de> for Command {
       of_value = elim [
         | command.Stop ↦ λ real f. tagged_back Self.refusal Self.gives
             (skipped_back {Y = Unit {0}} (codes "kind" ∷ []))
-            f (λ fs. refl)
+            f (buffering f) refl (λ fs. refl)
             (λ fs only. elim [
               | command.Stop ↦ λ it. refl
               | command.Move y1 y2 ↦ λ it. other_variant it.0 refl
@@ -273,7 +271,7 @@ impl<'de> RoundTrip<'de> for Command {
             (⟦<Option<i32> as Deserialize<'de>>⟧.gives) (⟦<Option<i32> as PartialEq>⟧.eq) =
             (option_back i32_back) in law) x2 real (λ (z : ℤ × (Option ℤ)). z.1)
             (skipped_back (codes "kind" ∷ codes "x" ∷ codes "y" ∷ []))))
-            f (λ fs. refl)
+            f (buffering f) refl (λ fs. refl)
             (λ fs only. elim [
               | command.Stop ↦ λ it. other_variant it.0 refl
               | command.Move y1 y2 ↦ λ it. let same = only (y1, y2) it.1 in both_hold same.0
@@ -286,35 +284,33 @@ impl<'de> RoundTrip<'de> for Command {
       of_origin = λ o people. elim [
         | command.Stop ↦ λ p.
             let q = (struct_keeps (codes "Command") (by_name_keeps
-            (tag_keeps (codes "kind") (codes "stop")
+            (tag_keeps_buffered (codes "kind") (codes "stop")
             (variant_or (codes "stop")
             (others_skipped (codes "kind" ∷ []))
             (variant_or (codes "move")
             (named_then (codes "x") (⟦<i32 as Deserialize<'de>>⟧.refusal)
             (named_or_then (codes "y") (⟦<Option<i32> as Deserialize<'de>>⟧.refusal)
             (others_skipped (codes "kind" ∷ codes "x" ∷ codes "y" ∷ []))))
-            (no_variant_of (codes "stop" ∷ codes "move" ∷ [])))) (λ f. refl)
-            (skipped_keeps {Y = Unit {0}} (codes "kind" ∷ []))))).of_origin o people tt
+            (no_variant_of (codes "stop" ∷ codes "move" ∷ []))))
+            (λ (z : Unit {0}).
+            NoOthers)))).of_origin o people tt
             (record { free = p.free; given = p.given }) in
             record { free = q.free; given = q.given }
         | command.Move x1 x2 ↦ λ p.
             let q = (struct_keeps (codes "Command") (by_name_keeps
-            (tag_keeps (codes "kind") (codes "move")
+            (tag_keeps_buffered (codes "kind") (codes "move")
             (variant_or (codes "stop")
             (others_skipped (codes "kind" ∷ []))
             (variant_or (codes "move")
             (named_then (codes "x") (⟦<i32 as Deserialize<'de>>⟧.refusal)
             (named_or_then (codes "y") (⟦<Option<i32> as Deserialize<'de>>⟧.refusal)
             (others_skipped (codes "kind" ∷ codes "x" ∷ codes "y" ∷ []))))
-            (no_variant_of (codes "stop" ∷ codes "move" ∷ [])))) (λ f. refl)
-            (named_keeps (codes "x") (λ (z : ℤ × (Option ℤ)). z.0) (integer_keeps kind.i32)
-            (named_or_keeps (codes "y") (λ (x : (Option ℤ)). x ≡ None)
-            (λ (z : ℤ × (Option ℤ)). z.1)
-            (let law : CoercionKeeps (⟦<Option<i32> as Deserialize<'de>>⟧.refusal)
-            (⟦<Option<i32> as Deserialize<'de>>⟧.gives) =
-            (option_keeps (integer_keeps kind.i32)) in law)
-            (skipped_keeps (codes "kind" ∷ codes "x" ∷ codes "y" ∷ []))))))).of_origin o people
-            (x1, x2)
+            (no_variant_of (codes "stop" ∷ codes "move" ∷ []))))
+            (λ (z : ℤ × (Option ℤ)).
+            (NamedThen (codes "x") (⟦<i32 as Deserialize<'de>>⟧.gives) z.0
+            (NamedOrThen (codes "y") (λ (x : (Option ℤ)). x ≡ None)
+            (⟦<Option<i32> as Deserialize<'de>>⟧.gives) z.1
+            NoOthers)))))).of_origin o people (x1, x2)
             (record { free = p.free; given = p.given }) in
             record { free = q.free; given = q.given }
       ];
@@ -326,7 +322,7 @@ impl<'de> CborRoundTrip<'de> for Command {
       of_value = elim [
         | command.Stop ↦ λ real. tagged_kept Self.refusal Self.gives
             (skipped_kept {Y = Unit {0}} (codes "kind" ∷ []))
-            (λ b fs. refl)
+            (λ b. true) (λ b fs. refl)
             (λ b fs only. elim [
               | command.Stop ↦ λ it. refl
               | command.Move y1 y2 ↦ λ it. other_variant it.0 refl
@@ -340,7 +336,7 @@ impl<'de> CborRoundTrip<'de> for Command {
             (option_kept (number_not_null kind.i32) i32_kept) in law) x2 real
             (λ (z : ℤ × (Option ℤ)). z.1)
             (skipped_kept (codes "kind" ∷ codes "x" ∷ codes "y" ∷ []))))
-            (λ b fs. refl)
+            (λ b. true) (λ b fs. refl)
             (λ b fs only. elim [
               | command.Stop ↦ λ it. other_variant it.0 refl
               | command.Move y1 y2 ↦ λ it. let same = only (y1, y2) it.1 in both_hold same.0
@@ -374,6 +370,31 @@ fn make_setting_level(x1: i32) -> Setting
     Setting::Level(x1)
 }
 
+/// Sends values of any types, so that its proof looks into none.
+fn send_setting_range<S: Serializer, T1: Serialize, T2: Serialize>(
+    alloc: Global,
+    serializer: &mut S,
+    x1: &T1,
+    x2: &T2,
+) -> Result<()>
+    ensures { Sends S.step S.refuses (S.seen serializer.old)
+        (tuple_script 2
+        (element_first (T1.script x1.now)
+        (element_first (T2.script x2.now)
+        end_script)))
+        result (S.seen serializer.new) }
+{
+    send_two(
+        alloc,
+        serializer,
+        Call::Tuple(2),
+        Call::Element,
+        x1,
+        Call::Element,
+        x2,
+    )
+}
+
 impl Serialize for Setting {
     ghost script = { elim [
       | setting.Flag x1 ↦ ⟦<bool as Serialize>⟧.script x1
@@ -399,17 +420,7 @@ impl Serialize for Setting {
         match self {
             Setting::Flag(x1) => x1.serialize(alloc, serializer),
             Setting::Level(x1) => x1.serialize(alloc, serializer),
-            Setting::Range(x1, x2) => {
-                send_two(
-                    alloc,
-                    serializer,
-                    Call::Tuple(2),
-                    Call::Element,
-                    x1,
-                    Call::Element,
-                    x2,
-                )
-            }
+            Setting::Range(x1, x2) => send_setting_range(alloc, serializer, x1, x2),
             Setting::Name(x1) => x1.serialize(alloc, serializer),
         }
     }
@@ -500,7 +511,7 @@ impl<'de> RoundTrip<'de> for Setting {
             (tuple_back
             (element_back u8_back x1 tt (λ (z : ℕ × ℕ). z.0) 2 0
             (element_back u8_back x2 tt (λ (z : ℕ × ℕ). z.1) 2 1
-            parts_end))
+            (parts_end 2)))
             (buffering f) (λ y h. h))
         | setting.Name x1 ↦ λ real f. such_seen (λ t one. record {
           free = later_taken (⟦<bool as Deserialize<'de>>⟧.refusal
@@ -571,7 +582,7 @@ impl<'de> CborRoundTrip<'de> for Setting {
             (tuple_kept
             (element_kept u8_kept x1 tt (λ (z : ℕ × ℕ). z.0) 2 0
             (element_kept u8_kept x2 tt (λ (z : ℕ × ℕ). z.1) 2 1
-            parts_end_kept))
+            (parts_end_kept 2)))
             (λ y h. h))
         | setting.Name x1 ↦ λ real. such_seen (λ t one fits b. record {
           free = later_taken (⟦<bool as Deserialize<'de>>⟧.refusal
@@ -608,6 +619,31 @@ pub enum Steps {
     List(Vec<u8>),
 }
 
+/// Sends values of any types, so that its proof looks into none.
+fn send_steps_pair<S: Serializer, T1: Serialize, T2: Serialize>(
+    alloc: Global,
+    serializer: &mut S,
+    x1: &T1,
+    x2: &T2,
+) -> Result<()>
+    ensures { Sends S.step S.refuses (S.seen serializer.old)
+        (tuple_script 2
+        (element_first (T1.script x1.now)
+        (element_first (T2.script x2.now)
+        end_script)))
+        result (S.seen serializer.new) }
+{
+    send_two(
+        alloc,
+        serializer,
+        Call::Tuple(2),
+        Call::Element,
+        x1,
+        Call::Element,
+        x2,
+    )
+}
+
 impl Serialize for Steps {
     ghost script = { elim [
       | steps.Pair x1 x2 ↦ tuple_script 2
@@ -627,17 +663,7 @@ impl Serialize for Steps {
 
     fn serialize<S: Serializer>(&self, alloc: Global, serializer: &mut S) -> Result<()> {
         match self {
-            Steps::Pair(x1, x2) => {
-                send_two(
-                    alloc,
-                    serializer,
-                    Call::Tuple(2),
-                    Call::Element,
-                    x1,
-                    Call::Element,
-                    x2,
-                )
-            }
+            Steps::Pair(x1, x2) => send_steps_pair(alloc, serializer, x1, x2),
             Steps::List(x1) => x1.serialize(alloc, serializer),
         }
     }
@@ -679,6 +705,68 @@ pub enum Color {
     Rgba(u8, u8, u8, u8),
 }
 
+/// Sends values of any types, so that its proof looks into none.
+fn send_color_rgb<S: Serializer, T1: Serialize, T2: Serialize, T3: Serialize>(
+    alloc: Global,
+    serializer: &mut S,
+    x1: &T1,
+    x2: &T2,
+    x3: &T3,
+) -> Result<()>
+    ensures { Sends S.step S.refuses (S.seen serializer.old)
+        (tuple_script 3
+        (element_first (T1.script x1.now)
+        (element_first (T2.script x2.now)
+        (element_first (T3.script x3.now)
+        end_script))))
+        result (S.seen serializer.new) }
+{
+    send_three(
+        alloc,
+        serializer,
+        Call::Tuple(3),
+        Call::Element,
+        x1,
+        Call::Element,
+        x2,
+        Call::Element,
+        x3,
+    )
+}
+
+/// Sends values of any types, so that its proof looks into none.
+fn send_color_rgba<S: Serializer, T1: Serialize, T2: Serialize, T3: Serialize, T4: Serialize>(
+    alloc: Global,
+    serializer: &mut S,
+    x1: &T1,
+    x2: &T2,
+    x3: &T3,
+    x4: &T4,
+) -> Result<()>
+    ensures { Sends S.step S.refuses (S.seen serializer.old)
+        (tuple_script 4
+        (element_first (T1.script x1.now)
+        (element_first (T2.script x2.now)
+        (element_first (T3.script x3.now)
+        (element_first (T4.script x4.now)
+        end_script)))))
+        result (S.seen serializer.new) }
+{
+    send_four(
+        alloc,
+        serializer,
+        Call::Tuple(4),
+        Call::Element,
+        x1,
+        Call::Element,
+        x2,
+        Call::Element,
+        x3,
+        Call::Element,
+        x4,
+    )
+}
+
 impl Serialize for Color {
     ghost script = { elim [
       | color.Rgb x1 x2 x3 ↦ tuple_script 3
@@ -710,34 +798,8 @@ impl Serialize for Color {
 
     fn serialize<S: Serializer>(&self, alloc: Global, serializer: &mut S) -> Result<()> {
         match self {
-            Color::Rgb(x1, x2, x3) => {
-                send_three(
-                    alloc,
-                    serializer,
-                    Call::Tuple(3),
-                    Call::Element,
-                    x1,
-                    Call::Element,
-                    x2,
-                    Call::Element,
-                    x3,
-                )
-            }
-            Color::Rgba(x1, x2, x3, x4) => {
-                send_four(
-                    alloc,
-                    serializer,
-                    Call::Tuple(4),
-                    Call::Element,
-                    x1,
-                    Call::Element,
-                    x2,
-                    Call::Element,
-                    x3,
-                    Call::Element,
-                    x4,
-                )
-            }
+            Color::Rgb(x1, x2, x3) => send_color_rgb(alloc, serializer, x1, x2, x3),
+            Color::Rgba(x1, x2, x3, x4) => send_color_rgba(alloc, serializer, x1, x2, x3, x4),
         }
     }
 }
@@ -787,7 +849,7 @@ impl<'de> RoundTrip<'de> for Color {
             (element_back u8_back x1 tt (λ (z : ℕ × ℕ × ℕ). z.0) 3 0
             (element_back u8_back x2 tt (λ (z : ℕ × ℕ × ℕ). z.1) 3 1
             (element_back u8_back x3 tt (λ (z : ℕ × ℕ × ℕ). z.2) 3 2
-            parts_end)))
+            (parts_end 3))))
             (buffering f) (λ y h. h))
         | color.Rgba x1 x2 x3 x4 ↦ λ real f. such_seen (λ t one. record {
           free = later_taken (⟦<(u8, u8, u8) as Deserialize<'de>>⟧.refusal
@@ -795,9 +857,11 @@ impl<'de> RoundTrip<'de> for Color {
               (first_taken _ _ one.free);
           only = elim [
             | color.Rgb y1 y2 y3 ↦ λ it. taken_by_one
-                (tuple_counts (part_counts (part_counts (part_counts parts_end_counts))))
-                (tuple_counts (part_counts (part_counts
-                (part_counts (part_counts parts_end_counts))))) refl f t it.0 one.free
+                (tuple_counts (part_counts _ 3 0
+                (part_counts _ 3 1 (part_counts _ 3 2 (parts_end_counts 3)))))
+                (tuple_counts (part_counts _ 4 0
+                (part_counts _ 4 1 (part_counts _ 4 2 (part_counts _ 4 3 (parts_end_counts 4))))))
+                refl f t it.0 one.free
             | color.Rgba y1 y2 y3 y4 ↦ λ it. let same = one.only (y1, y2, y3, y4) it.1.1 in
                 both_hold same.0 (both_hold same.1.0 (both_hold same.1.1.0 same.1.1.1.0))
           ];
@@ -807,7 +871,7 @@ impl<'de> RoundTrip<'de> for Color {
             (element_back u8_back x2 tt (λ (z : ℕ × ℕ × ℕ × ℕ). z.1) 4 1
             (element_back u8_back x3 tt (λ (z : ℕ × ℕ × ℕ × ℕ). z.2) 4 2
             (element_back u8_back x4 tt (λ (z : ℕ × ℕ × ℕ × ℕ). z.3) 4 3
-            parts_end))))
+            (parts_end 4)))))
             (buffering f) (λ y h. h))
       ];
     } };
@@ -833,7 +897,7 @@ impl<'de> CborRoundTrip<'de> for Color {
             (element_kept u8_kept x1 tt (λ (z : ℕ × ℕ × ℕ). z.0) 3 0
             (element_kept u8_kept x2 tt (λ (z : ℕ × ℕ × ℕ). z.1) 3 1
             (element_kept u8_kept x3 tt (λ (z : ℕ × ℕ × ℕ). z.2) 3 2
-            parts_end_kept)))
+            (parts_end_kept 3))))
             (λ y h. h))
         | color.Rgba x1 x2 x3 x4 ↦ λ real. such_seen (λ t one fits b. record {
           free = later_taken (⟦<(u8, u8, u8) as Deserialize<'de>>⟧.refusal
@@ -841,10 +905,11 @@ impl<'de> CborRoundTrip<'de> for Color {
               (first_taken _ _ (one fits true).free);
           only = elim [
             | color.Rgb y1 y2 y3 ↦ λ it. taken_by_one
-                (tuple_counts (part_counts (part_counts (part_counts parts_end_counts))))
-                (tuple_counts (part_counts (part_counts
-                (part_counts (part_counts parts_end_counts))))) refl (flags_in b) (form t) it.0
-                (one fits true).free
+                (tuple_counts (part_counts _ 3 0
+                (part_counts _ 3 1 (part_counts _ 3 2 (parts_end_counts 3)))))
+                (tuple_counts (part_counts _ 4 0
+                (part_counts _ 4 1 (part_counts _ 4 2 (part_counts _ 4 3 (parts_end_counts 4))))))
+                refl (flags_in b) (form t) it.0 (one fits true).free
             | color.Rgba y1 y2 y3 y4 ↦ λ it. let same = (one fits true).only (y1, y2, y3, y4)
                 it.1.1 in both_hold same.0 (both_hold same.1.0 (both_hold same.1.1.0 same.1.1.1.0))
           ];
@@ -854,7 +919,7 @@ impl<'de> CborRoundTrip<'de> for Color {
             (element_kept u8_kept x2 tt (λ (z : ℕ × ℕ × ℕ × ℕ). z.1) 4 1
             (element_kept u8_kept x3 tt (λ (z : ℕ × ℕ × ℕ × ℕ). z.2) 4 2
             (element_kept u8_kept x4 tt (λ (z : ℕ × ℕ × ℕ × ℕ). z.3) 4 3
-            parts_end_kept))))
+            (parts_end_kept 4)))))
             (λ y h. h))
       ];
     } };

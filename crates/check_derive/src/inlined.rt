@@ -2,7 +2,7 @@
 //!
 //! Written by `tools/derive` from `inlined.rs`: change that file, and write this one anew.
 
-ghost use Rattle.std.specs.Prelude.{◌≡◌, ◌∷◌, [], ℤ, Option, None, codes, string_bytes, refl};
+ghost use Rattle.std.specs.Prelude.{◌≡◌, ◌∷◌, [], ℤ, Option, None, true, codes, string_bytes, refl};
 ghost use Rattle.content_ser.specs.Scripts.Sends.{Sends};
 ghost use Rattle.content_ser.specs.Scripts.Own.{field_first, end_script, struct_script};
 ghost use Rattle.content_ser.specs.Laws.StandardScripts.{leaf_lawful, option_lawful};
@@ -10,12 +10,13 @@ ghost use Rattle.content_ser.specs.Laws.OwnScripts.{field_fits, struct_end_fits,
 ghost use Rattle.content_de.specs.Outcomes.{refusal_of, IsTaken};
 ghost use Rattle.content_de.specs.Requests.Leaves.{text_from};
 ghost use Rattle.content_de.specs.Reads.Standard.{HasContent};
+ghost use Rattle.content_de.specs.Sources.Origin.{buffering};
 ghost use Rattle.content_de.specs.Accesses.ByName.{fields_left};
 ghost use Rattle.content_de.specs.Reads.Read.{Reads};
 ghost use Rattle.content_de.specs.Reads.ByName.{read_by_name, named_then, named_or_then};
 ghost use Rattle.content_de.specs.Reads.ByName.{others_skipped, ReadByName, NamedThen, NamedOrThen};
 ghost use Rattle.content_de.specs.Reads.ByName.{NoOthers};
-ghost use Rattle.content_de.specs.Reads.Tagged.{tag_then, TagThen};
+ghost use Rattle.content_de.specs.Reads.Tagged.{tag_then_buffered, TagThenBuffered};
 ghost use Rattle.content_de.specs.Reads.Own.{variant_or, no_variant_of, struct_refusal};
 ghost use Rattle.content_de.specs.Reads.Own.{StructGives};
 ghost use Rattle.serde_content.specs.RoundTrip.{ComesBack, CoercionKeeps};
@@ -33,7 +34,7 @@ ghost use Rattle.serde_content.specs.Laws.Flattened.{flattened_lawful, flattened
 ghost use Rattle.serde_content.specs.Laws.Flattened.{FlattenedGives, flattened_end_back};
 ghost use Rattle.serde_content.specs.Laws.Flattened.{flattened_named_back, flattened_named_or_back};
 ghost use Rattle.serde_content.specs.Laws.Flattened.{flattened_back, flattened_keeps};
-ghost use Rattle.serde_content.specs.Laws.Tagged.{tagged_script, tagged_back, tag_keeps};
+ghost use Rattle.serde_content.specs.Laws.Tagged.{tagged_script, tagged_back, tag_keeps_buffered};
 ghost use Rattle.content_cbor.specs.Typed.Kept.{FormComesBack};
 ghost use Rattle.content_cbor.specs.Typed.Leaves.{text_kept, u64_kept, i32_kept, text_not_null};
 ghost use Rattle.content_cbor.specs.Typed.Holders.{option_kept};
@@ -50,7 +51,7 @@ ghost use Rattle.check_derive.specs.declared.inlined.Change.TheVariants as chang
 
 use content_cbor::{CborRoundTrip, NotNull};
 use serde_content::de::{
-    Deserialize, FieldsByName, read_four, read_two, tag_field, unknown_variant,
+    Deserialize, FieldsByName, internal_tag, read_four, read_two, unknown_variant,
 };
 use serde_content::ser::{Call, Serialize, Serializer, send_eight, send_three, send_two};
 use serde_content::{Deserializer, Result, RoundTrip};
@@ -461,7 +462,7 @@ fn read_change_add<'de, 'n: 'de>(alloc: Global, fields: FieldsByName<'de, 'n>) -
 
 /// The variant that its tag names.
 fn read_change<'de, 'n: 'de>(alloc: Global, mut fields: FieldsByName<'de, 'n>) -> Result<Change>
-    ensures { Reads (tag_then (codes "op")
+    ensures { Reads (tag_then_buffered (codes "op")
         (variant_or (codes "add")
         (named_then (codes "count") (⟦<i32 as Deserialize<'de>>⟧.refusal)
         (named_or_then (codes "unit") (⟦<Option<String> as Deserialize<'de>>⟧.refusal)
@@ -469,14 +470,14 @@ fn read_change<'de, 'n: 'de>(alloc: Global, mut fields: FieldsByName<'de, 'n>) -
         (no_variant_of (codes "add" ∷ [])))
         (fields_left fields.entry))
         (elim [
-          | change.Add x1 ↦ TagThen (codes "op") (codes "add")
+          | change.Add x1 ↦ TagThenBuffered (codes "op") (codes "add")
               (NamedThen (codes "count") (⟦<i32 as Deserialize<'de>>⟧.gives) x1.count
               (NamedOrThen (codes "unit") (λ (x : (Option (String Global))). x ≡ None)
               (⟦<Option<String> as Deserialize<'de>>⟧.gives) x1.unit
               NoOthers)) (fields_left fields.entry)
         ]) result }
 {
-    let tag = tag_field(alloc, &mut fields, "op")?;
+    let tag = internal_tag(alloc, &mut fields, "op")?;
     match tag.as_str() {
         "add" => {
             let x1 = read_change_add(alloc, fields)?;
@@ -511,7 +512,7 @@ impl Serialize for Change {
 
 impl<'de> Deserialize<'de> for Change {
     ghost refusal = { struct_refusal (codes "Change")
-        (read_by_name (tag_then (codes "op")
+        (read_by_name (tag_then_buffered (codes "op")
         (variant_or (codes "add")
         (named_then (codes "count") (⟦<i32 as Deserialize<'de>>⟧.refusal)
         (named_or_then (codes "unit") (⟦<Option<String> as Deserialize<'de>>⟧.refusal)
@@ -520,7 +521,7 @@ impl<'de> Deserialize<'de> for Change {
 
     ghost gives = { λ s. elim [
       | change.Add x1 ↦ StructGives (codes "Change") (ReadByName
-          (TagThen (codes "op") (codes "add")
+          (TagThenBuffered (codes "op") (codes "add")
           (NamedThen (codes "count") (⟦<i32 as Deserialize<'de>>⟧.gives) x1.count
           (NamedOrThen (codes "unit") (λ (x : (Option (String Global))). x ≡ None)
           (⟦<Option<String> as Deserialize<'de>>⟧.gives) x1.unit
@@ -559,7 +560,7 @@ impl<'de> RoundTrip<'de> for Change {
             = (option_back text_back) in law) x1.unit real
             (λ (z : ℤ × (Option (String Global))). z.1)
             (skipped_back (codes "op" ∷ codes "count" ∷ codes "unit" ∷ []))))
-            f (λ fs. refl)
+            f (buffering f) refl (λ fs. refl)
             (λ fs only. elim [
               | change.Add y1 ↦ λ it. let same = only (y1.count, y1.unit) it.1 in both_hold same.0
                   same.1.0
@@ -571,23 +572,17 @@ impl<'de> RoundTrip<'de> for Change {
       of_origin = λ o people. elim [
         | change.Add x1 ↦ λ p.
             let q = (struct_keeps (codes "Change") (by_name_keeps
-            (tag_keeps (codes "op") (codes "add")
+            (tag_keeps_buffered (codes "op") (codes "add")
             (variant_or (codes "add")
             (named_then (codes "count") (⟦<i32 as Deserialize<'de>>⟧.refusal)
             (named_or_then (codes "unit") (⟦<Option<String> as Deserialize<'de>>⟧.refusal)
             (others_skipped (codes "op" ∷ codes "count" ∷ codes "unit" ∷ []))))
-            (no_variant_of (codes "add" ∷ []))) (λ f. refl)
-            (named_keeps (codes "count") (λ (z : ℤ × (Option (String Global))). z.0)
-            (integer_keeps kind.i32)
-            (named_or_keeps (codes "unit") (λ (x : (Option (String Global))). x ≡ None)
-            (λ (z : ℤ × (Option (String Global))). z.1)
-            (let law : CoercionKeeps (⟦<Option<String> as Deserialize<'de>>⟧.refusal)
-            (⟦<Option<String> as Deserialize<'de>>⟧.gives) =
-            (option_keeps (heedless_keeps (λ o. refusal_of (text_from o))
-            (λ o (x : String Global). IsTaken (text_from o) (HasContent (string_bytes x))))) in
-            law)
-            (skipped_keeps (codes "op" ∷ codes "count" ∷ codes "unit" ∷ []))))))).of_origin o
-            people (x1.count, x1.unit)
+            (no_variant_of (codes "add" ∷ [])))
+            (λ (z : ℤ × (Option (String Global))).
+            (NamedThen (codes "count") (⟦<i32 as Deserialize<'de>>⟧.gives) z.0
+            (NamedOrThen (codes "unit") (λ (x : (Option (String Global))). x ≡ None)
+            (⟦<Option<String> as Deserialize<'de>>⟧.gives) z.1
+            NoOthers)))))).of_origin o people (x1.count, x1.unit)
             (record { free = p.free; given = p.given }) in
             record { free = q.free; given = q.given }
       ];
@@ -608,7 +603,7 @@ impl<'de> CborRoundTrip<'de> for Change {
             = (option_kept text_not_null text_kept) in law) x1.unit real
             (λ (z : ℤ × (Option (String Global))). z.1)
             (skipped_kept (codes "op" ∷ codes "count" ∷ codes "unit" ∷ []))))
-            (λ b fs. refl)
+            (λ b. true) (λ b fs. refl)
             (λ b fs only. elim [
               | change.Add y1 ↦ λ it. let same = only (y1.count, y1.unit) it.1 in both_hold same.0
                   same.1.0

@@ -219,7 +219,7 @@ impl<'de> RoundTrip<'de> for Stop {
           (⟦<Option<Place> as Deserialize<'de>>⟧.refusal)
           (⟦<Option<Place> as Deserialize<'de>>⟧.gives) (⟦<Option<Place> as PartialEq>⟧.eq) =
           (option_back place_round_trip.comes_back-law) in law) p.1 real (λ q. q.1) 2 1
-          parts_end))
+          (parts_end 2)))
           f (λ q h. both_hold h.0 h.1.0);
     } };
 
@@ -229,7 +229,7 @@ impl<'de> RoundTrip<'de> for Stop {
         (⟦<Option<Place> as Deserialize<'de>>⟧.refusal)
         (⟦<Option<Place> as Deserialize<'de>>⟧.gives) =
         (option_keeps place_round_trip.keeps-law) in law)
-        parts_end_keeps)) };
+        (parts_end_keeps 2))) };
 }
 
 impl<'de> CborRoundTrip<'de> for Stop {
@@ -245,7 +245,7 @@ impl<'de> CborRoundTrip<'de> for Stop {
           (⟦<Option<Place> as Deserialize<'de>>⟧.gives) (⟦<Option<Place> as PartialEq>⟧.eq) =
           (option_kept place_not_null.refuses_null-law place_cbor_round_trip.kept-law) in law)
           p.1 real (λ q. q.1) 2 1
-          parts_end_kept))
+          (parts_end_kept 2)))
           (λ q h. both_hold h.0 h.1.0);
     } };
 }
@@ -470,7 +470,7 @@ impl<'de> RoundTrip<'de> for Message {
       of_value = elim [
         | message.Ping ↦ λ real f. tagged_back Self.refusal Self.gives
             (skipped_back {Y = Unit {0}} (codes "t" ∷ []))
-            f (λ fs. refl)
+            f f refl (λ fs. refl)
             (λ fs only. elim [
               | message.Ping ↦ λ it. refl
               | message.Text y1 ↦ λ it. other_variant it.0 refl
@@ -478,7 +478,7 @@ impl<'de> RoundTrip<'de> for Message {
         | message.Text x1 ↦ λ real f. tagged_back Self.refusal Self.gives
             (named_back (codes "c") text_back x1 tt (λ (z : (String Global)). z)
             (skipped_back (codes "t" ∷ codes "c" ∷ [])))
-            f (λ fs. refl)
+            f f refl (λ fs. refl)
             (λ fs only. elim [
               | message.Ping ↦ λ it. other_variant it.0 refl
               | message.Text y1 ↦ λ it. let same = only y1 it.1 in same.0
@@ -524,7 +524,7 @@ impl<'de> CborRoundTrip<'de> for Message {
       of_value = elim [
         | message.Ping ↦ λ real. tagged_kept Self.refusal Self.gives
             (skipped_kept {Y = Unit {0}} (codes "t" ∷ []))
-            (λ b fs. refl)
+            (λ b. b) (λ b fs. refl)
             (λ b fs only. elim [
               | message.Ping ↦ λ it. refl
               | message.Text y1 ↦ λ it. other_variant it.0 refl
@@ -532,7 +532,7 @@ impl<'de> CborRoundTrip<'de> for Message {
         | message.Text x1 ↦ λ real. tagged_kept Self.refusal Self.gives
             (named_kept (codes "c") text_kept x1 tt (λ (z : (String Global)). z)
             (skipped_kept (codes "t" ∷ codes "c" ∷ [])))
-            (λ b fs. refl)
+            (λ b. b) (λ b fs. refl)
             (λ b fs only. elim [
               | message.Ping ↦ λ it. other_variant it.0 refl
               | message.Text y1 ↦ λ it. let same = only y1 it.1 in same.0

@@ -429,7 +429,7 @@ impl<'de> RoundTrip<'de> for Step {
             (tuple_variant_back
             (tuple_field_back i32_back x1 tt (λ (z : ℤ × ℤ). z.0) 2 0
             (tuple_field_back i32_back x2 tt (λ (z : ℤ × ℤ). z.1) 2 1
-            parts_end)))
+            (parts_end 2))))
             f (λ d. refl)
             (λ d only. elim [
               | step.Open ↦ λ it. other_variant it.0 refl
@@ -470,7 +470,7 @@ impl<'de> RoundTrip<'de> for Step {
             (tuple_variant_keeps
             (part_keeps (λ (z : ℤ × ℤ). z.0) 2 0 (integer_keeps kind.i32)
             (part_keeps (λ (z : ℤ × ℤ). z.1) 2 1 (integer_keeps kind.i32)
-            parts_end_keeps)))
+            (parts_end_keeps 2))))
             o people (x1, x2) p.free p.given in
             record { free = q.0; given = q.1 }
         | step.Left x1 x2 ↦ λ p.
@@ -520,7 +520,7 @@ impl<'de> CborRoundTrip<'de> for Step {
         | step.Moved x1 x2 ↦ λ real. variant_comes_back _ Self.gives (tuple_variant_kept
             (tuple_field_kept i32_kept x1 tt (λ (z : ℤ × ℤ). z.0) 2 0
             (tuple_field_kept i32_kept x2 tt (λ (z : ℤ × ℤ). z.1) 2 1
-            parts_end_kept)))
+            (parts_end_kept 2))))
             (λ v. refl)
             (λ b d only. elim [
               | step.Open ↦ λ it. other_variant
@@ -801,7 +801,7 @@ impl<'de> RoundTrip<'de> for Order {
                 (element_back u16_back x.0 real.0 (λ y. y.0) 3 0
                 (element_back u16_back x.1 real.1 (λ y. y.1) 3 1
                 (element_back u16_back x.2 real.2 (λ y. y.2) 3 2
-                parts_end)))
+                (parts_end 3))))
                 f (λ y h. both_hold (both_hold h.0 h.1.0) h.1.1.0);
           }) in law) p.size real.3
           (λ q. q.size)
@@ -840,7 +840,7 @@ impl<'de> RoundTrip<'de> for Order {
         (part_keeps (λ y. y.0) 3 0 (natural_keeps kind.u16)
         (part_keeps (λ y. y.1) 3 1 (natural_keeps kind.u16)
         (part_keeps (λ y. y.2) 3 2 (natural_keeps kind.u16)
-        parts_end_keeps)))) in law)
+        (parts_end_keeps 3))))) in law)
         (named_or_keeps (codes "note")
         (λ (x : (Option (Box (String Global) Global))). x ≡ None) (λ q. q.note)
         (let law : CoercionKeeps (⟦<Option<Box<String>> as Deserialize<'de>>⟧.refusal)
@@ -886,7 +886,7 @@ impl<'de> CborRoundTrip<'de> for Order {
                 (element_kept u16_kept x.0 real.0 (λ y. y.0) 3 0
                 (element_kept u16_kept x.1 real.1 (λ y. y.1) 3 1
                 (element_kept u16_kept x.2 real.2 (λ y. y.2) 3 2
-                parts_end_kept)))
+                (parts_end_kept 3))))
                 (λ y h. both_hold (both_hold h.0 h.1.0) h.1.1.0);
           }) in law) p.size real.3
           (λ q. q.size)

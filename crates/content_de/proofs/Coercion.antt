@@ -44,10 +44,16 @@ number_kept k coerces (of_tree (tree.number n)) z e =
     number_taken (is_of_kind k n) (in_range k (number_value n)) coerces (number_value n) z (misfit (of_tree (tree.number n)) (expected_number k)) tt e
 number_kept k coerces o z e = e
 
+-- what is held, or none, as a test says
+either_moved : (none : Bool) (s : Subject) → (if none then None else Some (coerced s)) ≡ option_map coerced (if none then None else Some s)
+either_moved true s = refl
+either_moved false s = refl
+
 -- what an option holds
 held_moved : (f : Flags) (o : Origin) → held_by (under (coercing f) o) ≡ option_map coerced (held_by (under f o))
 held_moved f (of_tree tree.absent) = refl
 held_moved f (of_tree (tree.present t)) = refl
+held_moved f (of_tree tree.unit) = either_moved f.buffered (under f (of_tree tree.unit))
 held_moved f o = refl
 
 -- what a newtype struct holds
@@ -84,7 +90,7 @@ coercion_kept = (
     octets = λ s a e. e;
     identifier = λ s a e. e;
     unit = λ s a e. e;
-    option = kept _ _ _ (λ s. ap taken (held_moved s.flags s.origin));
+    option = kept coerced _ _ (λ s. ap taken (held_moved s.flags s.origin));
     unit_struct = λ name s a e. e;
     newtype_struct = λ name. kept _ _ _ (λ s. newtype_moved name s.flags s.origin);
     seq = kept _ _ _ (λ s. mapped_twice _ coerced_seq (items_from s.origin));

@@ -14,6 +14,7 @@ ghost use Rattle.content_de.specs.declared.map.Entries.TheVariants as entries;
 ghost use Rattle.content_de.specs.Sources.Deserializer.{flags_of, subject};
 ghost use Rattle.content_de.specs.Accesses.Map.{map_view, entries_under, entries_view};
 ghost use Rattle.content_de.specs.Accesses.ByName.{by_name, entries_of, field_named, fields_left};
+ghost use Rattle.content_de.specs.Accesses.ByName.{buffered_fields};
 ghost use Rattle.content_de.specs.Accesses.ByName.{without_field, rest_of, PassesFirst};
 ghost use Rattle.content_de.specs.Accesses.ByName.{keyless_entry, field_entry};
 ghost use Rattle.content_de.specs.Reads.Read.{Reads};
@@ -173,6 +174,15 @@ impl<'de, 'n> FieldsByName<'de, 'n> {
                 flags,
             },
         }
+    }
+
+    /// From here on the entries are read out of a [buffer](crate::Deserializer::buffered). It takes
+    /// no memory.
+    #[inline(always)]
+    pub(crate) fn buffer(&mut self)
+        ensures { fields_left self.new ≡ buffered_fields (fields_left self.old) }
+    {
+        self.flags = self.flags.buffering();
     }
 
     /// Whether an entry has this name.

@@ -96,9 +96,9 @@ impl<'de, 'n> Deserializer<'de, 'n> {
         }
     }
 
-    /// The same as Serde reads what it holds in a buffer, where it tries the variants of an untagged
-    /// enum: numbers are coerced, and a tuple refuses elements that are left over. It takes no
-    /// memory.
+    /// The same as Serde reads what it holds in a buffer, as where it tries the variants of an
+    /// untagged enum: numbers are coerced, the unit is an empty option, and a tuple refuses elements
+    /// that are left over. It takes no memory.
     pub fn buffered(self) -> Deserializer<'de, 'n>
         ensures { subject result ≡ in_buffer (subject self.entry) }
     {

@@ -35,7 +35,7 @@ pub use deserializer::Deserializer;
 pub use enum_access::EnumAccess;
 pub use into::IntoDeserializer;
 pub use map::Map;
-pub use named_fields::{end_fields, field_or, named_field, skip_fields, tag_field};
+pub use named_fields::{end_fields, field_or, internal_tag, named_field, skip_fields, tag_field};
 pub use node::Node;
 pub use parts::{end_parts, finish_parts, next_field, next_part, two_parts};
 pub use plain::ValueVisitor;

@@ -6,6 +6,7 @@ ghost use Rattle.content_tree.specs.Values.Text.{text_of};
 ghost use Rattle.content_de.specs.Outcomes.{Answers, cause};
 ghost use Rattle.content_de.specs.Reads.Tagged.{tag_at};
 ghost use Rattle.content_de.specs.Accesses.ByName.{field_named, fields_left, without_field};
+ghost use Rattle.content_de.specs.Accesses.ByName.{buffered_fields};
 ghost use Rattle.content_de.specs.Reads.Read.{Reads};
 ghost use Rattle.content_de.specs.Reads.ByName.{found_refusal, FoundGives, missing_field};
 ghost use Rattle.content_de.specs.Reads.ByName.{no_others, others_skipped};
@@ -82,6 +83,26 @@ pub fn tag_field<'de, 'n: 'de>(
         Some(value) => value.deserialize_str(alloc),
         None => Err(missing_field(alloc, name)),
     }
+}
+
+/// The same, where the tag is internal, as Serde says: the other fields are then read out of a
+/// [buffer](crate::Deserializer::buffered).
+///
+/// # Errors
+///
+/// As those of [`tag_field`].
+pub fn internal_tag<'de, 'n: 'de>(
+    alloc: Global,
+    from: &mut FieldsByName<'de, 'n>,
+    name: &str,
+) -> Result<CowStr<'de>>
+    ensures value { Answers text_of (tag_at name.now (fields_left from.old)) result }
+    ensures rest { fields_left from.new
+        ≡ buffered_fields (without_field name.now (fields_left from.old)) }
+{
+    let tag = tag_field(alloc, from, name);
+    from.buffer();
+    tag
 }
 
 /// The end of fields that are taken by name, for a type of a caller's own that skips others: no

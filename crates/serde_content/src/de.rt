@@ -8,8 +8,9 @@ pub use crate::name_lists::{
     read_two_of, variant_index,
 };
 pub use crate::taking::{read_five, read_four, read_one, read_six, read_three, read_two};
+pub use crate::variants::{TaggedVariants, Variants, read_adjacent, read_enum, read_tagged};
 pub use content_de::{
     Deserialize, EnumAccess, FieldsByName, IntoDeserializer, Map, Node, Seq, VariantAccess,
-    attempt, attempt_fitting, end_fields, end_parts, field_or, finish_parts, named_field,
-    next_field, next_part, skip_fields, tag_field, two_parts, unknown_variant,
+    attempt, attempt_fitting, end_fields, end_parts, field_or, finish_parts, internal_tag,
+    named_field, next_field, next_part, skip_fields, tag_field, two_parts, unknown_variant,
 };

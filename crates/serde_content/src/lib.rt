@@ -25,3 +25,4 @@ mod sending;
 pub mod ser;
 mod taking;
 mod values;
+mod variants;

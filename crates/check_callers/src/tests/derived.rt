@@ -5,7 +5,7 @@ use check_derive::inlined::{Amount, Change, Line};
 use check_derive::sorts::{Message, Stop};
 use check_derive::types::{Order, Place, Step};
 use content_cbor::{to_bytes, write_and_read_back};
-use serde_content::{Deserializer, Result as Answer, Serializer, Value, round_trip};
+use serde_content::{Deserializer, Result as Answer, Serializer, Value, round_trip, value};
 use std::alloc::Global;
 use std::collections::BTreeMap;
 use std::test::Fail;
@@ -80,6 +80,15 @@ fn choices_are_read(rt: HostRuntime) -> Result<(), Fail> {
     let shown = format!(in alloc; "{}", value.display())?;
     assert!(rt; shown.as_str() == "Command { kind: \"move\", x: 3i32, y: None }");
     assert!(rt; round_trip(alloc, &there, false, false)? == there);
+    Ok(())
+}
+
+#[test]
+fn fields_beside_a_tag_are_buffered(rt: HostRuntime) -> Result<(), Fail> {
+    let alloc = rt.alloc();
+    let sent = value!(in alloc; { "kind": "move", "x": 1u64, "y": () })?;
+    let read: Command = Deserializer::new(sent).deserialize(alloc)?;
+    assert!(rt; read == Command::Move { x: 1, y: None });
     Ok(())
 }
 

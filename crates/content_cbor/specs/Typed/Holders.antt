@@ -36,7 +36,7 @@ seen_kept see kept = record {
 -- a form that isn't null stands for itself where an option is asked for
 held_form : (b : Bool) (t : Tree) → (form t ≡ tree.absent → ⊥) → held_by (read_in b (form t)) ≡ Some (read_in b (form t))
 held_form b tree.unit other = absurd (other refl)
-held_form b (tree.boolean b) other = refl
+held_form b (tree.boolean x) other = refl
 held_form b (tree.number n) other = refl
 held_form b (tree.character c) other = refl
 held_form b (tree.text t) other = refl

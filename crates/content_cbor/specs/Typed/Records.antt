@@ -58,7 +58,7 @@ struct_kept fields pass =
 -- a form stands for itself where a newtype struct is asked for
 newtype_form : (b : Bool) (name : List ℕ) (t : Tree) → newtype_from name (read_in b (form t)) ≡ taken (read_in b (form t))
 newtype_form b name tree.unit = refl
-newtype_form b name (tree.boolean b) = refl
+newtype_form b name (tree.boolean x) = refl
 newtype_form b name (tree.number n) = refl
 newtype_form b name (tree.character c) = refl
 newtype_form b name (tree.text t) = refl

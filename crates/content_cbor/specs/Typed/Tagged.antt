@@ -28,20 +28,20 @@ beside_form b fs = named_under (flags_in b) (map (λ e. (key_tree e.0, e.1)) (en
 abbrev pub tagged_form : (tag variant : List ℕ) → Fields → Tree
 tagged_form tag variant fs = tree.map (tree.pair_then (text_form tag) (text_form variant) (field_forms fs))
 
--- a value of this variant comes back, where its form is refused as what stands beside the tag is, and gives what that gives
+-- a value of this variant comes back, where its form is refused as what stands beside the tag is, in a buffer inside or not, and gives what that gives
 pub tagged_kept : {P Y : Type 0} {name tag variant : List ℕ} {len : ℕ} {rest : Bool → Script} {own : FieldsLeft → Option Cause} {given : P → FieldsLeft → Type 0} {such : P → Type 0}
     (refusal : Refusal) (gives : Gives Y) {passes : Y → Type 0} → NamedKept rest own given such
-    → ((b : Bool) (fs : Fields) → refusal (read_in b (tagged_form tag variant fs)) ≡ own (beside_form b fs))
-    → ((b : Bool) (fs : Fields) → ((z : P) → given z (beside_form b fs) → such z) → (y : Y) → gives (read_in b (tagged_form tag variant fs)) y → passes y)
+    → (inside : Bool → Bool) → ((b : Bool) (fs : Fields) → refusal (read_in b (tagged_form tag variant fs)) ≡ own (beside_form (inside b) fs))
+    → ((b : Bool) (fs : Fields) → ((z : P) → given z (beside_form (inside b) fs) → such z) → (y : Y) → gives (read_in b (tagged_form tag variant fs)) y → passes y)
     → SpellsSuch (FormGives refusal gives passes) (tagged_script name len tag variant rest false)
-tagged_kept {P} {Y} {name} {tag} {variant} {len} {rest} {own} {given} {such} refusal gives {passes} fields refused_so given_so =
+tagged_kept {P} {Y} {name} {tag} {variant} {len} {rest} {own} {given} {such} refusal gives {passes} fields inside refused_so given_so =
     such_spelled (spelled_call
     {Q = FieldsSuch (IsTagged tag variant (λ fs. FieldsFit fs → (b : Bool) → GivesOnly (own (named_under (flags_in b) (form_entries fs))) (λ z. given z (named_under (flags_in b) (form_entries fs))) such))}
     (λ calls others e. (
       _,
       spells_record e.1,
       subst (λ fs. FormGives refusal gives passes (tree.structure (static_name name) (tree.named fs))) (sym e.2.1) (λ fits b.
-          let beside = subst (λ es. GivesOnly (own (named_under (flags_in b) es)) (λ z. given z (named_under (flags_in b) es)) such) (entries_named e.2.0) (e.2.2 fits.1.2 b) in
+          let beside = subst (λ es. GivesOnly (own (named_under (flags_in (inside b)) es)) (λ z. given z (named_under (flags_in (inside b)) es)) such) (entries_named e.2.0) (e.2.2 fits.1.2 (inside b)) in
           record { free = refused_so b e.2.0 ∙ beside.free; only = given_so b e.2.0 beside.only }),
     ))
     (fields_more_such {p = λ t. t ≡ tree.text (owned_text variant)}

@@ -9,7 +9,8 @@ use Rattle.content_tree.specs.Values.Value.{tree_of, pair_tree, pairs_of}
 use Rattle.content_tree.specs.Values.Lookups.{is_text}
 use Rattle.content_tree.specs.declared.cow.CowStr.{CowStr}
 use Rattle.content_tree.specs.declared.value.NamedValue.{NamedValue}
-use Rattle.content_de.specs.Sources.Origin.{Origin, of_tree, of_identifier, Flags, Subject, tree_under}
+use Rattle.content_de.specs.Sources.Origin.{Origin, of_tree, of_identifier, Flags, Subject}
+use Rattle.content_de.specs.Sources.Origin.{tree_under, buffering}
 use Rattle.content_de.specs.Sources.Deserializer.{flags_of}
 use Rattle.content_de.specs.Accesses.Map.{MapLeft}
 use Rattle.content_de.specs.declared.by_name.Left.{Left}
@@ -37,6 +38,10 @@ field_named name f = option_map (tree_under f.flags) (lookup (is_text name) f.en
 -- the other entries, in order
 abbrev pub without_field : List ℕ → FieldsLeft → FieldsLeft
 without_field name f = record { entries = remove_entry (is_text name) f.entries; flags = f.flags }
+
+-- the same entries, read out of a buffer
+abbrev pub buffered_fields : FieldsLeft → FieldsLeft
+buffered_fields f = record { entries = f.entries; flags = buffering f.flags }
 
 -- the key of the first entry passes the test
 abbrev pub PassesFirst : {K X : Type 0} → (K → Bool) → List (K × X) → Type 0

@@ -5,7 +5,7 @@ use Rattle.content_tree.specs.Values.Text.{Text}
 use Rattle.content_de.specs.Sources.Origin.{Subject}
 use Rattle.content_de.specs.Outcomes.{Outcome, refused, refusal_then, IsTaken}
 use Rattle.content_de.specs.Requests.Leaves.{text_from}
-use Rattle.content_de.specs.Accesses.ByName.{FieldsLeft, field_named, without_field}
+use Rattle.content_de.specs.Accesses.ByName.{FieldsLeft, field_named, without_field, buffered_fields}
 use Rattle.content_de.specs.Reads.ByName.{missing_field}
 
 -- the text of what was found, where something was
@@ -24,3 +24,13 @@ tag_then name variants f = refusal_then (tag_at name f) (λ tag. variants tag.co
 -- the field of this name tells this variant, and the others give this
 abbrev pub TagThen : List ℕ → List ℕ → (FieldsLeft → Type 0) → FieldsLeft → Type 0
 TagThen name variant held f = IsTaken (tag_at name f) (λ tag. tag.content ≡ variant) × held (without_field name f)
+
+-- the field of this name tells the variant, which reads the others out of a buffer
+abbrev pub tag_then_buffered : List ℕ → (List ℕ → FieldsLeft → Option Cause) → FieldsLeft → Option Cause
+tag_then_buffered name variants f =
+    refusal_then (tag_at name f) (λ tag. variants tag.content (buffered_fields (without_field name f)))
+
+-- the field of this name tells this variant, and the others, read out of a buffer, give this
+abbrev pub TagThenBuffered : List ℕ → List ℕ → (FieldsLeft → Type 0) → FieldsLeft → Type 0
+TagThenBuffered name variant held f =
+    IsTaken (tag_at name f) (λ tag. tag.content ≡ variant) × held (buffered_fields (without_field name f))

@@ -1,5 +1,5 @@
 -- Requests for data without parts.
-use Rattle.std.specs.Prelude.{ℕ, Bool, Option, Some, None}
+use Rattle.std.specs.Prelude.{ℕ, Bool, Option, Some, None, if◌then◌else◌}
 use Rattle.content_tree.specs.Values.Text.{Text}
 use Rattle.content_tree.specs.Values.Tree as tree
 use Rattle.content_tree.specs.Errors.Cause.{nameless}
@@ -42,9 +42,14 @@ unit_from (of_tree tree.unit) = taken tt
 unit_from (of_identifier n i) = taken tt
 unit_from o = misfit o (nameless want.Unit)
 
--- what stands in an option; anything else stands for itself
+-- what an option holds; anything else is held itself, but the unit, in a buffer, is an option that holds nothing
 abbrev pub held_by : Subject → Option Subject
 held_by s = elim s.origin [
-  | of_tree t ↦ elim t [ tree.absent ↦ None | tree.present u ↦ Some (tree_under s.flags u) | u ↦ Some s ]
+  | of_tree t ↦ elim t [
+    | tree.absent ↦ None
+    | tree.present u ↦ Some (tree_under s.flags u)
+    | tree.unit ↦ if s.flags.buffered then None else Some s
+    | u ↦ Some s
+  ]
   | of_identifier n i ↦ Some s
 ]

@@ -125,6 +125,7 @@ impl<'de, 'n> Deserializer<'de, 'n> {
         let Deserializer { source, flags } = self;
         match source {
             Source::Tree(NamedValue::Option(None)) => Ok(None),
+            Source::Tree(NamedValue::Unit) if flags.buffered => Ok(None),
             Source::Tree(NamedValue::Option(Some(held))) => {
                 Ok(Some(Deserializer::inside(Box::into_inner(held), flags)))
             }

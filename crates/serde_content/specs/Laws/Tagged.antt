@@ -13,14 +13,14 @@ use Rattle.content_ser.specs.Grammar.Spells.{spells_record}
 use Rattle.content_ser.specs.Scripts.Script.{Script}
 use Rattle.content_ser.specs.Scripts.Standard.{only}
 use Rattle.content_ser.specs.Scripts.Own.{field_first, struct_script}
-use Rattle.content_de.specs.Sources.Origin.{Flags, tree_under}
+use Rattle.content_de.specs.Sources.Origin.{Flags, tree_under, buffering}
 use Rattle.content_de.specs.Outcomes.{Outcome, taken, refused, refusal_then, IsTaken}
 use Rattle.content_de.specs.Requests.Compounds.{entries_of_fields}
 use Rattle.content_de.specs.Accesses.ByName.{FieldsLeft, key_tree}
 use Rattle.content_de.specs.Reads.Read.{Refusal, Gives}
-use Rattle.content_de.specs.Reads.Tagged.{found_text, tag_at, tag_then, TagThen}
+use Rattle.content_de.specs.Reads.Tagged.{found_text, tag_at, tag_then, TagThen, tag_then_buffered, TagThenBuffered}
 use Rattle.serde_content.specs.RoundTrip.{SpellsSuch, GivesOnly, flags}
-use Rattle.serde_content.specs.Laws.Spelled.{FieldsSuch, spelled_call, such_spelled, leaf_such}
+use Rattle.serde_content.specs.Laws.Spelled.{FieldsSuch, Spelled, spelled_call, such_spelled, leaf_such}
 use Rattle.serde_content.specs.Laws.Spelled.{fields_more_such}
 use Rattle.serde_content.specs.Laws.ByName.{NamedBack, NamedKeep, named_entries, named_under}
 use Rattle.serde_content.specs.Laws.ByName.{entries_by_name}
@@ -43,26 +43,27 @@ abbrev pub IsTagged : (tag variant : List ℕ) → (Fields → Type 0) → Field
 IsTagged tag variant such fs =
     (others : Fields) × (fs ≡ tree.field_then (static_name tag) (tree.text (owned_text variant)) others) × such others
 
--- a value of this variant comes back, where its node is refused as what stands beside the tag is, and gives what that gives
+-- a value of this variant comes back, where its node is refused as what stands beside the tag is under these flags, and gives what that gives
 pub tagged_back : {P Y : Type 0} {name tag variant : List ℕ} {len : ℕ} {rest : Bool → Script} {own : FieldsLeft → Option Cause} {given : P → FieldsLeft → Type 0} {such : P → Type 0}
-    (refusal : Refusal) (gives : Gives Y) {passes : Y → Type 0} → NamedBack rest own given such → (f : Flags)
-    → ((fs : Fields) → refusal (tree_under f (tagged_node name tag variant fs)) ≡ own (beside_tag f fs))
-    → ((fs : Fields) → ((z : P) → given z (beside_tag f fs) → such z) → (y : Y) → gives (tree_under f (tagged_node name tag variant fs)) y → passes y)
+    (refusal : Refusal) (gives : Gives Y) {passes : Y → Type 0} → NamedBack rest own given such → (f beside : Flags) → beside.human_readable ≡ f.human_readable
+    → ((fs : Fields) → refusal (tree_under f (tagged_node name tag variant fs)) ≡ own (beside_tag beside fs))
+    → ((fs : Fields) → ((z : P) → given z (beside_tag beside fs) → such z) → (y : Y) → gives (tree_under f (tagged_node name tag variant fs)) y → passes y)
     → SpellsSuch (λ t. GivesOnly (refusal (tree_under f t)) (gives (tree_under f t)) passes) (tagged_script name len tag variant rest f.human_readable)
-tagged_back {P} {Y} {name} {tag} {variant} {len} {rest} {own} {given} {such} refusal gives {passes} fields f refused_so given_so =
+tagged_back {P} {Y} {name} {tag} {variant} {len} {rest} {own} {given} {such} refusal gives {passes} fields f beside same refused_so given_so =
     such_spelled (spelled_call
-    {Q = FieldsSuch (IsTagged tag variant (λ fs. GivesOnly (own (named_under f (named_entries fs))) (λ z. given z (named_under f (named_entries fs))) such))}
+    {Q = FieldsSuch (IsTagged tag variant (λ fs. GivesOnly (own (named_under beside (named_entries fs))) (λ z. given z (named_under beside (named_entries fs))) such))}
     (λ calls others e.
-    let beside = subst (λ es. GivesOnly (own (named_under f es)) (λ z. given z (named_under f es)) such) (entries_by_name 1 e.2.0) e.2.2 in (
+    let there = subst (λ es. GivesOnly (own (named_under beside es)) (λ z. given z (named_under beside es)) such) (entries_by_name 1 e.2.0) e.2.2 in (
       _,
       spells_record e.1,
       subst
           (λ fs. GivesOnly (refusal (tree_under f (tree.structure (static_name name) (tree.named fs)))) (gives (tree_under f (tree.structure (static_name name) (tree.named fs)))) passes)
-          (sym e.2.1) (record { free = refused_so e.2.0 ∙ beside.free; only = given_so e.2.0 beside.only }),
+          (sym e.2.1) (record { free = refused_so e.2.0 ∙ there.free; only = given_so e.2.0 there.only }),
     ))
     (fields_more_such {p = λ t. t ≡ tree.text (owned_text variant)}
     (λ t fs is one. (fs, ap (λ u. tree.field_then (static_name tag) u fs) is, one))
-    (leaf_such (tree.text (owned_text variant)) refl refl) (fields.of_flags f)))
+    (leaf_such (tree.text (owned_text variant)) refl refl)
+    (subst (λ h. Spelled (FieldsSuch (λ fs. GivesOnly (own (named_under beside (named_entries fs))) (λ z. given z (named_under beside (named_entries fs))) such)) (rest h)) same (fields.of_flags beside))))
 
 -- a tag that is read as the variant's name, and what stands beside it
 beside_kept : {P : Type 0} {own : FieldsLeft → Option Cause} {given : P → FieldsLeft → Type 0} (variant : List ℕ) (variants : List ℕ → FieldsLeft → Option Cause)
@@ -93,5 +94,18 @@ tag_keeps {P} {own} {given} tag variant variants so keeps = record {
       record {
         free = subst (λ o. refusal_then o (λ t. variants t.content (named_under (flags h true) others)) ≡ None) same there.0;
         given = subst (λ o. IsTaken o (λ t. t.content ≡ variant) × given z (named_under (flags h true) others)) same there.1;
+      };
+}
+
+-- the same out of a buffer, where numbers are always coerced
+pub tag_keeps_buffered : {P : Type 0} (tag variant : List ℕ) (variants : List ℕ → FieldsLeft → Option Cause) (given : P → FieldsLeft → Type 0)
+    → NamedKeep (tag_then_buffered tag variants) (λ z. TagThenBuffered tag variant (given z))
+tag_keeps_buffered tag variant variants given = record {
+  of_entries = λ es h z p.
+      let others = named_under (buffering (flags h true)) (remove_entry (is_text tag) es) in
+      let same = same_tag tag (flags h false) (flags h true) (lookup (is_text tag) es) in
+      record {
+        free = subst (λ o. refusal_then o (λ t. variants t.content others) ≡ None) same p.free;
+        given = subst (λ o. IsTaken o (λ t. t.content ≡ variant) × given z others) same p.given;
       };
 }

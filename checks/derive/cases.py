@@ -1,0 +1,112 @@
+"""Runs tools/derive on each block of declarations in taken.rs, refused.rs and not_rust.rs, and on files that it can't read.
+
+Above a block stand the lines that it answers on standard error, after `// `; in taken.rs also `// + text` for what the
+module has, and `// - text` for what it has not. All modules that are written must be laid out by `rt fmt`."""
+import re
+import subprocess
+import sys
+import tempfile
+from pathlib import Path
+from typing import Iterator, List, Tuple
+
+top = Path(sys.argv[1])
+here = top / "checks" / "derive"
+sys.dont_write_bytecode = True
+sys.path.insert(0, str(top / "tools"))
+
+from serde_derive.declarations import Refusals  # noqa: E402
+from serde_derive.module import module  # noqa: E402
+
+
+def outcome(source: str) -> Tuple[int, List[str], str]:
+    """The status for a source, the lines that it answers and the module."""
+    notes, text, status, lines = [], "", 0, []
+    try:
+        text = module(source, "types.rs", "a", "types", True, notes)
+    except Refusals as refusals:
+        status, lines = refusals.status, [f"{refused.line}: {refused}" for refused in refusals.each]
+    return status, [f"{line}: {note}" for line, note in notes] + lines, text
+
+
+def blocks(name: str) -> Iterator[Tuple[List[str], str]]:
+    """The blocks of a file, each with the lines above it."""
+    for block in (here / name).read_text(encoding="utf-8").split("\n\n")[1:]:
+        wanted = re.match(r"(?:// .*\n)*", block).group()
+        yield [line[3:] for line in wanted.splitlines()], block[len(wanted):].rstrip("\n") + "\n"
+
+
+def faults(status: int, wanted: List[str], source: str, written: List[str]) -> Iterator[str]:
+    """What of a block is otherwise than it should be."""
+    got, lines, text = outcome(source)
+    answers = [line for line in wanted if line[:2] not in ("+ ", "- ")]
+    if (got, lines) != (status, answers):
+        yield "\n".join([f"wanted {status}"] + answers + [f"found {got}"] + lines)
+    for line in wanted:
+        if line[:2] in ("+ ", "- ") and (line[2:] in " ".join(text.split())) != (line[0] == "+"):
+            yield f"{'lacks' if line[0] == '+' else 'has'} {line[2:]}"
+    written.append(text)
+
+
+def command(room: Path, *words: str) -> Tuple[int, str]:
+    """The status of the command and what it answers, with the room's path left out."""
+    done = subprocess.run([top / "tools" / "derive", "--crate", "a", "--module", "types", *words], cwd=room,
+                          capture_output=True, text=True)
+    return done.returncode, done.stderr.replace(f"{room}/", "").strip()
+
+
+def commands(room: Path) -> Iterator[str]:
+    """What of the command itself is otherwise than it should be."""
+    good, bad, out = room / "good.rs", room / "bad.rs", room / "out.rt"
+    good.write_text("\ufeff#[derive(Serialize)]\r\nstruct A(u8);\r\n", encoding="utf-8")
+    bad.write_text("#[derive(Serialize)]\nstruct A(f32);\n")
+    (room / "latin.rs").write_bytes(b"//! caf\xe9\n")
+    out.write_text("what stood there\n")
+    tries = [
+        (["bad.rs", "-o", "out.rt"], 2, "bad.rs:2: A.0: floats are not covered", "what stood there\n"),
+        (["good.rs", "-o", "nowhere/out.rt"], 1, "nowhere/out.rt: can't be written: No such file or directory", None),
+        (["none.rs"], 1, "none.rs: can't be read: No such file or directory", None),
+        (["."], 1, ".: can't be read: Is a directory", None),
+        (["latin.rs"], 1, "latin.rs:1: is not UTF-8: store the file so", None),
+        (["good.rs", "--check", "none.rt"], 1, "none.rt: can't be read: No such file or directory", None),
+        (["good.rs", "-o", "out.rt"], 0, "", None),
+        (["good.rs", "--check", "out.rt"], 0, "", None),
+        (["good.rs", "--check", "bad.rs"], 1, "bad.rs:1: stored: #[derive(Serialize)]\n1: written: //! Types that are"
+         " sent and read.", None),
+    ]
+    for words, status, answer, stored in tries:
+        got = command(room, *words)
+        if got != (status, answer) or (stored and out.read_text() != stored):
+            yield f"{' '.join(words)}: wanted {status} {answer}\nfound {got[0]} {got[1]}"
+    if sorted(path.name for path in room.iterdir()) != ["bad.rs", "good.rs", "latin.rs", "out.rt"]:
+        yield f"files were left: {sorted(path.name for path in room.iterdir())}"
+
+
+def laid_out(room: Path, written: List[str]) -> Iterator[str]:
+    """What `rt fmt` says of the modules that were written."""
+    folder = room / "crates" / "written" / "src"
+    folder.mkdir(parents=True)
+    (room / "crates.txt").write_text("written:\n")
+    modules = [text for text in written if text]
+    for place, text in enumerate(modules):
+        (folder / f"m{place}.rt").write_text(text, encoding="utf-8")
+    (folder / "lib.rt").write_text("//! All.\n" + "".join(f"mod m{place};\n" for place in range(len(modules))))
+    done = subprocess.run(["rt", "fmt"], cwd=folder.parent, capture_output=True, text=True)
+    yield from (line for line in (done.stdout + done.stderr).splitlines() if "rt: formatted" not in line)
+
+
+def main() -> int:
+    count, wrong, written = 0, [], []
+    for status, name in enumerate(("taken.rs", "not_rust.rs", "refused.rs")):
+        for wanted, source in blocks(name):
+            count += 1
+            wrong += [f"{name}: {fault}\n{source}" for fault in faults(status, wanted, source, written)]
+    with tempfile.TemporaryDirectory() as room:
+        wrong += commands(Path(room))
+    with tempfile.TemporaryDirectory() as room:
+        wrong += laid_out(Path(room), written)
+    print("\n".join(wrong + [f"derive: {count} declarations, {len(wrong)} otherwise than they should be"]))
+    return 1 if wrong else 0
+
+
+if __name__ == "__main__":
+    sys.exit(main())

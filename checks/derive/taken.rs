@@ -1,0 +1,212 @@
+//! Declarations that tools/derive takes, each below the lines that it answers.
+
+// 1: left out: `#[repr(C)]`
+// - repr
+#[repr(C)]
+#[derive(Serialize)]
+struct A(u8);
+
+// 2: left out: `#[repr(u8)]`
+// 4: left out: the discriminant `X = 1`
+// 5: left out: the discriminant `Y = 1<<3`
+// 6: left out: the discriminant `Z = (3<4) as isize`
+// + enum A { X, Y, Z { x: u8, }, }
+#[derive(Serialize)]
+#[repr(u8)]
+enum A {
+    X = 1,
+    Y = 1 << 3,
+    Z { x: u8 } = (3 < 4) as isize,
+}
+
+// 6: passed over: `pub use std::fmt::{self, Display}`, but for what it brings into this file
+// 7: passed over: `use super::other::*`
+// 10: passed over: `const N`
+// 11: passed over: `static mut S`
+// 12: passed over: `extern crate alloc`
+// 13: passed over: `extern "C"`
+// 14: passed over: `pub(crate) const unsafe extern "C" fn g`
+// 15: passed over: `mod x`
+// 17: passed over: `mod tests`
+// 18: passed over: `trait T`
+// 19: passed over: `macro_rules! m`
+// 20: passed over: `m!`
+// 21: passed over: `std::thread_local!`
+// 23: passed over: `pub enum Plain`, which derives neither Serialize nor Deserialize
+// 25: passed over: `struct Other`, which derives neither Serialize nor Deserialize
+// 26: passed over: `type Id = (u8, Alias)`, which is written as the type that it stands for
+// 27: passed over: `type Alias = Option<Vec<u32>>`, which is written as the type that it stands for
+// 29: left out: `#[must_use]`
+// 30: left out: `#[non_exhaustive]`
+// 32: left out: `#[deprecated = "old"]`
+// 47: passed over: `impl fmt::Display for A`
+// 48: passed over: `impl<'a> From<&'a str> for A`
+// 49: passed over: `unsafe impl Send for A`
+// + //! A whole file. //! With documentation. //! //! Written by
+// + use crate::other; use crate::other::Thing; use crate::other::deep::Third as Drei;
+// - fmt
+// - Not documentation
+// + /// In an attribute. #[derive(Drop, Clone, Debug, PartialEq, Eq)] pub(in crate::a) struct A {
+// + /// Raw "text". pub(crate) x: (u8, Option<Vec<u32>>), /// A block /// of two lines. pub(self) y: Vec<u8>, z: BTreeMap<String, Thing>,
+//! A whole file.
+#![allow(dead_code)]
+#![doc = "With documentation."]
+use serde::*;
+use std::collections::BTreeMap as Map;
+pub use std::fmt::{self, Display};
+use super::other::*;
+use crate::other::{self, Thing, deep::{Third as Drei}};
+/// Not documentation of a type.
+const N: usize = { let x = 3; x };
+static mut S: [u8; 3] = [1; 3];
+extern crate alloc as a;
+extern "C" { fn f(x: u8); }
+pub(crate) const unsafe extern "C" fn g<T>(x: T) -> [u8; 3] where T: Copy { [1, 2, 3] }
+mod x;
+#[cfg(test)]
+mod tests { #[test] fn t() { let x = '{'; let y = "}"; } }
+trait T { fn f(&self); }
+macro_rules! m { ($x:expr) => { $x }; }
+m!(1);
+std::thread_local! { static X: u8 = b'"'; }
+#[derive(Debug, Clone, thiserror::Error)]
+pub enum Plain<'a, T: 'a> { #[error("x")] A(&'a T) }
+#[derive(Default)]
+struct Other { x: f64 }
+type Id = (u8, Alias);
+type Alias = Option<Vec<u32>>;
+#[derive(Clone, Debug, serde::Serialize, ::serde::Deserialize, PartialEq, Eq)]
+#[must_use]
+#[non_exhaustive]
+#[allow(clippy::all)]
+#[deprecated = "old"]
+#[rustfmt::skip]
+#[doc = "In an attribute."]
+#[doc(hidden)]
+pub(in crate::a) struct A {
+    #[doc = r#"Raw "text"."#]
+    #[expect(unused)]
+    pub(crate) x: Id,
+    /** A block
+     *  of two lines. */
+    pub(self) y: ::std::vec::Vec<u8>, /* nested /* comment */ */
+    z: Map<String, Thing>,
+    w: other::Inner,
+    v: Drei,
+}
+impl fmt::Display for A { fn fmt(&self) -> u8 { r##"}"#"##; 1.0 .. 2. } }
+impl<'a> From<&'a str> for A { }
+unsafe impl Send for A {}
+
+// + struct A(pub (u8, u8));
+// + struct B(pub(crate) (u8,), pub(crate) u8, pub u8);
+#[derive(Serialize)]
+struct A(pub (u8, u8));
+#[derive(Serialize)]
+struct B(pub(crate) (u8,), pub (crate) u8, pub ((u8)));
+
+// 1: read as if its condition held: `#[cfg_attr]`
+// 2: read as if its condition held: `#[cfg_attr]`
+// 4: read as if its condition held: `#[cfg_attr]`
+// + (codes "someName")
+// + (codes "z")
+#[cfg_attr(feature = "serde", derive(serde::Serialize, serde::Deserialize), serde(rename_all = "camelCase"))]
+#[cfg_attr(docsrs, doc(cfg(feature = "serde")))]
+struct A {
+    #[cfg_attr(feature = "serde", serde(rename = "z"))]
+    x: u8,
+    some_name: u8,
+}
+
+/// A tab	here, größe and 日本 and a zero-width space​ too.
+#[derive(Serialize)]
+struct A(u8); // ein Größter Kommentar 😀
+
+// + .TheVariants as the_data;
+// + .TheVariants as the_the_data;
+// + result ≡ the_data.Open data_field_field open_field
+#[derive(Serialize, Deserialize, PartialEq, Eq)]
+enum Data {
+    Record(i8),
+    Open { data: i8, open: u8, module: u8, record: u8, elim: u8, ruleset: u8, axiom: u8, infix: u8, data_field: u8 },
+}
+#[derive(Serialize, Deserialize, PartialEq, Eq)]
+enum TheData { Type(i8) }
+#[derive(Serialize, Deserialize, PartialEq, Eq)]
+enum Where { Let }
+#[derive(Serialize, Deserialize, PartialEq, Eq)]
+enum In { Use }
+#[derive(Serialize, Deserialize, PartialEq, Eq)]
+enum Do { Pub, Mod, Module, Axiom, Infix, Elim, Ruleset }
+#[derive(Serialize, Deserialize, PartialEq, Eq)]
+enum Record { A }
+#[derive(Serialize, Deserialize, PartialEq, Eq)]
+enum Match { Type, Loop(i64) }
+#[derive(Serialize, Deserialize, PartialEq, Eq)]
+enum Type { Fn }
+#[derive(Serialize, Deserialize, PartialEq, Eq)]
+enum Search { There(i8) }
+#[derive(Serialize, Deserialize, PartialEq, Eq)]
+enum There { There(i8) }
+
+// + let result_field = named_field(
+#[derive(Serialize, Deserialize, PartialEq, Eq)]
+struct A { result: i8, alloc: u8, fields: u8, serializer: u8, named_field: u8, read_two: u8, field_or: u8, alloc_field: Option<u8> }
+#[derive(Serialize, Deserialize, PartialEq, Eq)]
+enum B { X { result: i8, result_field: u8 } }
+
+// + fn read_order_placed<
+// + fn read_order_placed_variant<
+// + fn send_order_placed_variant<
+#[derive(Serialize, Deserialize)]
+enum Order { Placed { a: u8, b: u8, c: u8 }, OrderPlaced(u8) }
+#[derive(Serialize, Deserialize)]
+struct OrderPlaced { a: u8, b: u8, c: u8 }
+
+// + fn read_one_type<
+// + fn read_two_type<
+// + fn send_eight_type<
+#[derive(Serialize, Deserialize)]
+struct One { a: u8 }
+#[derive(Serialize, Deserialize)]
+struct Two { a: u8, b: u8, c: u8 }
+#[derive(Serialize, Deserialize)]
+struct Eight { a: u8, b: u8, c: u8, d: u8, e: u8, f: u8, g: u8, h: u8, i: u8 }
+#[derive(Serialize, Deserialize)]
+struct Read_two { a: u8 }
+
+// + as the_status;
+#[derive(Serialize, Deserialize, PartialEq, Eq)]
+enum Status { Changed { status: i32 }, Left(i8) }
+
+// + fn read_same<
+// + fn read_the_same<
+#[derive(Serialize, Deserialize, PartialEq, Eq)]
+#[serde(tag = "data")]
+enum Same { A { x: i8 }, B }
+#[derive(Serialize, Deserialize, PartialEq, Eq)]
+struct TheSame { a: u8, b: u8, c: u8 }
+
+// 9: passed over: `impl Default for D`
+#[derive(Clone, Copy, Default, Hash, Debug, PartialEq, Eq, PartialOrd, Ord, Serialize, Deserialize)]
+struct A { x: Option<u8>, y: (u8, char), z: (), b: B }
+#[derive(Clone, Copy, Default, Hash, Debug, PartialEq, Eq, PartialOrd, Ord, Serialize, Deserialize)]
+enum B { #[default] X, Y(u8) }
+#[derive(Default, Serialize)]
+struct C { x: Option<String>, d: D }
+#[derive(Serialize)]
+struct D;
+impl Default for D { fn default() -> D { D } }
+
+#[derive(Serialize, Deserialize)]
+struct A(std::collections::BTreeMap<std::string::String, core::option::Option<Box<u8>>>);
+
+// + (codes "abc")
+// + (codes "r#w")
+#[derive(Serialize)]
+struct A { #[serde(rename = "a\u{62}\x63", default)] x: u8, #[serde(rename = r"r#w")] y: u8 }
+
+#[derive(Serialize)]
+struct A { #[serde(flatten)] b: B, b_c: u8 }
+#[derive(Serialize)]
+struct B { c: u8 }

@@ -1,0 +1,150 @@
+"""Reads what stands before a declaration: documentation, derives, Serde's attributes and others."""
+import re
+from dataclasses import dataclass, field
+from typing import Dict, List, Tuple
+
+from .cases import CASES
+from .declarations import NotRust, Refused
+from .tokens import Cursor, text_of
+
+COVERED = {
+    "a container": {"rename", "rename_all", "rename_all_fields", "deny_unknown_fields", "untagged",
+                    "tag", "content"},
+    "a variant": {"rename", "rename_all"},
+    "a field": {"rename", "default", "flatten"},
+}
+NOT_COVERED = {
+    "f32": "floats are not covered", "f64": "floats are not covered",
+    "HashMap": "a HashMap is not covered: a BTreeMap is",
+    "skip_serializing_if": "what is left out is not always read as what it was",
+    "skip": "what is left out would not come back",
+    "skip_serializing": "what is left out would not come back",
+    "skip_deserializing": "what is left unread would not come back",
+    "with": "a function of your own has no contract here",
+}
+DERIVES = set("Clone Copy Debug Default Drop Eq Hash Ord PartialEq PartialOrd Serialize Deserialize".split())
+SERDE = {"Serialize", "Deserialize"}
+CRATES = {"std", "core", "alloc", "serde", "serde_derive"}
+# attributes that change nothing of what is written, and those of which it is said that they are left out
+PASSED = set("""allow expect warn deny forbid inline cold automatically_derived rustfmt clippy diagnostic track_caller
+test ignore macro_use macro_export path""".split())
+DROPPED = {"repr", "non_exhaustive", "must_use", "deprecated"}
+
+
+@dataclass
+class Head:
+    """What stands before a declaration: the lines that are kept, derives, Serde's attributes, what is
+    refused where the declaration is covered otherwise, and notes."""
+
+    lines: List[str] = field(default_factory=list)
+    derives: List[str] = field(default_factory=list)
+    serde: Dict[str, str] = field(default_factory=dict)
+    refused: List[Refused] = field(default_factory=list)
+    notes: List[Tuple[int, str]] = field(default_factory=list)
+
+
+def doc_line(text: str) -> str:
+    """A line of documentation as Rattle takes it: without tabs and other signs that are not seen."""
+    return re.sub(r"[^\x20-\x7e\xa1-\uffff\U00010000-\U0010ffff]", " ", text.replace("\t", "    ")).rstrip()
+
+
+class Attributes(Cursor):
+    """Reads attributes."""
+
+    def head(self, level: str) -> Head:
+        """All that stands before a declaration."""
+        head = Head()
+        while self.next.text == "#" or (self.next.sort == "doc" and self.next.text.startswith("///")):
+            if not self.eat("#"):
+                head.lines.append(doc_line(self.take().text))
+                continue
+            if self.next.text != "[":
+                self.expect("[")
+            end = self.pairs[self.place]
+            self.take()
+            try:
+                self.attribute(level, head)
+                if self.place != end:
+                    self.expect("]")
+            except NotRust:
+                raise
+            except Refused as refused:
+                head.refused.append(refused)
+            self.place = end + 1
+        return head
+
+    def attribute(self, level: str, head: Head) -> None:
+        """An attribute, as it stands in its brackets."""
+        start, line, name = self.place, self.next.line, self.path()
+        if name == ["unsafe"]:
+            self.pass_to()
+        elif name == ["derive"]:
+            self.expect("(")
+            self.listed(")", lambda: self.derive(head))
+        elif name == ["serde"]:
+            self.expect("(")
+            self.listed(")", lambda: self.serde(level, head.serde))
+        elif name == ["cfg_attr"]:
+            self.conditional(level, head)
+        elif name == ["doc"]:
+            self.documentation(head.lines)
+        elif name == ["default"] and level == "a variant":
+            head.lines.append("#[default]")
+        else:
+            self.foreign(start, line, name[0], head)
+
+    def derive(self, head: Head) -> None:
+        """One of the traits that are derived, once."""
+        path = self.path()
+        ours = len(path) == 1 or path[0] in CRATES
+        name = path[-1] if ours else "::".join(path)
+        if name not in DERIVES:
+            head.refused.append(Refused(self.next.line, f"`derive({name})` is not covered, as no rule of Rattle writes it:"
+                                        " delete it here, and write its impl by hand where you need it"))
+        elif name not in head.derives:
+            head.derives.append(name)
+
+    def conditional(self, level: str, head: Head) -> None:
+        """Attributes under a condition, which is taken to hold."""
+        head.notes.append((self.next.line, "read as if its condition held: `#[cfg_attr]`"))
+        self.expect("(")
+        self.pass_to(",")
+        self.expect(",")
+        self.listed(")", lambda: self.attribute(level, head))
+
+    def documentation(self, lines: List[str]) -> None:
+        """`#[doc = ".."]` as lines of documentation; `#[doc(..)]` is passed over."""
+        if self.eat("="):
+            lines += [doc_line(f"/// {line.strip()}") for line in text_of(self.take()).split("\n")]
+        else:
+            self.pass_to(",")
+
+    def foreign(self, start: int, line: int, name: str, head: Head) -> None:
+        """An attribute that is not Serde's."""
+        self.pass_to(",")
+        shown = self.shown(start)
+        if name == "cfg":
+            raise Refused(line, f"`#[{shown}]` is not covered, as the module is written once for all: delete it,"
+                          " or move what it is about to a file of its own")
+        if name in DROPPED:
+            head.notes.append((line, f"left out: `#[{shown}]`"))
+        elif name not in PASSED:
+            raise Refused(line, f"the attribute `{name}` is not covered, as no derive of Rattle reads it: delete it")
+
+    def serde(self, level: str, into: Dict[str, str]) -> None:
+        """One of Serde's attributes."""
+        line, key = self.next.line, self.take().text
+        if key not in COVERED[level]:
+            why = NOT_COVERED.get(key)
+            raise Refused(line, f"serde's `{key}` on {level} is not covered" + (f": {why}" if why else ""))
+        if self.next.text == "(":
+            raise Refused(line, f"serde's `{key}` by direction is not covered: one name goes both ways")
+        valued = self.eat("=")
+        if valued != (key in ("tag", "content") or key.startswith("rename")):
+            why = NOT_COVERED["with"] if valued else "it lacks a value"
+            raise Refused(line, f"serde's `{key}` so is not covered: {why}")
+        if key in into:
+            raise Refused(line, f"serde's `{key}` stands twice")
+        into[key] = text_of(self.take()) if valued else ""
+        if key.startswith("rename_all") and into[key] not in CASES:
+            raise Refused(line, f"serde's `{key}` knows no case `{into[key]}`: it has {', '.join(CASES)}")

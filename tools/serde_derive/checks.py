@@ -1,0 +1,79 @@
+"""What a declaration is refused for by itself."""
+from typing import Iterator, List
+
+from .declarations import Item, NotRust, Refused
+from .homes import placed
+from .types import LEAVES
+from .words import SEEN, TAKEN, WORDS
+
+# what names no type, field or variant: words of Rattle's, and names that it makes itself
+NOT_TYPES = {*TAKEN, *WORDS, *SEEN, *LEAVES, "str", "f32", "f64", "tuple", "Lib", "Prim", "Self", "deriving", "TheOwn",
+             "TheVariants", "TheBound", "TheImpl", "TheLinks", "TheLaws"}
+NO_FIELDS = {"ghost", "requires", "ensures", "deriving"}
+NO_VARIANTS = NO_FIELDS | {"the_row", "the_data", "TheLaws", "TheVariants"}
+
+
+def renamed(name: str, what: str) -> str:
+    """What to write where a name can't be kept."""
+    return f"give the {what} another name, and this one by `#[serde(rename = \"{name}\")]`"
+
+
+def check_names(item: Item) -> Iterator[Refused]:
+    """Refuses names that the module could not write."""
+    if item.name in NOT_TYPES or (item.name == "S" and item.variants):
+        yield Refused(item.line, f"the name `{item.name}` is one that the module uses itself:"
+                      f" {renamed(item.name, 'type')}", item.name)
+    for where, f in placed(item):
+        if f.name in NO_FIELDS:
+            yield Refused(f.line, f"`{f.name}` is a word of Rattle's: {renamed(f.name, 'field')}", where)
+    for v in item.variants:
+        if v.name in NO_VARIANTS:
+            yield Refused(v.line, f"`{v.name}` is a word of Rattle's: {renamed(v.name, 'variant')}", f"{item.name}.{v.name}")
+
+
+def check_attributes(item: Item) -> Iterator[Refused]:
+    """Refuses attributes of Serde's that don't go with the declaration."""
+    reasons = []
+    if item.flattens() and (item.variants or not item.data.named or "deny_unknown_fields" in item.serde):
+        reasons.append("serde's `flatten` is covered in structs with named fields and without `deny_unknown_fields`")
+    if any("flatten" in f.serde and len(f.serde) > 1 for f in item.fields()):
+        reasons.append("such attributes don't go together: `flatten` stands alone")
+    if item.sort == "struct":
+        reasons += [f"serde's `{key}` is for enums: delete it"
+                    for key in sorted({"rename_all_fields", "untagged", "tag", "content"} & set(item.serde))]
+    if ("content" in item.serde) > ("tag" in item.serde) or {"tag", "untagged"} <= set(item.serde):
+        reasons.append("such attributes don't go together: write `tag`, `tag` and `content`, or `untagged`")
+    yield from (Refused(item.line, reason, item.name) for reason in reasons)
+
+
+def check_twice(items: List[Item]) -> Iterator[Refused]:
+    """Refuses two types of one name, and two whose names differ in the case of letters alone."""
+    seen = {}
+    for item in items:
+        other = seen.setdefault(item.name.lower(), item)
+        if other is not item and other.name == item.name:
+            yield NotRust(item.line, f"another type has this name too (line {other.line})", item.name)
+        elif other is not item:
+            yield Refused(item.line, f"Rattle does not tell it from `{other.name}` (line {other.line}), as it writes a file"
+                          f" for each: {renamed(item.name, 'type')}", item.name)
+
+
+def check_parts(item: Item) -> Iterator[Refused]:
+    """Refuses two fields or variants of one name."""
+    groups = [[(v, f"{item.name}.{v.name}") for v in item.variants], [(f, f"{item.name}.{f.name}") for f in item.data.fields]]
+    groups += [[(f, f"{item.name}.{v.name}.{f.name}") for f in v.data.fields] for v in item.variants]
+    for group in groups:
+        seen = set()
+        for one, where in group:
+            if one.name in seen:
+                yield NotRust(one.line, f"two are called `{one.name}`", where)
+            seen.add(one.name)
+
+
+def check(items: List[Item]) -> Iterator[Refused]:
+    """All that is refused before types are looked at."""
+    yield from check_twice(items)
+    for item in items:
+        yield from check_parts(item)
+        yield from check_names(item)
+        yield from check_attributes(item)

@@ -1,0 +1,48 @@
+"""Names of functions and of contracts, each once in a module."""
+import re
+from typing import Callable, List, Set
+
+from .declarations import Item
+from .text import alias
+from .types import snake
+from .words import USES, WORDS
+
+FUNCTIONS = {name for names in USES.values() for name in names.split() if name.islower()}
+KINDS = ("serialize", "round_trip", "cbor_round_trip", "not_null", "ord")
+
+
+def fresh(name: str, more: str, clashes: Callable[[str], bool]) -> str:
+    """The name, made longer until it clashes with none."""
+    while clashes(name):
+        name += more
+    return name
+
+
+def name_functions(items: List[Item]) -> None:
+    """Names what the functions of items and variants are called after; those of items come first."""
+    firsts = {snake(item.name) for item in items}
+    taken: Set[str] = set()
+    forbidden = FUNCTIONS | set(WORDS) | {item.name.lower() for item in items}
+
+    def clashes(name: str) -> bool:
+        part = re.fullmatch(r"(.*)_from_\d+", name)
+        return (name in taken or bool(part and part.group(1) in firsts)
+                or any(f"{verb}_{name}" in forbidden for verb in ("send", "read", "make")))
+
+    for more, named in ("_type", [(item, item.name) for item in items]), (
+            "_variant", [(v, item.name + v.name) for item in items for v in item.variants]):
+        for one, name in named:
+            one.owner = fresh(snake(name), more, clashes)
+            taken.add(one.owner)
+
+
+def name_cases(items: List[Item], others: List[str]) -> None:
+    """Names what contracts call the cases of enums by; the others are own types that are declared elsewhere."""
+    declared = [item.name for item in items] + others
+    taken = set(declared) | {f"{snake(name)}_{kind}" for name in declared for kind in KINDS}
+    for item in items:
+        places = {place for v in item.variants if v.signed() for place in v.data.places()}
+        item.cases = alias(item.name)
+        while item.cases in taken | places:
+            item.cases = f"the_{item.cases}"
+        taken.add(item.cases)
