@@ -1,18 +1,21 @@
 """The impls of an enum that is tagged externally, and what those of others share with them."""
 from typing import Callable, List
 
+from .cases import pascal
 from .declarations import Data, Item, Variant
 from .holder import Holder
-from .text import DESERIALIZE, KNOWN, SERIALIZE, all_hold, arm, bracketed, clause, codes, elim
-from .text import facts, function, ghost, listed, quoted, together
-from .types import nest
+from .literals import list_impl, name_method, name_term, opened
+from .text import DESERIALIZE, KNOWN, SERIALIZE, all_hold, arm, bracketed, clause, elim
+from .text import facts, function, ghost, together
+from .types import in_term
 
 
 class EnumWriter:
     """The impls of an enum, each member by cases."""
 
     def __init__(self, item: Item):
-        self.item, self.name, self.cases = item, codes(item.wire), item.cases
+        self.item, self.name, self.cases = item, name_term(item.wire), item.cases
+        self.list = f"NamesOf{pascal(item.owner)}"
         self.sends, self.reads = "Serialize" in item.derives, "Deserialize" in item.derives
         self.variants = [(v, Holder("Variant", [item.wire, i, v.wire], v.data, v.owner))
                          for i, v in enumerate(item.variants)]
@@ -25,16 +28,16 @@ class EnumWriter:
     def leaves(cls, v: Variant, letter: str = "x") -> List[str]:
         """The values that are sent and read, as contracts call them."""
         if v.beside:
-            return [f"{letter}1.{f.name}" for f in v.beside.data.fields]
+            return [f"{letter}1.{in_term(f.name)}" for f in v.beside.data.fields]
         return cls.values(v.data, letter)
 
     def sent(self, v: Variant) -> List[str]:
         """The same as code calls them."""
-        return [f"&{leaf}" for leaf in self.leaves(v)] if v.beside else v.data.places()
+        return [f"&x1.{f.name}" for f in v.beside.data.fields] if v.beside else v.data.places()
 
     def case(self, v: Variant, letter: str = "x") -> str:
         """A variant as a pattern of contracts."""
-        return " ".join([f"{self.cases}.{v.name}"] + self.values(v.data, letter)) + " ↦"
+        return " ".join([f"{self.cases}.{in_term(v.name)}"] + self.values(v.data, letter)) + " ↦"
 
     def each(self, term: Callable[[Variant, Holder, List[str]], str]) -> str:
         return elim([f"{self.case(v)} {term(v, holder, self.leaves(v))}" for v, holder in self.variants])
@@ -46,14 +49,19 @@ class EnumWriter:
         """Those that the impls call."""
         return [text for v, holder in self.variants
                 for text in self.maker(v) * self.reads + holder.send_function() * self.sends
-                + self.reader(v, holder) * self.reads]
+                + (holder.names_lists() + self.reader(v, holder)) * self.reads
+                ] + self.names_list() * self.reads
+
+    def names_list(self) -> List[str]:
+        """The type that stands for the names of the variants."""
+        return [list_impl(self.list, "The names of its variants.", [v.wire for v in self.item.variants])]
 
     def reader(self, v: Variant, holder: Holder) -> List[str]:
         """The function that reads a variant's fields, all values as one."""
         if v.beside:
             held = v.beside.name
             return holder.read_functions(holder.data.made(held, holder.data.places()), held,
-                                         [f"z.{f.name}" for f in holder.fields])
+                                         [f"z.{in_term(f.name)}" for f in holder.fields])
         types = [f.type.rust() for f in v.data.fields]
         values = [f"z.{i}" for i in range(len(types))] if len(types) > 1 else ["z"]
         return holder.read_functions(together(v.data.places()), together(types), values)
@@ -64,7 +72,7 @@ class EnumWriter:
             return []
         places = v.data.places()
         parameters = ", ".join(f"{p}: {f.type.rust()}" for p, f in zip(places, v.data.fields))
-        made = " ".join([f"{self.cases}.{v.name}"] + places)
+        made = " ".join([f"{self.cases}.{in_term(v.name)}"] + [in_term(p) for p in places])
         return ["/// Its contract tells proofs what a variant of signed numbers holds.\n"
                 f"fn {self.maker_name(v)}({parameters}) -> {self.item.name}\n"
                 + clause("ensures", f"result ≡ {made}") + f"{{\n{self.made(v, places)}\n}}\n"]
@@ -81,26 +89,55 @@ class EnumWriter:
                 ghost("lawful", self.each(lambda v, holder, x: f"λ readable. {holder.lawful(x)}")),
                 function(SERIALIZE, *self.match(sent))]
 
+    def refusal_of(self, holder: Holder) -> str:
+        """What a variant refuses."""
+        return holder.refusal()
+
+    def refusals(self) -> str:
+        """What each variant refuses, by name."""
+        each = [f"({name_term(v.wire)[1:-1]}, {self.refusal_of(holder).strip()})" for v, holder in self.variants]
+        return "(variants (\n" + "\n∷ ".join(each + ["[]))"])
+
+    def gives(self, holder: Holder, values: List[str]) -> str:
+        """What a variant gives, whatever its name."""
+        return holder.gives(values)
+
+    def arm_lines(self, v: Variant, holder: Holder) -> List[str]:
+        """The statements that read a variant."""
+        return holder.read(self.making(v))
+
+    def dispatch(self, tag: str) -> List[str]:
+        """The statements that read the variant that a tag names."""
+        arms = [arm(f"Some({i})", self.arm_lines(v, holder)) for i, (v, holder) in enumerate(self.variants)]
+        return [f"match variant_index({tag}, &{self.list}) {{", *arms,
+                f"_ => Err(no_such_variant(alloc, {tag}, &{self.list})),", "}"]
+
+    def variants_ghosts(self) -> List[str]:
+        """What contracts see of the variants."""
+        return [ghost("name", self.name[1:-1]),
+                ghost("refusal", self.refusals()[1:-1]),
+                ghost("named", self.each(lambda v, holder, x: name_term(v.wire)[1:-1])),
+                ghost("held", self.each(lambda v, holder, x: self.gives(holder, x)))]
+
+    def variants_impl(self) -> List[str]:
+        """The members of the impl that reads the variant that a tag names."""
+        read = (f"fn read_variant<'n: 'de>(alloc: Global, tag: &str, variant: VariantAccess<'de, 'n>)"
+                f" -> Result<{self.item.name}>")
+        return self.variants_ghosts() + [
+            name_method("name", self.item.wire),
+            f"fn names() -> &'static [&'static str] {{\n{self.list}::names()\n}}",
+            function(read, *self.dispatch("tag"))]
+
+    variants_trait = "Variants<'de>"
+
+    def member(self, word: str) -> str:
+        """A ghost member of that impl."""
+        return f"⟦<{self.item.name} as {self.variants_trait}>⟧.{word}"
+
     def deserialize(self) -> List[str]:
-        heads = [f"variant_or {codes(v.wire)} {bracketed(h.refusal())}" for v, h in self.variants]
-        arms = [arm(f'"{v.wire}"', h.read(self.making(v))) for v, h in self.variants]
-        return [ghost("refusal", f"enum_refusal {self.name}{nest(heads, self.no_variant())}"),
-                ghost("gives", "λ s. " + self.each(
-                    lambda v, h, x: f"EnumGives {self.name} {codes(v.wire)} {bracketed(h.gives(x))} s")),
-                function(DESERIALIZE.format(self.item.name),
-                         f'let access = from.deserialize_enum(alloc, "{self.item.wire}",'
-                         f" &[{quoted(self.item.variants)}])?;",
-                         "let (tag, variant) = access.variant::<CowStr<'de>>(alloc)?;",
-                         "match tag.as_str() {", *arms,
-                         self.unknown(), "}")]
-
-    def no_variant(self) -> str:
-        """The refusal of any other tag."""
-        return f"(no_variant_of {listed([v.wire for v in self.item.variants])})"
-
-    def unknown(self) -> str:
-        """The arm of any other tag."""
-        return f"tag => Err(unknown_variant(alloc, tag, &[{quoted(self.item.variants)}])),"
+        return [ghost("refusal", f"enum_refusal {self.name} {self.member('refusal')}"),
+                ghost("gives", f"λ s y. EnumGives {self.name}\n({self.member('named')} y)\n({self.member('held')} y) s"),
+                function(DESERIALIZE.format(self.item.name), "read_enum(alloc, from)")]
 
     def making(self, v: Variant) -> Callable[[List[str]], str]:
         """How the code makes a variant: by its own function, where it has one."""
@@ -117,7 +154,7 @@ class EnumWriter:
         looks = self.item.asked()
         return [ghost("exists", self.each(lambda v, holder, x: holder.exists(x)))] * looks + [
             function(KNOWN, *self.match(known) * looks),
-            ghost("comes_back", f"record {{\nof_value = {self.each(self.back)};\n}}"),
+            ghost("comes_back", opened(f"record {{\nof_value = {self.each(self.back)};\n}}")),
             ghost("keeps", self.coercion_keeps())]
 
     def coercion_keeps(self) -> str:
@@ -131,12 +168,12 @@ class EnumWriter:
                 f"(λ d only. {elim([self.read(v, w) for w in self.item.variants])})")
 
     def cbor_round_trip(self) -> List[str]:
-        return [ghost("kept", f"record {{\nof_value = {self.each(self.kept)};\n}}")]
+        return [ghost("kept", opened(f"record {{\nof_value = {self.each(self.kept)};\n}}"))]
 
     def kept(self, v: Variant, holder: Holder, values: List[str]) -> str:
         """That a variant comes back from CBOR."""
         law = f"{holder.word}_kept{holder.kept(values, self.sees(holder))}"
-        it = f"(given_as b {self.name} {codes(v.wire)} d it)"
+        it = f"(given_as b {self.name} {name_term(v.wire)} d it)"
         read = elim([self.read(v, w, f"{it}.named", f"{it}.held") for w in self.item.variants])
         return f"λ real. variant_comes_back _ Self.gives {bracketed(law)}\n(λ v. refl)\n(λ b d only. {read})"
 
@@ -160,7 +197,7 @@ class EnumWriter:
     def keeps(self, v: Variant, holder: Holder, values: List[str]) -> str:
         """That a variant is given with coercion where it is without."""
         law = f"{holder.word}_keeps{holder.keeps(self.sees(holder))}"
-        return (f"λ p.\nlet q = variant_kept {self.name} {codes(v.wire)} _ (λ v. refl) {bracketed(law)}\n"
+        return (f"λ p.\nlet q = variant_kept {self.name} {name_term(v.wire)} _ (λ v. refl) {bracketed(law)}\n"
                 f"o people {together(values)} p.free p.given in\nrecord {{ free = q.0; given = q.1 }}")
 
     @staticmethod

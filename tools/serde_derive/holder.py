@@ -1,8 +1,10 @@
 """What is written of what a struct or a variant holds."""
 from typing import Callable, List, NamedTuple, Optional, Tuple
 
+from .cases import pascal
 from .declarations import Data, Field
-from .text import clause, codes, fields_reader, listed, together
+from .literals import list_impl, list_term, name_call, name_term
+from .text import clause, fields_reader, together
 from .types import READ, TRIP, nest, snake
 from .words import READERS, SENDERS
 
@@ -65,20 +67,39 @@ class Holder:
         self.many = data.style in ("Struct", "Tuple")
         self.camel = "Struct" if data.named and sort == "Struct" else data.style + sort
         self.word = snake(self.camel)
-        self.names = " ".join(str(n) if isinstance(n, int) else codes(n) for n in names)
-        written = [str(n) if isinstance(n, int) else f'"{n}"' for n in names + [self.count] * self.many]
+        self.names = " ".join(str(n) if isinstance(n, int) else name_term(n) for n in names)
+        written = [str(n) if isinstance(n, int) else name_call(n) for n in names + [self.count] * self.many]
         self.call = f"Call::{self.camel}({', '.join(written)})"
         self.of_variant = sort == "Variant"
-        self.sender, self.reader = f"send_{snake(owner)}", f"read_{snake(owner)}"
+        self.sender, self.reader = f"send_{owner}", f"read_{owner}"
+        self.list = f"FieldsOf{pascal(owner)}"
         self.names_known = [f.wire for f in data.fields]
         self.before: List[Tuple[str, str]] = []
         self.head = "" if self.of_variant else " " + self.names
         self.name = "" if self.of_variant else written[0]
 
-    @property
-    def known(self) -> str:
-        """The names of its fields in code."""
-        return "&[" + ", ".join(f'"{name}"' for name in self.names_known) + "]"
+    def names_lists(self) -> List[str]:
+        """The types that stand for the names of its fields: all, and those that are read together."""
+        if not self.data.named or not self.names_known:
+            return []
+        groups = [(start, end) for start, end in self.groups() if self.names_in(start, end) != self.names_known]
+        return [list_impl(self.list, "The names of its fields.", self.names_known)] + [
+            list_impl(self.group_list(start, end), "Those that are read together.", self.names_in(start, end))
+            for start, end in groups]
+
+    def names_in(self, start: int, end: int) -> List[str]:
+        return [f.wire for f in self.fields[start:end]]
+
+    def groups(self) -> List[Tuple[int, int]]:
+        """The fields that are read in one call: the last, up to six."""
+        start = 0
+        while self.count - start > len(READERS):
+            start += 2
+        return [(start, self.count)] * (start < self.count)
+
+    def group_list(self, start: int, end: int) -> str:
+        """The type that stands for the names of some fields."""
+        return self.list if self.names_in(start, end) == self.names_known else f"{self.list}{start + 1}To{end}"
 
     def row(self, member: str, inners: List[str], sees: Optional[List[str]] = None, start: int = 0) -> str:
         """All its values in a member of the impls, or the one, after a blank or a line's end; or
@@ -87,11 +108,11 @@ class Holder:
             return "".join(f" {inner}" for inner in inners)
         part, end = getattr(self.by_key if self.data.named else BY_PLACE, member)
         parts = [part.format(
-            inner=inner, see=see, place=place, count=self.count, name=codes(f.wire),
+            inner=inner, see=see, place=place, count=self.count, name=name_term(f.wire),
             or_="_or" * bool(f.missing), Or="Or" * bool(f.missing), missing=f.absent())
             for place, (f, inner, see) in enumerate(zip(self.fields[start:], inners, sees or inners))]
         words = ("no_others", "closed") if self.data.closed else ("others_skipped", "skipped")
-        return nest(parts, end.format(known=listed(self.names_known), left=words[0], end=words[1], count=self.count))
+        return nest(parts, end.format(known=list_term(self.names_known), left=words[0], end=words[1], count=self.count))
 
     def by_name(self, word: str, row: str) -> str:
         """A row of fields, which is read by name."""
@@ -119,7 +140,7 @@ class Holder:
         return [pair for f, value in zip(self.fields[start:], values) for pair in self.announced(f.wire, value)]
 
     def announced(self, name: str, value: str) -> List[Tuple[str, str]]:
-        return [(f'Call::Field("{name}")' if self.data.named else "Call::TupleField", value)]
+        return [(f"Call::Field({name_call(name)})" if self.data.named else "Call::TupleField", value)]
 
     def chain(self, values: List[str]) -> str:
         """The calls, one after another."""
@@ -131,7 +152,7 @@ class Holder:
 
     def send_function(self) -> List[str]:
         """The function that sends more than two values; its proof sees none of their types. Of more
-        than eight it hands on the first to a further one."""
+        than eight it hands on the first eight to a further one."""
         if self.count <= self.most:
             return []
         texts, start, head, before = [], 0, self.call, self.before
@@ -141,10 +162,11 @@ class Holder:
             inner = [f"(T{i}.script x{i}.now)" for i in places]
             script = f"P.first parts{self.row('script', inner, start=start)}" if start else self.script(
                 [f"{v}.now" for v in values], [f"T{i}.script" for i in places])
-            later = self.count if len(pairs) <= len(SENDERS) else start + 1
+            calls = len(self.announced("", ""))
+            later = self.count if len(pairs) <= len(SENDERS) else start + (len(SENDERS) - len(before)) // calls
             body = sending(head, pairs) if later == self.count else (
-                f"let parts = {handed_on(head, before + self.pairs(values[:1], start))};\n"
-                f"{self.sender_at(later)}(alloc, serializer, parts, {', '.join(values[1:])})")
+                f"let parts = {handed_on(head, pairs[:len(before) + (later - start) * calls])};\n"
+                f"{self.sender_at(later)}(alloc, serializer, parts, {', '.join(values[later - start:])})")
             types = ", ".join(["S: Serializer"] + ["P: Parts"] * bool(start) + [f"T{i}: Serialize" for i in places])
             given = ", ".join(["alloc: Global", "serializer: &mut S"] + ["parts: P"] * bool(start)
                               + [f"x{i}: &T{i}" for i in places])
@@ -176,7 +198,7 @@ class Holder:
 
     def read(self, make: Callable[[List[str]], str]) -> List[str]:
         """The statements that read it and make a value of what came."""
-        more = {"Struct": self.known, "Tuple": str(self.count)}.get(self.data.style)
+        more = {"Struct": f"{self.list}::names()", "Tuple": str(self.count)}.get(self.data.style)
         arguments = ", ".join(filter(None, ["alloc", self.name, more]))
         start = f"{'variant.' if self.of_variant else 'from.deserialize_'}{self.word}({arguments})?"
         places = self.data.places()
@@ -226,13 +248,15 @@ class Holder:
     def taking(f: Field, place: str) -> str:
         """The statement that reads one field."""
         reader, missing = ("field_or", f", {f.missing[0]}") if f.missing else ("named_field", "")
-        return f'let {place} = {reader}(alloc, &mut fields, "{f.wire}"{missing})?;'
+        return f'let {place} = {reader}(alloc, &mut fields, {name_call(f.wire)}{missing})?;'
 
     def taken(self, fields: List[Field]) -> str:
         """The call that reads all fields, up to six, and what is left over."""
-        each = "".join(f'"{f.wire}", {f"Some({f.missing[0]})" if f.missing else "None"}, ' for f in fields)
+        start = self.fields.index(fields[0])
+        names = self.group_list(start, start + len(fields))
+        each = "".join(f"{f'Some({f.missing[0]})' if f.missing else 'None'}, " for f in fields)
         closed = "true" if self.data.closed else "false"
-        return f"{READERS[len(fields) - 1]}(alloc, fields, {each}{self.known}, {closed})"
+        return f"{READERS[len(fields) - 1]}(alloc, fields, &{names}, {each}&{self.list}, {closed})"
 
     def reader_at(self, start: int) -> str:
         return f"{self.reader}_from_{start + 1}" if start else self.reader

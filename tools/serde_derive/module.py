@@ -9,6 +9,7 @@ from .derives import check_derives
 from .enums import EnumWriter
 from .files import File, Reader
 from .homes import Homes
+from .literals import with_names
 from .names import name_item
 from .structs import StructWriter
 from .tagged import TaggedWriter
@@ -53,6 +54,8 @@ def impls(item: Item, writer: Writer, cbor: bool) -> Iterator[str]:
     if "Serialize" in item.derives:
         yield impl(item, "Serialize", writer.serialize())
     if "Deserialize" in item.derives:
+        if item.variants and "untagged" not in item.serde:
+            yield impl(item, writer.variants_trait, writer.variants_impl(), "<'de>")
         yield impl(item, READ, writer.deserialize(), "<'de>")
     if item.comes_back():
         yield impl(item, TRIP, writer.round_trip(), "<'de>")
@@ -153,6 +156,7 @@ def module(source: str, name: str, crate: str, place: str, cbor: bool = False,
     homes = Homes(crate, place, file)
     writers = settled(file, homes)
     texts = [text for item in file.items for text in texts_of(item, writers[item.name], cbor)]
+    body = with_names("\n".join(texts))
     docs = file.docs or ["//! Types that are sent and read."]
     docs += ["//!", f"//! Written by `tools/derive` from `{doc_line(name)}`: change that file, and write this one anew."]
-    return "\n".join([*docs, "", *uses(file, homes, texts), "", *texts])
+    return "\n".join([*docs, "", *uses(file, homes, [body]), "", body])

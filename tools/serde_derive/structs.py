@@ -3,7 +3,9 @@ from typing import Callable, Iterator, List, Optional, Tuple
 
 from .declarations import Data, Item
 from .holder import FLATTENED, Holder
+from .literals import name_call
 from .text import DESERIALIZE, KNOWN, SERIALIZE, all_hold, facts, function, ghost
+from .types import in_term
 
 
 class FlattenedHolder(Holder):
@@ -20,7 +22,7 @@ class FlattenedHolder(Holder):
         return "flattened_script" + self.row("script", [f"({m} {v})" for m, v in zip(members, values)])
 
     def announced(self, name: str, value: str) -> List[Tuple[str, str]]:
-        return [("Call::Key", f'&"{name}"'), ("Call::Value", value)]
+        return [("Call::Key", f"&{name_call(name)}"), ("Call::Value", value)]
 
     def read(self, make: Callable[[List[str]], str]) -> List[str]:
         return ["let fields = from.deserialize_map(alloc)?.by_name();", f"{self.reader}(alloc, fields)"]
@@ -44,15 +46,15 @@ class StructWriter:
         self.item, self.fields = item, item.data.leaves()
         self.sends, self.reads = "Serialize" in item.derives, "Deserialize" in item.derives
         self.holder = FlattenedHolder(item) if item.flattens() else Holder("Struct", [item.wire], item.data, item.owner)
-        self.values = [f"p.{f.name}" for f in self.fields]
-        self.sees = [f"(λ q. q.{f.name})" for f in self.fields]
+        self.values = [f"p.{in_term(f.name)}" for f in self.fields]
+        self.sees = [f"(λ q. q.{in_term(f.name)})" for f in self.fields]
 
     def functions(self) -> List[str]:
         """Those that the impls call."""
         read = self.holder.read_functions(
             self.item.data.made(self.item.name, self.holder.data.places()), self.item.name,
-            [f"z.{f.name}" for f in self.fields])
-        return self.holder.send_function() * self.sends + read * self.reads
+            [f"z.{in_term(f.name)}" for f in self.fields])
+        return self.holder.send_function() * self.sends + (self.holder.names_lists() + read) * self.reads
 
     def serialize(self) -> List[str]:
         return [ghost("script", f"λ p. {self.holder.script(self.values)}"),

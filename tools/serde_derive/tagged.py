@@ -6,7 +6,8 @@ from typing import List, Optional
 from .declarations import Data, Field, Item, Refused, Variant
 from .enums import EnumWriter
 from .holder import Holder
-from .text import DESERIALIZE, arm, codes, elim, fields_reader, function, ghost, together
+from .literals import name_call, name_method, name_term
+from .text import DESERIALIZE, elim, function, ghost, together
 from .types import DEFAULTS, nest
 
 
@@ -20,13 +21,13 @@ class TaggedHolder(Holder):
         super().__init__("Struct", [name], data, v.owner)
         self.names_known = [tag] + self.names_known
         self.tag, self.variant = tag, v.wire
-        self.call = f'Call::Struct("{name}", {self.count + 1})'
-        self.before = self.announced(tag, f'&"{v.wire}"')
+        self.call = f"Call::Struct({name_call(name)}, {self.count + 1})"
+        self.before = self.announced(tag, f"&{name_call(v.wire)}")
 
     def script(self, values: List[str], members: Optional[List[str]] = None) -> str:
         members = members or [f.type.member("Serialize", "script") for f in self.fields]
         inner = [f"({member} {value})" for member, value in zip(members, values)]
-        head = f"tagged_script {self.names} {self.count + 1} {codes(self.tag)} {codes(self.variant)}"
+        head = f"tagged_script {self.names} {self.count + 1} {name_term(self.tag)} {name_term(self.variant)}"
         return head + self.row("script", inner)
 
     def lawful(self, values: List[str]) -> str:
@@ -41,7 +42,6 @@ class TaggedWriter(EnumWriter):
         super().__init__(item)
         self.tag, self.content = item.serde["tag"], item.serde.get("content")
         self.variants = [(v, TaggedHolder(item, self.tag, v, self.fields_of(v))) for v in item.variants]
-        self.reader_name = f"read_{item.owner}"
 
     def fields_of(self, v: Variant) -> List[Field]:
         """The fields beside the tag: the variant's own, or the one that holds its value."""
@@ -61,55 +61,41 @@ class TaggedWriter(EnumWriter):
     def alone(self, v: Variant) -> bool:
         return False
 
-    def functions(self) -> List[str]:
-        return super().functions() + self.tag_reader() * self.reads
+    def refusal_of(self, holder: Holder) -> str:
+        return holder.refusal_row()
 
-    def refusals(self) -> str:
-        """What each variant refuses."""
-        heads = [f"variant_or {codes(v.wire)}{holder.refusal_row()}" for v, holder in self.variants]
-        return nest(heads, self.no_variant())
+    def gives(self, holder: Holder, values: List[str]) -> str:
+        return holder.gives_row(values).strip()
+
+    def arm_lines(self, v: Variant, holder: Holder) -> List[str]:
+        places = v.data.places()
+        end = "end" if v.data.closed else "skip"
+        read = f"let {together(places)} = {holder.reader}(alloc, fields)?;" if places else (
+            f"{end}_fields(alloc, fields, &[{name_call(self.tag)}])?;")
+        return [read, f"Ok({self.making(v)(places)})"]
 
     @property
     def buffered(self) -> str:
         """What the words say where the fields beside the tag are read out of a buffer."""
         return "" if self.content else "buffered"
 
-    def tag_taker(self) -> str:
-        """The function that takes the tag."""
-        return "internal_tag" if self.buffered else "tag_field"
+    variants_trait = "TaggedVariants<'de>"
 
-    def by_tag(self) -> str:
-        """What is refused of the tag, and then of the variant that it names."""
-        return f"tag_then{'_buffered' * bool(self.buffered)} {codes(self.tag)}{self.refusals()}"
-
-    def given(self, v: Variant, holder: Holder, values: List[str]) -> str:
-        return f"TagThen{self.buffered.title()} {codes(self.tag)} {codes(v.wire)}{holder.gives_row(values)}"
-
-    def tag_reader(self) -> List[str]:
-        """The function that reads the tag, and then the variant."""
-        arms = []
-        for v, holder in self.variants:
-            places = v.data.places()
-            end = "end" if v.data.closed else "skip"
-            read = f"let {together(places)} = {holder.reader}(alloc, fields)?;" if places else (
-                f"{end}_fields(alloc, fields, {holder.known})?;")
-            arms.append(arm(f'"{v.wire}"', [read, f"Ok({self.making(v)(places)})"]))
-        gives = self.each(lambda v, holder, x: f"{self.given(v, holder, x)} (fields_left fields.entry)")
-        return [fields_reader(
-            "The variant that its tag names.", self.reader_name, self.item.name,
-            self.by_tag(), gives,
-            [f'let tag = {self.tag_taker()}(alloc, &mut fields, "{self.tag}")?;', "match tag.as_str() {", *arms,
-             self.unknown(), "}"])]
+    def variants_impl(self) -> List[str]:
+        read = (f"fn read_variant<'n: 'de>(alloc: Global, tag: &str, fields: FieldsByName<'de, 'n>)"
+                f" -> Result<{self.item.name}>")
+        ghosts = self.variants_ghosts()
+        return [*ghosts[:1], ghost("tag_name", name_term(self.tag)[1:-1]), *ghosts[1:],
+                name_method("name", self.item.wire), name_method("tag", self.tag),
+                function(read, *self.dispatch("tag"))]
 
     def deserialize(self) -> List[str]:
-        name = codes(self.item.wire)
-        read = f"read_by_name ({self.by_tag()})"
-        request = f'from.deserialize_struct(alloc, "{self.item.wire}", &["{self.tag}"])?'
-        return [ghost("refusal", f"struct_refusal {name} ({read})"),
-                ghost("gives", "λ s. " + self.each(
-                    lambda v, holder, x: f"StructGives {name} (ReadByName\n({self.given(v, holder, x)})) s")),
+        name, tag, ending = name_term(self.item.wire), name_term(self.tag), "_buffered" * bool(self.buffered)
+        fields = f"TagThen{self.buffered.title()} {tag}\n({self.member('named')} y)\n({self.member('held')} y)"
+        return [ghost("refusal", f"struct_refusal {name} (read_by_name (tag_then{ending} {tag}\n{self.member('refusal')}))"),
+                ghost("gives", f"λ s y. StructGives {name} (ReadByName\n({fields})) s"),
                 function(DESERIALIZE.format(self.item.name),
-                         f"let fields = {request}.by_name();", f"{self.reader_name}(alloc, fields)")]
+                         f"read_{'tagged' if self.buffered else 'adjacent'}(alloc, from)")]
 
     @staticmethod
     def unit(v: Variant, row: str) -> str:
@@ -129,14 +115,14 @@ class TaggedWriter(EnumWriter):
                 f"(λ b fs only. {elim([self.read(v, w) for w in self.item.variants])})")
 
     def keeps(self, v: Variant, holder: Holder, values: List[str]) -> str:
-        return (f"λ p.\nlet q = (struct_keeps {codes(self.item.wire)} (by_name_keeps\n"
+        return (f"λ p.\nlet q = (struct_keeps {name_term(self.item.wire)} (by_name_keeps\n"
                 f"({self.tag_keeps(v, holder)}))).of_origin o people"
                 f" {together(values)}\n(record {{ free = p.free; given = p.given }}) in\n"
                 "record { free = q.free; given = q.given }")
 
     def tag_keeps(self, v: Variant, holder: Holder) -> str:
         """The law that what the fields give without coercion they give with it."""
-        words = f"{codes(self.tag)} {codes(v.wire)}{self.refusals()}"
+        words = f"{name_term(self.tag)} {name_term(v.wire)} {self.member('refusal')}"
         if not self.buffered:
             return f"tag_keeps {words} (λ f. refl){self.unit(v, holder.keeps_row(self.sees(holder)))}"
         values = ["z"] if holder.count == 1 else [f"z.{i}" for i in range(holder.count)]

@@ -15,21 +15,12 @@ def codes(name: str) -> str:
     return f'(codes "{name}")'
 
 
-def listed(names: List[str]) -> str:
-    """Names as a list of contracts."""
-    return "(" + " ∷ ".join([codes(name)[1:-1] for name in names] + ["[]"]) + ")"
-
-
-def quoted(named: list) -> str:
-    return ", ".join(f'"{one.wire}"' for one in named)
-
-
 def filled(line: str, width: int = 84) -> str:
     """The line, broken within this width at the last blank that stands in the fewest brackets."""
     if len(line) <= width:
         return line
     depth, place, lowest = 0, 0, 0
-    for found in re.finditer(r'"[^"]*"|⟦[^⟧]*⟧|[({[]|[)}\]]| ', line):
+    for found in re.finditer(r'(?:name )?"[^"]*"|⟦[^⟧]*⟧|[({[]|[)}\]]| ', line):
         if found.start() > width:
             break
         depth += (found.group() in "({[") - (found.group() in ")}]")

@@ -74,6 +74,8 @@ OWN = Laws("{own}_serialize.lawful-law {x} {h}", "{own}_round_trip.comes_back-la
            "{own}_cbor_round_trip.kept-law", "{own}_not_null.refuses_null-law")
 SENT_AND_READ = (("RoundTrip<'de>", "exists"), ("Serialize", "script"), ("Deserialize<'de>", "refusal"),
                  ("Deserialize<'de>", "gives"), ("PartialEq", "eq"))
+RESERVED = set("data record deriving module where use mod pub package open as unfoldable abbrev axiom unfold unfolding"
+               " ruleset mutual infix infixl infixr elim let in do Type coe fcoe tcoe hcom com".split())
 READ, TRIP, CBOR, NOT_NULL = "Deserialize<'de>", "RoundTrip<'de>", "CborRoundTrip<'de>", "NotNull<'de>"
 
 
@@ -121,7 +123,7 @@ class Type:
         return self.laws.lawful.format(*inside, x=x, h=h, own=snake(self.declared))
 
     def back(self) -> str:
-        inside, count = [a.back() for a in self.arguments], len(self.arguments)
+        inside, count = [a.inner_back() for a in self.arguments], len(self.arguments)
         if self.name != "tuple":
             return self.laws.back.format(*inside, own=snake(self.declared), **self.ordered())
         parts = nest([f"element_back {law} x.{i} real{f'.{i}' * (count > 1)} (λ y. y.{i}) {count} {i}"
@@ -129,7 +131,7 @@ class Type:
         return f"(record {{ of_value = λ x real f. tuple_back{parts}\nf (λ y h. {both(count, 'h')}) }})"
 
     def kept(self) -> str:
-        inside, count = [a.kept() for a in self.arguments], len(self.arguments)
+        inside, count = [a.inner_kept() for a in self.arguments], len(self.arguments)
         if self.name != "tuple":
             null = self.arguments[0].not_null() if self.name == "Option" else ""
             return self.laws.kept.format(*inside, own=snake(self.declared), null=null, **self.ordered())
@@ -163,6 +165,13 @@ class Type:
         return f"(tuple_keeps {count}" + nest(
             [f"part_keeps (λ y. y.{i}) {count} {i} {law}" for i, law in enumerate(inside)],
             f"(parts_end_keeps {count})") + ")"
+
+    def inner_back(self) -> str:
+        """The same as an argument: a tuple's law does not tell its type."""
+        return self.typed_back() if self.name == "tuple" else self.back()
+
+    def inner_kept(self) -> str:
+        return self.typed_kept() if self.name == "tuple" else self.kept()
 
     def typed_back(self) -> str:
         """The same with its type, where the term alone does not tell it."""
@@ -225,6 +234,11 @@ class Type:
             yield self
         for argument in self.arguments:
             yield from argument.owns()
+
+
+def in_term(path: str) -> str:
+    """A name of code, or a path of them, as contracts write it: what they reserve stands in quotes."""
+    return ".".join(f"«{name}»" if name in RESERVED else name for name in path.split("."))
 
 
 def snake(name: str) -> str:

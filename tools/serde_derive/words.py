@@ -3,7 +3,7 @@ import re
 from typing import Dict, Iterable, List, Set
 
 from .cases import pascal
-from .types import HOLDERS, LEAVES
+from .types import HOLDERS, LEAVES, RESERVED
 
 
 def word_table(text: str) -> Dict[str, str]:
@@ -42,8 +42,10 @@ content_de.specs.Reads.Attempts IsTakenAs or_next
 content_de.specs.Reads.ByName read_by_name named_then named_or_then others_skipped no_others
 content_de.specs.Reads.ByName ReadByName NamedThen NamedOrThen NoOthers
 content_de.specs.Reads.Tagged tag_then TagThen tag_then_buffered TagThenBuffered
-content_de.specs.Reads.Own enum_refusal variant_or no_variant_of EnumGives
+content_de.specs.Reads.Own enum_refusal EnumGives
 content_de.specs.Reads.Own {' '.join(f'{s}_refusal {pascal(s)}Gives' for s in STYLES)}
+serde_content.specs.Literals name
+serde_content.specs.Variants index_among variants
 serde_content.specs.RoundTrip ComesBack CoercionKeeps
 serde_content.specs.Laws.Leaves heedless_keeps natural_keeps integer_keeps
 serde_content.specs.Laws.Leaves {' '.join(laws.back for laws in LEAVES.values())}
@@ -89,26 +91,24 @@ std.specs.declared.boxed.Box Box
 std.specs.declared.collections.BTreeMap BTreeMap
 """)
 COUNTS = "one two three four five six seven eight".split()
-SENDERS, READERS = [f"send_{count}" for count in COUNTS], [f"read_{count}" for count in COUNTS[:6]]
+SENDERS, READERS = [f"send_{count}" for count in COUNTS], [f"read_{count}_of" for count in COUNTS[:6]]
 PLACES = "First Second Third Fourth".split()
 CHOICES = [(f"first_of_{count}", f"OneOf{count.title()}") for count in COUNTS[1:len(PLACES)]]
 USES = {
     "content_cbor": "CborRoundTrip NotNull",
     "serde_content": "CowStr Deserializer Error Result RoundTrip",
-    "serde_content::de": f"Deserialize FieldsByName {' '.join(sorted(one for _, one in CHOICES))} attempt end_fields"
-                         f" field_or finish_parts internal_tag {' '.join(sorted(first for first, _ in CHOICES))} named_field next_part"
-                         f" {' '.join(sorted(READERS))} skip_fields tag_field two_parts unknown_variant",
+    "serde_content::de": f"Deserialize FieldsByName Names {' '.join(sorted(one for _, one in CHOICES))} TaggedVariants"
+                         f" VariantAccess Variants attempt end_fields field_or finish_parts {' '.join(sorted(first for first, _ in CHOICES))}"
+                         f" named_field next_part no_such_variant read_adjacent read_enum {' '.join(sorted(READERS))} read_tagged"
+                         f" skip_fields two_parts variant_index",
     "serde_content::ser": f"Call Parts Serialize Serializer {' '.join(sorted(SENDERS))}",
     "std::alloc": "Global",
     "std::collections": "BTreeMap",
 }
-# what contracts can name nothing by, and what else code names no value by
-RESERVED = set("""abbrev as axiom coe com data deriving do elim fcoe hcom in infix infixl infixr let module mutual open
-package pub record ruleset tcoe unfold unfoldable unfolding use where""".split())
 NO_PLACES = RESERVED | {"alloc", "fields", "serializer", "result"} | {
     name for names in USES.values() for name in names.split() if name.islower()}
 IN_TEXT = {"[]": r"\[\]", "form": r"\(form t\)", "custom": r"\(custom ", "Some": r"\(Some \(", "None": "≡ None",
-           "true": r"(?:fits|λ b\.) true", "false": "≡ false"}
+           "true": r"(?:fits|λ b\.) true", "false": "≡ false", "name": 'name "', "variants": r"variants \( \(name"}
 METHODS = {"Parts": r"\.(?:with|around)\("}
 TAKEN = {name for names in USES.values() for name in names.split()} | set(HOLDERS) | {"String", "Ok", "Err"}
 

@@ -3,3 +3,4 @@ pub mod ComingBack
 pub mod Lookups
 pub mod Scripts
 pub mod Names
+pub mod VariantIndex

@@ -3,3 +3,5 @@ pub mod Laws
 pub mod Names
 pub mod Named
 pub mod Choices
+pub mod Literals
+pub mod Variants

@@ -2,7 +2,7 @@
 //!
 //! Written by `tools/derive` from `types.rs`: change that file, and write this one anew.
 
-ghost use Rattle.std.specs.Prelude.{◌≡◌, ◌∷◌, [], ℕ, ℤ, Option, None, codes, string_bytes, refl, ⊤};
+ghost use Rattle.std.specs.Prelude.{◌≡◌, ◌∷◌, [], ℕ, ℤ, Option, None, string_bytes, refl, ⊤};
 ghost use Rattle.content_ser.specs.Scripts.Own.{field_first, tuple_field_first, end_script};
 ghost use Rattle.content_ser.specs.Scripts.Own.{unit_variant_script, newtype_variant_script};
 ghost use Rattle.content_ser.specs.Scripts.Own.{tuple_variant_script, struct_script};
@@ -21,12 +21,13 @@ ghost use Rattle.content_de.specs.Reads.Read.{Reads};
 ghost use Rattle.content_de.specs.Reads.ByName.{read_by_name, named_then, named_or_then};
 ghost use Rattle.content_de.specs.Reads.ByName.{others_skipped, no_others, ReadByName, NamedThen};
 ghost use Rattle.content_de.specs.Reads.ByName.{NamedOrThen, NoOthers};
-ghost use Rattle.content_de.specs.Reads.Own.{enum_refusal, variant_or, no_variant_of, EnumGives};
-ghost use Rattle.content_de.specs.Reads.Own.{unit_variant_refusal, UnitVariantGives};
-ghost use Rattle.content_de.specs.Reads.Own.{newtype_variant_refusal, NewtypeVariantGives};
-ghost use Rattle.content_de.specs.Reads.Own.{tuple_variant_refusal, TupleVariantGives};
-ghost use Rattle.content_de.specs.Reads.Own.{struct_refusal, StructGives, struct_variant_refusal};
-ghost use Rattle.content_de.specs.Reads.Own.{StructVariantGives};
+ghost use Rattle.content_de.specs.Reads.Own.{enum_refusal, EnumGives, unit_variant_refusal};
+ghost use Rattle.content_de.specs.Reads.Own.{UnitVariantGives, newtype_variant_refusal};
+ghost use Rattle.content_de.specs.Reads.Own.{NewtypeVariantGives, tuple_variant_refusal};
+ghost use Rattle.content_de.specs.Reads.Own.{TupleVariantGives, struct_refusal, StructGives};
+ghost use Rattle.content_de.specs.Reads.Own.{struct_variant_refusal, StructVariantGives};
+ghost use Rattle.serde_content.specs.Literals.{name};
+ghost use Rattle.serde_content.specs.Variants.{index_among, variants};
 ghost use Rattle.serde_content.specs.RoundTrip.{ComesBack, CoercionKeeps};
 ghost use Rattle.serde_content.specs.Laws.Leaves.{heedless_keeps, natural_keeps, integer_keeps};
 ghost use Rattle.serde_content.specs.Laws.Leaves.{text_back, u8_back, u32_back, i32_back};
@@ -49,9 +50,12 @@ ghost use Rattle.content_tree.specs.Values.Ranges as kind;
 ghost use Rattle.shapes.specs.declared.types.Place.{Place};
 ghost use Rattle.shapes.specs.declared.types.Step.TheVariants as step;
 
-use serde_content::de::{Deserialize, FieldsByName, read_two, two_parts, unknown_variant};
+use serde_content::de::{
+    Deserialize, FieldsByName, Names, VariantAccess, Variants, no_such_variant, read_enum,
+    read_two_of, two_parts, variant_index,
+};
 use serde_content::ser::{Call, Parts, Serialize, Serializer, send_two};
-use serde_content::{CowStr, Deserializer, Result, RoundTrip};
+use serde_content::{Deserializer, Result, RoundTrip};
 use std::alloc::Global;
 
 /// Where a parcel goes.
@@ -63,37 +67,48 @@ pub struct Place {
     pub floor: Option<u8>,
 }
 
+/// The names of its fields.
+struct FieldsOfPlace;
+
+impl Names for FieldsOfPlace {
+    ghost names = { name "streetName" ∷ name "floor" ∷ [] };
+
+    #[tactic(auto, unfolding(serde_content::specs::Literals::name))]
+    fn names() -> &'static [&'static str] {
+        &["streetName", "floor"]
+    }
+}
+
 /// Fields, wherever they stand.
 fn read_place<'de, 'n: 'de>(alloc: Global, fields: FieldsByName<'de, 'n>) -> Result<Place>
     ensures { Reads (
-        (named_then (codes "streetName") (⟦<String as Deserialize<'de>>⟧.refusal)
-        (named_or_then (codes "floor") (⟦<Option<u8> as Deserialize<'de>>⟧.refusal)
-        (no_others (codes "streetName" ∷ codes "floor" ∷ []))))
+        (named_then (name "streetName") (⟦<String as Deserialize<'de>>⟧.refusal)
+        (named_or_then (name "floor") (⟦<Option<u8> as Deserialize<'de>>⟧.refusal)
+        (no_others (name "streetName" ∷ name "floor" ∷ []))))
         (fields_left fields.entry))
         (λ z.
-        (NamedThen (codes "streetName") (⟦<String as Deserialize<'de>>⟧.gives) z.street_name
-        (NamedOrThen (codes "floor") (λ (x : (Option ℕ)). x ≡ None)
+        (NamedThen (name "streetName") (⟦<String as Deserialize<'de>>⟧.gives) z.street_name
+        (NamedOrThen (name "floor") (λ (x : (Option ℕ)). x ≡ None)
         (⟦<Option<u8> as Deserialize<'de>>⟧.gives) z.floor
         NoOthers))
         (fields_left fields.entry)) result }
 {
-    let (street_name, floor) = read_two(
+    let (street_name, floor) = read_two_of(
         alloc,
         fields,
-        "streetName",
+        &FieldsOfPlace,
         None,
-        "floor",
         Some(None),
-        &["streetName", "floor"],
+        &FieldsOfPlace,
         true,
     )?;
     Ok(Place { street_name, floor })
 }
 
 impl Serialize for Place {
-    ghost script = { λ p. struct_script (codes "Place") 2
-        (field_first (codes "streetName") (⟦<String as Serialize>⟧.script p.street_name)
-        (field_first (codes "floor") (⟦<Option<u8> as Serialize>⟧.script p.floor)
+    ghost script = { λ p. struct_script (name "Place") 2
+        (field_first (name "streetName") (⟦<String as Serialize>⟧.script p.street_name)
+        (field_first (name "floor") (⟦<Option<u8> as Serialize>⟧.script p.floor)
         end_script)) };
 
     ghost lawful = { λ p readable. struct_lawful
@@ -105,30 +120,30 @@ impl Serialize for Place {
         send_two(
             alloc,
             serializer,
-            Call::Struct("Place", 2),
-            Call::Field("streetName"),
+            Call::Struct(name_place(), 2),
+            Call::Field(name_street_name()),
             &self.street_name,
-            Call::Field("floor"),
+            Call::Field(name_floor()),
             &self.floor,
         )
     }
 }
 
 impl<'de> Deserialize<'de> for Place {
-    ghost refusal = { struct_refusal (codes "Place") (read_by_name
-        (named_then (codes "streetName") (⟦<String as Deserialize<'de>>⟧.refusal)
-        (named_or_then (codes "floor") (⟦<Option<u8> as Deserialize<'de>>⟧.refusal)
-        (no_others (codes "streetName" ∷ codes "floor" ∷ []))))) };
+    ghost refusal = { struct_refusal (name "Place") (read_by_name
+        (named_then (name "streetName") (⟦<String as Deserialize<'de>>⟧.refusal)
+        (named_or_then (name "floor") (⟦<Option<u8> as Deserialize<'de>>⟧.refusal)
+        (no_others (name "streetName" ∷ name "floor" ∷ []))))) };
 
-    ghost gives = { λ s p. StructGives (codes "Place") (ReadByName
-        (NamedThen (codes "streetName") (⟦<String as Deserialize<'de>>⟧.gives) p.street_name
-        (NamedOrThen (codes "floor") (λ (x : (Option ℕ)). x ≡ None)
+    ghost gives = { λ s p. StructGives (name "Place") (ReadByName
+        (NamedThen (name "streetName") (⟦<String as Deserialize<'de>>⟧.gives) p.street_name
+        (NamedOrThen (name "floor") (λ (x : (Option ℕ)). x ≡ None)
         (⟦<Option<u8> as Deserialize<'de>>⟧.gives) p.floor
         NoOthers))) s };
 
     fn deserialize<'n: 'de>(alloc: Global, from: Deserializer<'de, 'n>) -> Result<Place> {
         let fields = from
-            .deserialize_struct(alloc, "Place", &["streetName", "floor"])?
+            .deserialize_struct(alloc, name_place(), FieldsOfPlace::names())?
             .by_name();
         read_place(alloc, fields)
     }
@@ -143,25 +158,25 @@ impl<'de> RoundTrip<'de> for Place {
 
     ghost comes_back = { record {
       of_value = λ p real f. struct_back (by_name_back
-          (named_back (codes "streetName") text_back p.street_name tt (λ q. q.street_name)
-          (named_or_back (codes "floor") (λ (x : (Option ℕ)). x ≡ None)
+          (named_back (name "streetName") text_back p.street_name tt (λ q. q.street_name)
+          (named_or_back (name "floor") (λ (x : (Option ℕ)). x ≡ None)
           (let law : ComesBack (⟦<Option<u8> as RoundTrip<'de>>⟧.exists)
           (⟦<Option<u8> as Serialize>⟧.script) (⟦<Option<u8> as Deserialize<'de>>⟧.refusal)
           (⟦<Option<u8> as Deserialize<'de>>⟧.gives) (⟦<Option<u8> as PartialEq>⟧.eq) =
           (option_back u8_back) in law) p.floor real (λ q. q.floor)
-          (closed_back (codes "streetName" ∷ codes "floor" ∷ [])))))
+          (closed_back (name "streetName" ∷ name "floor" ∷ [])))))
           f (λ q h. both_hold h.0 h.1.0);
     } };
 
-    ghost keeps = { struct_keeps (codes "Place") (by_name_keeps
-        (named_keeps (codes "streetName") (λ q. q.street_name)
+    ghost keeps = { struct_keeps (name "Place") (by_name_keeps
+        (named_keeps (name "streetName") (λ q. q.street_name)
         (heedless_keeps (λ o. refusal_of (text_from o))
         (λ o (x : String Global). IsTaken (text_from o) (HasContent (string_bytes x))))
-        (named_or_keeps (codes "floor") (λ (x : (Option ℕ)). x ≡ None) (λ q. q.floor)
+        (named_or_keeps (name "floor") (λ (x : (Option ℕ)). x ≡ None) (λ q. q.floor)
         (let law : CoercionKeeps (⟦<Option<u8> as Deserialize<'de>>⟧.refusal)
         (⟦<Option<u8> as Deserialize<'de>>⟧.gives) = (option_keeps (natural_keeps kind.u8))
         in law)
-        (closed_keeps (codes "streetName" ∷ codes "floor" ∷ []))))) };
+        (closed_keeps (name "streetName" ∷ name "floor" ∷ []))))) };
 }
 
 /// What becomes of an order.
@@ -189,48 +204,71 @@ fn make_step_moved(x1: i32, x2: i32) -> Step
     Step::Moved(x1, x2)
 }
 
+/// The names of its fields.
+struct FieldsOfStepLeft;
+
+impl Names for FieldsOfStepLeft {
+    ghost names = { name "with" ∷ name "at" ∷ [] };
+
+    #[tactic(auto, unfolding(serde_content::specs::Literals::name))]
+    fn names() -> &'static [&'static str] {
+        &["with", "at"]
+    }
+}
+
 /// Fields, wherever they stand.
 fn read_step_left<'de, 'n: 'de>(
     alloc: Global,
     fields: FieldsByName<'de, 'n>,
 ) -> Result<(String, Place)>
     ensures { Reads (
-        (named_then (codes "with") (⟦<String as Deserialize<'de>>⟧.refusal)
-        (named_then (codes "at") (⟦<Place as Deserialize<'de>>⟧.refusal)
-        (others_skipped (codes "with" ∷ codes "at" ∷ []))))
+        (named_then (name "with") (⟦<String as Deserialize<'de>>⟧.refusal)
+        (named_then (name "at") (⟦<Place as Deserialize<'de>>⟧.refusal)
+        (others_skipped (name "with" ∷ name "at" ∷ []))))
         (fields_left fields.entry))
         (λ z.
-        (NamedThen (codes "with") (⟦<String as Deserialize<'de>>⟧.gives) z.0
-        (NamedThen (codes "at") (⟦<Place as Deserialize<'de>>⟧.gives) z.1
+        (NamedThen (name "with") (⟦<String as Deserialize<'de>>⟧.gives) z.0
+        (NamedThen (name "at") (⟦<Place as Deserialize<'de>>⟧.gives) z.1
         NoOthers))
         (fields_left fields.entry)) result }
 {
-    read_two(
+    read_two_of(
         alloc,
         fields,
-        "with",
+        &FieldsOfStepLeft,
         None,
-        "at",
         None,
-        &["with", "at"],
+        &FieldsOfStepLeft,
         false,
     )
+}
+
+/// The names of its variants.
+struct NamesOfStep;
+
+impl Names for NamesOfStep {
+    ghost names = { name "open" ∷ name "weighed" ∷ name "moved-by" ∷ name "left" ∷ [] };
+
+    #[tactic(auto, unfolding(serde_content::specs::Literals::name))]
+    fn names() -> &'static [&'static str] {
+        &["open", "weighed", "moved-by", "left"]
+    }
 }
 
 impl Serialize for Step {
     ghost use Rattle.shapes.specs.contracts.types.PlaceSerialize.TheImpl.Laws as place_serialize;
 
     ghost script = { elim [
-      | step.Open ↦ unit_variant_script (codes "Step") 0 (codes "open")
-      | step.Weighed x1 ↦ newtype_variant_script (codes "Step") 1 (codes "weighed")
+      | step.Open ↦ unit_variant_script (name "Step") 0 (name "open")
+      | step.Weighed x1 ↦ newtype_variant_script (name "Step") 1 (name "weighed")
           (⟦<u32 as Serialize>⟧.script x1)
-      | step.Moved x1 x2 ↦ tuple_variant_script (codes "Step") 2 (codes "moved-by") 2
+      | step.Moved x1 x2 ↦ tuple_variant_script (name "Step") 2 (name "moved-by") 2
           (tuple_field_first (⟦<i32 as Serialize>⟧.script x1)
           (tuple_field_first (⟦<i32 as Serialize>⟧.script x2)
           end_script))
-      | step.Left x1 x2 ↦ struct_variant_script (codes "Step") 3 (codes "left") 2
-          (field_first (codes "with") (⟦<String as Serialize>⟧.script x1)
-          (field_first (codes "at") (⟦<Place as Serialize>⟧.script x2)
+      | step.Left x1 x2 ↦ struct_variant_script (name "Step") 3 (name "left") 2
+          (field_first (name "with") (⟦<String as Serialize>⟧.script x1)
+          (field_first (name "at") (⟦<Place as Serialize>⟧.script x2)
           end_script))
     ] };
 
@@ -249,15 +287,15 @@ impl Serialize for Step {
 
     fn serialize<S: Serializer>(&self, alloc: Global, serializer: &mut S) -> Result<()> {
         match self {
-            Step::Open => Call::UnitVariant("Step", 0, "open").send(serializer),
+            Step::Open => Call::UnitVariant(name_step(), 0, name_open()).send(serializer),
             Step::Weighed(x1) => {
-                Call::NewtypeVariant("Step", 1, "weighed").around(x1, alloc, serializer)
+                Call::NewtypeVariant(name_step(), 1, name_weighed()).around(x1, alloc, serializer)
             }
             Step::Moved(x1, x2) => {
                 send_two(
                     alloc,
                     serializer,
-                    Call::TupleVariant("Step", 2, "moved-by", 2),
+                    Call::TupleVariant(name_step(), 2, name_moved_by(), 2),
                     Call::TupleField,
                     x1,
                     Call::TupleField,
@@ -268,10 +306,10 @@ impl Serialize for Step {
                 send_two(
                     alloc,
                     serializer,
-                    Call::StructVariant("Step", 3, "left", 2),
-                    Call::Field("with"),
+                    Call::StructVariant(name_step(), 3, name_left(), 2),
+                    Call::Field(name_with()),
                     with,
-                    Call::Field("at"),
+                    Call::Field(name_at()),
                     place,
                 )
             }
@@ -279,62 +317,94 @@ impl Serialize for Step {
     }
 }
 
-impl<'de> Deserialize<'de> for Step {
-    ghost refusal = { enum_refusal (codes "Step")
-        (variant_or (codes "open") unit_variant_refusal
-        (variant_or (codes "weighed")
-        (newtype_variant_refusal (⟦<u32 as Deserialize<'de>>⟧.refusal))
-        (variant_or (codes "moved-by") (tuple_variant_refusal
-        (part_then 2 0 (⟦<i32 as Deserialize<'de>>⟧.refusal)
-        (part_then 2 1 (⟦<i32 as Deserialize<'de>>⟧.refusal)
-        (end_of_parts 2))))
-        (variant_or (codes "left") (struct_variant_refusal (read_by_name
-        (named_then (codes "with") (⟦<String as Deserialize<'de>>⟧.refusal)
-        (named_then (codes "at") (⟦<Place as Deserialize<'de>>⟧.refusal)
-        (others_skipped (codes "with" ∷ codes "at" ∷ []))))))
-        (no_variant_of (codes "open" ∷ codes "weighed" ∷ codes "moved-by" ∷ codes "left" ∷
-        [])))))) };
+impl<'de> Variants<'de> for Step {
+    ghost name = { name "Step" };
 
-    ghost gives = { λ s. elim [
-      | step.Open ↦ EnumGives (codes "Step") (codes "open") UnitVariantGives s
-      | step.Weighed x1 ↦ EnumGives (codes "Step") (codes "weighed")
-          (NewtypeVariantGives (⟦<u32 as Deserialize<'de>>⟧.gives) x1) s
-      | step.Moved x1 x2 ↦ EnumGives (codes "Step") (codes "moved-by") (TupleVariantGives
-          (PartThen (⟦<i32 as Deserialize<'de>>⟧.gives) x1
-          (PartThen (⟦<i32 as Deserialize<'de>>⟧.gives) x2
-          NoPart))) s
-      | step.Left x1 x2 ↦ EnumGives (codes "Step") (codes "left")
-          (StructVariantGives (ReadByName
-          (NamedThen (codes "with") (⟦<String as Deserialize<'de>>⟧.gives) x1
-          (NamedThen (codes "at") (⟦<Place as Deserialize<'de>>⟧.gives) x2
-          NoOthers)))) s
+    ghost refusal = { variants (
+        (name "open", unit_variant_refusal)
+        ∷ (name "weighed", newtype_variant_refusal (⟦<u32 as Deserialize<'de>>⟧.refusal))
+        ∷ (
+          name "moved-by",
+          tuple_variant_refusal
+              (part_then 2 0 (⟦<i32 as Deserialize<'de>>⟧.refusal)
+              (part_then 2 1 (⟦<i32 as Deserialize<'de>>⟧.refusal)
+              (end_of_parts 2))),
+        )
+        ∷ (
+          name "left",
+          struct_variant_refusal (read_by_name
+              (named_then (name "with") (⟦<String as Deserialize<'de>>⟧.refusal)
+              (named_then (name "at") (⟦<Place as Deserialize<'de>>⟧.refusal)
+              (others_skipped (name "with" ∷ name "at" ∷ []))))),
+        )
+        ∷ []) };
+
+    ghost named = { elim [
+      | step.Open ↦ name "open"
+      | step.Weighed x1 ↦ name "weighed"
+      | step.Moved x1 x2 ↦ name "moved-by"
+      | step.Left x1 x2 ↦ name "left"
     ] };
 
-    fn deserialize<'n: 'de>(alloc: Global, from: Deserializer<'de, 'n>) -> Result<Step> {
-        let access = from.deserialize_enum(
-            alloc,
-            "Step",
-            &["open", "weighed", "moved-by", "left"],
-        )?;
-        let (tag, variant) = access.variant::<CowStr<'de>>(alloc)?;
-        match tag.as_str() {
-            "open" => {
+    ghost held = { elim [
+      | step.Open ↦ UnitVariantGives
+      | step.Weighed x1 ↦ NewtypeVariantGives (⟦<u32 as Deserialize<'de>>⟧.gives) x1
+      | step.Moved x1 x2 ↦ TupleVariantGives
+          (PartThen (⟦<i32 as Deserialize<'de>>⟧.gives) x1
+          (PartThen (⟦<i32 as Deserialize<'de>>⟧.gives) x2
+          NoPart))
+      | step.Left x1 x2 ↦ StructVariantGives (ReadByName
+          (NamedThen (name "with") (⟦<String as Deserialize<'de>>⟧.gives) x1
+          (NamedThen (name "at") (⟦<Place as Deserialize<'de>>⟧.gives) x2
+          NoOthers)))
+    ] };
+
+    #[tactic(auto, unfolding(serde_content::specs::Literals::name))]
+    fn name() -> &'static str {
+        "Step"
+    }
+
+    fn names() -> &'static [&'static str] {
+        NamesOfStep::names()
+    }
+
+    fn read_variant<'n: 'de>(
+        alloc: Global,
+        tag: &str,
+        variant: VariantAccess<'de, 'n>,
+    ) -> Result<Step> {
+        match variant_index(tag, &NamesOfStep) {
+            Some(0) => {
                 variant.unit_variant(alloc)?;
                 Ok(Step::Open)
             }
-            "weighed" => Ok(Step::Weighed(variant.newtype_variant(alloc)?)),
-            "moved-by" => {
+            Some(1) => Ok(Step::Weighed(variant.newtype_variant(alloc)?)),
+            Some(2) => {
                 let parts = variant.tuple_variant(alloc, 2)?;
                 let (x1, x2) = two_parts(alloc, parts)?;
                 Ok(make_step_moved(x1, x2))
             }
-            "left" => {
-                let fields = variant.struct_variant(alloc, &["with", "at"])?.by_name();
+            Some(3) => {
+                let fields = variant
+                    .struct_variant(alloc, FieldsOfStepLeft::names())?
+                    .by_name();
                 let (with, place) = read_step_left(alloc, fields)?;
                 Ok(Step::Left { with, place })
             }
-            tag => Err(unknown_variant(alloc, tag, &["open", "weighed", "moved-by", "left"])),
+            _ => Err(no_such_variant(alloc, tag, &NamesOfStep)),
         }
+    }
+}
+
+impl<'de> Deserialize<'de> for Step {
+    ghost refusal = { enum_refusal (name "Step") ⟦<Step as Variants<'de>>⟧.refusal };
+
+    ghost gives = { λ s y. EnumGives (name "Step")
+        (⟦<Step as Variants<'de>>⟧.named y)
+        (⟦<Step as Variants<'de>>⟧.held y) s };
+
+    fn deserialize<'n: 'de>(alloc: Global, from: Deserializer<'de, 'n>) -> Result<Step> {
+        read_enum(alloc, from)
     }
 }
 
@@ -359,7 +429,7 @@ impl<'de> RoundTrip<'de> for Step {
         }
     }
 
-    ghost comes_back = { record {
+    ghost comes_back = { unfold name index_among in record {
       of_value = elim [
         | step.Open ↦ λ real f. variant_back Self.refusal Self.gives unit_variant_back
             f (λ d. refl)
@@ -393,10 +463,10 @@ impl<'de> RoundTrip<'de> for Step {
             ])
         | step.Left x1 x2 ↦ λ real f. variant_back Self.refusal Self.gives
             (struct_variant_back (by_name_back
-            (named_back (codes "with") text_back x1 tt (λ (z : (String Global) × Place). z.0)
-            (named_back (codes "at") place_round_trip.comes_back-law x2 real
+            (named_back (name "with") text_back x1 tt (λ (z : (String Global) × Place). z.0)
+            (named_back (name "at") place_round_trip.comes_back-law x2 real
             (λ (z : (String Global) × Place). z.1)
-            (skipped_back (codes "with" ∷ codes "at" ∷ []))))))
+            (skipped_back (name "with" ∷ name "at" ∷ []))))))
             f (λ d. refl)
             (λ d only. elim [
               | step.Open ↦ λ it. other_variant it.0 refl
@@ -410,16 +480,16 @@ impl<'de> RoundTrip<'de> for Step {
     ghost keeps = { record {
       of_origin = λ o people. elim [
         | step.Open ↦ λ p.
-            let q = variant_kept (codes "Step") (codes "open") _ (λ v. refl) unit_variant_keeps
+            let q = variant_kept (name "Step") (name "open") _ (λ v. refl) unit_variant_keeps
             o people tt p.free p.given in
             record { free = q.0; given = q.1 }
         | step.Weighed x1 ↦ λ p.
-            let q = variant_kept (codes "Step") (codes "weighed") _ (λ v. refl)
+            let q = variant_kept (name "Step") (name "weighed") _ (λ v. refl)
             (newtype_variant_keeps (natural_keeps kind.u32))
             o people x1 p.free p.given in
             record { free = q.0; given = q.1 }
         | step.Moved x1 x2 ↦ λ p.
-            let q = variant_kept (codes "Step") (codes "moved-by") _ (λ v. refl)
+            let q = variant_kept (name "Step") (name "moved-by") _ (λ v. refl)
             (tuple_variant_keeps
             (part_keeps (λ (z : ℤ × ℤ). z.0) 2 0 (integer_keeps kind.i32)
             (part_keeps (λ (z : ℤ × ℤ). z.1) 2 1 (integer_keeps kind.i32)
@@ -427,16 +497,96 @@ impl<'de> RoundTrip<'de> for Step {
             o people (x1, x2) p.free p.given in
             record { free = q.0; given = q.1 }
         | step.Left x1 x2 ↦ λ p.
-            let q = variant_kept (codes "Step") (codes "left") _ (λ v. refl)
+            let q = variant_kept (name "Step") (name "left") _ (λ v. refl)
             (struct_variant_keeps (by_name_keeps
-            (named_keeps (codes "with") (λ (z : (String Global) × Place). z.0)
+            (named_keeps (name "with") (λ (z : (String Global) × Place). z.0)
             (heedless_keeps (λ o. refusal_of (text_from o))
             (λ o (x : String Global). IsTaken (text_from o) (HasContent (string_bytes x))))
-            (named_keeps (codes "at") (λ (z : (String Global) × Place). z.1)
+            (named_keeps (name "at") (λ (z : (String Global) × Place). z.1)
             place_round_trip.keeps-law
-            (skipped_keeps (codes "with" ∷ codes "at" ∷ []))))))
+            (skipped_keeps (name "with" ∷ name "at" ∷ []))))))
             o people (x1, x2) p.free p.given in
             record { free = q.0; given = q.1 }
       ];
     } };
+}
+
+/// The name `Place`.
+#[tactic(auto, unfolding(serde_content::specs::Literals::name))]
+fn name_place() -> &'static str
+    ensures { result.now ≡ name "Place" }
+{
+    "Place"
+}
+
+/// The name `streetName`.
+#[tactic(auto, unfolding(serde_content::specs::Literals::name))]
+fn name_street_name() -> &'static str
+    ensures { result.now ≡ name "streetName" }
+{
+    "streetName"
+}
+
+/// The name `floor`.
+#[tactic(auto, unfolding(serde_content::specs::Literals::name))]
+fn name_floor() -> &'static str
+    ensures { result.now ≡ name "floor" }
+{
+    "floor"
+}
+
+/// The name `Step`.
+#[tactic(auto, unfolding(serde_content::specs::Literals::name))]
+fn name_step() -> &'static str
+    ensures { result.now ≡ name "Step" }
+{
+    "Step"
+}
+
+/// The name `open`.
+#[tactic(auto, unfolding(serde_content::specs::Literals::name))]
+fn name_open() -> &'static str
+    ensures { result.now ≡ name "open" }
+{
+    "open"
+}
+
+/// The name `weighed`.
+#[tactic(auto, unfolding(serde_content::specs::Literals::name))]
+fn name_weighed() -> &'static str
+    ensures { result.now ≡ name "weighed" }
+{
+    "weighed"
+}
+
+/// The name `moved-by`.
+#[tactic(auto, unfolding(serde_content::specs::Literals::name))]
+fn name_moved_by() -> &'static str
+    ensures { result.now ≡ name "moved-by" }
+{
+    "moved-by"
+}
+
+/// The name `left`.
+#[tactic(auto, unfolding(serde_content::specs::Literals::name))]
+fn name_left() -> &'static str
+    ensures { result.now ≡ name "left" }
+{
+    "left"
+}
+
+/// The name `with`.
+#[tactic(auto, unfolding(serde_content::specs::Literals::name))]
+fn name_with() -> &'static str
+    ensures { result.now ≡ name "with" }
+{
+    "with"
+}
+
+/// The name `at`.
+#[tactic(auto, unfolding(serde_content::specs::Literals::name))]
+fn name_at() -> &'static str
+    ensures { result.now ≡ name "at" }
+{
+    "at"
 }

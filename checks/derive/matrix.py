@@ -1,0 +1,152 @@
+"""Types of every sort and size that `tools/derive` covers, as files of Rust declarations: one file a
+type, of which the last item is the one that is tried.
+
+  python3 checks/derive/matrix.py            prints the names of all types
+  python3 checks/derive/matrix.py NAME       prints the declarations of one
+"""
+import sys
+from itertools import cycle, islice
+from typing import Dict, List
+
+ALL, BOTH, SENT, READ = (f"#[derive({d})]" for d in (
+    "PartialEq, Eq, Serialize, Deserialize", "Serialize, Deserialize", "Serialize", "Deserialize"))
+LEAVES = "bool char () String u8 u16 u32 u64 u128 usize i8 i16 i32 i64 i128 isize".split()
+MIXED = ["String", "u8", "Option<u8>", "bool", "i32", "Vec<u8>", "char", "u64"]
+HELD = ["Option<u8>", "Option<String>", "Option<Vec<u8>>", "Vec<String>", "Vec<i32>", "Vec<Option<bool>>", "Vec<Vec<u8>>",
+        "Box<u8>", "Box<String>", "Option<Box<i32>>", "BTreeMap<String, u8>", "BTreeMap<u8, String>", "BTreeMap<i32, bool>",
+        "BTreeMap<char, u8>", "BTreeMap<String, Vec<u8>>", "(u8,)", "(u8, String)", "(u8, i32, bool)", "(u8, u8, u8, u8)",
+        "Vec<(i32, i32)>", "BTreeMap<String, (u8, bool)>", "((u8, u8), (u8, String))", "Option<(u8, u8)>", "Box<(u8, u8)>",
+        "Vec<Own>", "Option<Own>", "Box<Own>", "BTreeMap<String, Own>", "(Own, u8)", "Deep", "Vec<Deep>", "Option<Vec<Deeper>>"]
+LENGTHS = [1, 9, 10, 20, 40]
+WORDS = ["name", "codes", "data", "record", "variants", "tree", "kind", "gives", "refusal", "result", "now", "entry", "open",
+         "module", "elim", "tag", "fields", "alloc", "names", "refl", "script", "value", "parts", "serializer", "variant"]
+OWN = (f"{ALL}\npub struct Own {{ pub a: u8, pub b: String }}\n\n{ALL}\npub enum Deeper {{ A, B(Own) }}\n\n"
+       f"{ALL}\npub struct Deep {{ pub own: Own, pub deeper: Vec<Deeper> }}\n\n")
+CASES = ["lowercase", "UPPERCASE", "PascalCase", "camelCase", "snake_case", "SCREAMING_SNAKE_CASE", "kebab-case",
+         "SCREAMING-KEBAB-CASE"]
+
+
+def word(length: int, number: int = 0) -> str:
+    """A name of so many letters, another for each number."""
+    letters = "abcdefghijklmnopqrstuvwxyz"
+    return (letters[number % 26] + letters[number // 26] * (length > 1) + letters * 2)[:length]
+
+
+def named(types: List[str], length: int = 0) -> str:
+    """Fields by name; where a length is given, with names of so many letters."""
+    return "{ " + ", ".join(f"pub {word(length, i) if length else f'f{i}'}: {t}" for i, t in enumerate(types)) + " }"
+
+
+def held(types: List[str], style: str) -> str:
+    """What a variant holds, by name or by place."""
+    if not types:
+        return ""
+    return " " + named(types).replace("pub ", "") if style == "named" else f"({', '.join(types)})"
+
+
+def structs() -> Dict[str, str]:
+    """Structs by count of fields, by name and by place."""
+    made = {}
+    for count in (0, 1, 2, 3, 6, 8, 9, 12, 20, 40):
+        for sort, kinds in (("mixed", MIXED), ("text", ["String"]), ("byte", ["u8"])):
+            types = list(islice(cycle(kinds), count))
+            made[f"struct_{sort}_{count}"] = f"{ALL}\npub struct Tried {named(types)}"
+            if count:
+                made[f"place_{sort}_{count}"] = f"{ALL}\npub struct Tried({', '.join('pub ' + t for t in types)});"
+        types = list(islice(cycle(MIXED), count))
+        made[f"closed_{count}"] = f"{BOTH}\n#[serde(deny_unknown_fields)]\npub struct Tried {named(types)}"
+        made[f"sent_{count}"] = f"{SENT}\npub struct Tried {named(types)}"
+        made[f"read_{count}"] = f"{READ}\npub struct Tried {named(types)}"
+    made["unit"] = f"{ALL}\npub struct Tried;"
+    return made
+
+
+def enums() -> Dict[str, str]:
+    """Enums by count of variants, by how they are tagged and by what the variants hold."""
+    tags = {"external": "", "internal": '#[serde(tag = "kind")]\n', "adjacent": '#[serde(tag = "kind", content = "of")]\n'}
+    holds = {"units": [([], "named")], "one": [(["u8"], "place")], "two": [(["u8", "String"], "place")],
+             "fields": [(["i32", "u8", "String"], "named")],
+             "mixed": [([], "named"), (["String"], "place"), (["u8", "bool"], "place"), (["i32", "u8", "String"], "named")]}
+    made = {}
+    for count in (1, 2, 4, 8, 20):
+        for tag, line in tags.items():
+            for sort, kinds in holds.items():
+                kinds = [([], style) if (tag == "internal" and style == "place") or (tag == "adjacent" and len(types) > 1)
+                         else (types, style) for types, style in kinds]
+                if not any(types for types, _ in kinds) and sort != "units":
+                    continue
+                body = ", ".join(f"V{i}{held(*kinds[i % len(kinds)])}" for i in range(count))
+                made[f"{tag}_{sort}_{count}"] = f"{ALL}\n{line}pub enum Tried {{ {body} }}"
+    for count in (3, 6, 8, 9, 12, 20):
+        types = list(islice(cycle(MIXED), count))
+        made[f"external_big_{count}"] = f"{ALL}\npub enum Tried {{ A, B{held(types, 'named')}, C{held(types[:8], 'place')} }}"
+        made[f"internal_big_{count}"] = f'{ALL}\n#[serde(tag = "kind")]\npub enum Tried {{ A, B{held(types, "named")} }}'
+    untagged = ["bool", "i64", "String", "Vec<u8>", "()", "BTreeMap<String, u8>"]
+    for count in (1, 2, 4, 6):
+        body = ", ".join(f"V{i}({t})" for i, t in enumerate(untagged[:count]))
+        made[f"untagged_{count}"] = f"{ALL}\n#[serde(untagged)]\npub enum Tried {{ {body} }}"
+    made["untagged_places"] = f"{BOTH}\n#[serde(untagged)]\npub enum Tried {{ A(u8, String), B(bool, i32, u8), C(String) }}"
+    return made
+
+
+def names() -> Dict[str, str]:
+    """Types, variants, fields and tags with names of each length, and with words of the prover."""
+    made = {}
+    for length in LENGTHS:
+        long = word(length).capitalize()
+        variants = ", ".join(word(length, i).capitalize() + hold for i, hold in enumerate(
+            ["", "(u8)", "(String, u8)", " { x: i32, y: u8, z: String }"]))
+        fields = named(MIXED[:6], length)
+        made[f"name_of_struct_{length}"] = f"{ALL}\npub struct {long} {named(MIXED[:3])}"
+        made[f"name_of_enum_{length}"] = f"{ALL}\npub enum {long} {{ A, B(u8), C {{ x: u8, y: i32, z: String }} }}"
+        made[f"names_of_fields_{length}"] = f"{ALL}\npub struct Tried {fields}"
+        made[f"names_of_variants_{length}"] = f"{ALL}\npub enum Tried {{ {variants} }}"
+        made[f"names_of_units_{length}"] = f"{ALL}\npub enum Tried {{ {', '.join(word(length, i).capitalize() for i in range(4))} }}"
+        made[f"name_of_tag_{length}"] = (f'{ALL}\n#[serde(tag = "{word(length)}")]\npub enum Tried'
+                                         f" {{ A, B {{ f0: u8, f1: i32, f2: String }} }}")
+        made[f"name_of_content_{length}"] = (f'{ALL}\n#[serde(tag = "t", content = "{word(length)}")]\npub enum Tried'
+                                             " { A, B(u8), C(String) }")
+        made[f"untagged_name_{length}"] = f"{ALL}\n#[serde(untagged)]\npub enum {long} {{ A(u8), B(String) }}"
+    for one in WORDS:
+        made[f"word_{one}"] = (f"{ALL}\npub struct Tried {{ pub {one}: u8, pub other: i32 }}\n")
+        made[f"word_in_variant_{one}"] = f"{ALL}\npub enum Tried {{ A {{ {one}: i32, other: u8 }}, B({'u8'}) }}"
+    for case in CASES:
+        made[f"case_{case.replace('-', '_')}_of_{'low' if case[0].islower() else 'up'}"] = (
+            f'{ALL}\n#[serde(rename_all = "{case}")]\npub struct Tried {{ pub first_name: u8, pub second_long_name: String }}')
+        made[f"case_of_variants_{case.replace('-', '_')}_{'low' if case[0].islower() else 'up'}"] = (
+            f'{ALL}\n#[serde(rename_all = "{case}")]\npub enum Tried {{ FirstName, SecondLongName(u8), Third }}')
+    return made
+
+
+def types() -> Dict[str, str]:
+    """Fields of each type that is covered, alone and beside others, sent alone, and own types three deep."""
+    made = {}
+    for place, one in enumerate(LEAVES + HELD):
+        made[f"type_{place}"] = f"{ALL}\npub struct Tried {{ pub only: {one} }}"
+        made[f"type_in_variant_{place}"] = f"{ALL}\npub enum Tried {{ A({one}), B {{ x: {one}, y: u8 }} }}"
+        if place >= len(LEAVES):
+            made[f"type_by_place_{place}"] = f"{ALL}\npub struct Tried(pub {one}, pub u8);"
+    made["flat"] = f"{ALL}\npub struct Tried {{ pub x: u8, #[serde(flatten)] pub own: Own, pub y: Option<u8> }}"
+    made["flat_twice"] = (f"{ALL}\npub struct More {named(['u8', 'String', 'bool', 'i32', 'u64'])}\n\n"
+                          f"{ALL}\npub struct Tried {{ #[serde(flatten)] pub own: Own, pub x: u8, #[serde(flatten)] pub more: More }}")
+    made["beside_tag"] = f'{ALL}\n#[serde(tag = "kind")]\npub enum Tried {{ A(Own), B {{ x: i32 }}, C }}'
+    made["defaults"] = (f"{ALL}\npub struct Tried {{ #[serde(default)] pub a: u8, #[serde(default)] pub b: String,"
+                        " #[serde(default)] pub c: Vec<u8>, #[serde(default)] pub d: BTreeMap<String, u8> }")
+    made["renamed"] = (f'{ALL}\npub struct Tried {{ #[serde(rename = "a b-c")] pub a: u8, #[serde(rename = "\'{{}}")] pub b: i32 }}')
+    return made
+
+
+def matrix() -> Dict[str, str]:
+    """The declarations of each type, by name."""
+    made = {**structs(), **enums(), **names(), **types()}
+    head = "//! One type.\n\nuse serde::{Deserialize, Serialize};\nuse std::collections::BTreeMap;\n\n"
+    return {name: head + (OWN if "Own" in text or "Deep" in text else "") + text + "\n" for name, text in made.items()}
+
+
+def main() -> None:
+    made = matrix()
+    print(made[sys.argv[1]] if len(sys.argv) > 1 else "\n".join(made), end="" if len(sys.argv) > 1 else "\n")
+
+
+if __name__ == "__main__":
+    main()

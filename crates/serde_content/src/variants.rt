@@ -1,0 +1,184 @@
+//! The variants of an enum, for what `tools/derive` writes: an enum tells how it reads the variant
+//! that a tag names, and what stands around that is read here.
+
+ghost use Rattle.std.specs.Prelude.{◌≡◌, ℕ, List, Option};
+ghost use Rattle.content_tree.specs.Errors.Cause.{Cause};
+ghost use Rattle.content_de.specs.Sources.Deserializer.{subject};
+ghost use Rattle.content_de.specs.Accesses.ByName.{FieldsLeft, fields_left};
+ghost use Rattle.content_de.specs.Accesses.Enum.{VariantLeft, variant_view};
+ghost use Rattle.content_de.specs.Reads.ByName.{read_by_name, ReadByName};
+ghost use Rattle.content_de.specs.Reads.Own.{enum_refusal, EnumGives, struct_refusal, StructGives};
+ghost use Rattle.content_de.specs.Reads.Read.{Reads};
+ghost use Rattle.content_de.specs.Reads.Tagged.{tag_then, TagThen, tag_then_buffered};
+ghost use Rattle.content_de.specs.Reads.Tagged.{TagThenBuffered};
+ghost use Rattle.serde_content.specs.Variants.{VariantGives};
+
+use content_de::{Deserializer, FieldsByName, VariantAccess, internal_tag, tag_field};
+use content_tree::{CowStr, Result};
+use std::alloc::Global;
+
+/// An enum that is tagged externally.
+pub trait Variants<'de>: Sized {
+    /// Its name.
+    ghost name: { List ℕ };
+    /// What is refused of the variant that a tag names.
+    ghost refusal: { List ℕ → VariantLeft → Option Cause };
+    /// The name of a value's variant.
+    ghost named: { Self → List ℕ };
+    /// What a value's variant gives, whatever its name.
+    ghost held: { Self → VariantLeft → Type 0 };
+
+    /// Its name, as code has it.
+    fn name() -> &'static str
+        ensures { result.now ≡ name };
+
+    /// The names of its variants.
+    fn names() -> &'static [&'static str];
+
+    /// The variant that the tag names.
+    fn read_variant<'n: 'de>(
+        alloc: Global,
+        tag: &str,
+        variant: VariantAccess<'de, 'n>,
+    ) -> Result<Self>
+        ensures { Reads (refusal tag.now (variant_view variant.entry))
+            (λ y. VariantGives (named y) (held y) tag.now (variant_view variant.entry)) result };
+}
+
+/// An enum of which a field names the variant, beside others.
+pub trait TaggedVariants<'de>: Sized {
+    /// Its name.
+    ghost name: { List ℕ };
+    /// The name of the field that names the variant.
+    ghost tag_name: { List ℕ };
+    /// What is refused of the variant that a tag names.
+    ghost refusal: { List ℕ → FieldsLeft → Option Cause };
+    /// The name of a value's variant.
+    ghost named: { Self → List ℕ };
+    /// What the other fields give for a value, whatever its variant's name.
+    ghost held: { Self → FieldsLeft → Type 0 };
+
+    /// Its name, as code has it.
+    fn name() -> &'static str
+        ensures { result.now ≡ name };
+
+    /// The name of the field that names the variant, as code has it.
+    fn tag() -> &'static str
+        ensures { result.now ≡ tag_name };
+
+    /// The variant that the tag names, out of the other fields.
+    fn read_variant<'n: 'de>(
+        alloc: Global,
+        tag: &str,
+        fields: FieldsByName<'de, 'n>,
+    ) -> Result<Self>
+        ensures { Reads (refusal tag.now (fields_left fields.entry))
+            (λ y. VariantGives (named y) (held y) tag.now (fields_left fields.entry)) result };
+}
+
+/// An enum that is tagged externally: its tag, and then the variant that it names.
+///
+/// # Errors
+///
+/// As those of [`Deserializer::deserialize_enum`], of the tag as a text, and of the variant.
+pub fn read_enum<'de, 'n: 'de, T: Variants<'de>>(
+    alloc: Global,
+    from: Deserializer<'de, 'n>,
+) -> Result<T>
+    ensures { Reads (enum_refusal T.name T.refusal (subject from.entry))
+        (λ y. EnumGives T.name (T.named y) (T.held y) (subject from.entry)) result }
+{
+    let access = from.deserialize_enum(alloc, T::name(), T::names())?;
+    let (tag, variant) = access.variant::<CowStr<'de>>(alloc)?;
+    T::read_variant(alloc, tag.as_str(), variant)
+}
+
+/// The tag of an enum that is tagged internally, wherever it stands, and then the variant.
+fn read_tagged_by<'de, 'n: 'de, T: TaggedVariants<'de>>(
+    alloc: Global,
+    mut fields: FieldsByName<'de, 'n>,
+    name: &str,
+) -> Result<T>
+    ensures { Reads (tag_then_buffered name.now T.refusal (fields_left fields.entry))
+        (λ y. TagThenBuffered name.now (T.named y) (T.held y) (fields_left fields.entry)) result }
+{
+    let tag = internal_tag(alloc, &mut fields, name)?;
+    T::read_variant(alloc, tag.as_str(), fields)
+}
+
+/// The same by the name of its tag.
+fn read_tagged_fields<'de, 'n: 'de, T: TaggedVariants<'de>>(
+    alloc: Global,
+    fields: FieldsByName<'de, 'n>,
+) -> Result<T>
+    ensures { Reads (tag_then_buffered T.tag_name T.refusal (fields_left fields.entry))
+        (λ y. TagThenBuffered T.tag_name (T.named y) (T.held y) (fields_left fields.entry)) result }
+{
+    read_tagged_by(alloc, fields, T::tag())
+}
+
+/// An enum that is tagged internally: the tag, wherever it stands, and then the variant that it
+/// names, out of a [buffer](Deserializer::buffered).
+///
+/// # Errors
+///
+/// As those of [`Deserializer::deserialize_struct`], of the tag, and of the variant.
+pub fn read_tagged<'de, 'n: 'de, T: TaggedVariants<'de>>(
+    alloc: Global,
+    from: Deserializer<'de, 'n>,
+) -> Result<T>
+    ensures { Reads (struct_refusal T.name (read_by_name (tag_then_buffered T.tag_name T.refusal))
+        (subject from.entry))
+        (λ y. StructGives T.name (ReadByName (TagThenBuffered T.tag_name (T.named y) (T.held y)))
+        (subject from.entry)) result }
+{
+    let fields = from
+        .deserialize_struct(alloc, T::name(), &[T::tag()])?
+        .by_name();
+    read_tagged_fields(alloc, fields)
+}
+
+/// The tag of an enum that is tagged adjacently, wherever it stands, and then the variant.
+fn read_adjacent_by<'de, 'n: 'de, T: TaggedVariants<'de>>(
+    alloc: Global,
+    mut fields: FieldsByName<'de, 'n>,
+    name: &str,
+) -> Result<T>
+    ensures { Reads (tag_then name.now T.refusal (fields_left fields.entry))
+        (λ y. TagThen name.now (T.named y) (T.held y) (fields_left fields.entry)) result }
+{
+    let tag = tag_field(alloc, &mut fields, name)?;
+    T::read_variant(alloc, tag.as_str(), fields)
+}
+
+/// The same by the name of its tag.
+fn read_adjacent_fields<'de, 'n: 'de, T: TaggedVariants<'de>>(
+    alloc: Global,
+    fields: FieldsByName<'de, 'n>,
+) -> Result<T>
+    ensures { Reads (tag_then T.tag_name T.refusal (fields_left fields.entry))
+        (λ y. TagThen T.tag_name (T.named y) (T.held y) (fields_left fields.entry)) result }
+{
+    read_adjacent_by(alloc, fields, T::tag())
+}
+
+/// An enum that is tagged adjacently: the tag, wherever it stands, and then the variant that it
+/// names.
+///
+/// # Errors
+///
+/// As those of [`read_tagged`].
+pub fn read_adjacent<'de, 'n: 'de, T: TaggedVariants<'de>>(
+    alloc: Global,
+    from: Deserializer<'de, 'n>,
+) -> Result<T>
+    ensures { Reads (struct_refusal T.name (read_by_name (tag_then T.tag_name T.refusal))
+        (subject from.entry))
+        (λ y. StructGives T.name (ReadByName (TagThen T.tag_name (T.named y) (T.held y)))
+        (subject from.entry)) result }
+{
+    let fields = from
+        .deserialize_struct(alloc, T::name(), &[T::tag()])?
+        .by_name();
+    read_adjacent_fields(alloc, fields)
+}
