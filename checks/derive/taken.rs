@@ -108,8 +108,8 @@ struct B(pub(crate) (u8,), pub (crate) u8, pub ((u8)));
 // 1: read as if its condition held: `#[cfg_attr]`
 // 2: read as if its condition held: `#[cfg_attr]`
 // 4: read as if its condition held: `#[cfg_attr]`
-// + (codes "someName")
-// + (codes "z")
+// + (name "someName")
+// + (name "z")
 #[cfg_attr(feature = "serde", derive(serde::Serialize, serde::Deserialize), serde(rename_all = "camelCase"))]
 #[cfg_attr(docsrs, doc(cfg(feature = "serde")))]
 struct A {
@@ -179,7 +179,7 @@ struct Read_two { a: u8 }
 #[derive(Serialize, Deserialize, PartialEq, Eq)]
 enum Status { Changed { status: i32 }, Left(i8) }
 
-// + fn read_same<
+// + fn read_same_a<
 // + fn read_the_same<
 #[derive(Serialize, Deserialize, PartialEq, Eq)]
 #[serde(tag = "data")]
@@ -201,8 +201,8 @@ impl Default for D { fn default() -> D { D } }
 #[derive(Serialize, Deserialize)]
 struct A(std::collections::BTreeMap<std::string::String, core::option::Option<Box<u8>>>);
 
-// + (codes "abc")
-// + (codes "r#w")
+// + (name "abc")
+// + (name "r#w")
 #[derive(Serialize)]
 struct A { #[serde(rename = "a\u{62}\x63", default)] x: u8, #[serde(rename = r"r#w")] y: u8 }
 

@@ -19,8 +19,9 @@ ghost use Rattle.content_de.specs.Reads.ByName.{read_by_name, named_then, named_
 ghost use Rattle.content_de.specs.Reads.ByName.{others_skipped, ReadByName, NamedThen, NamedOrThen};
 ghost use Rattle.content_de.specs.Reads.ByName.{NoOthers};
 ghost use Rattle.content_de.specs.Reads.Tagged.{tag_then_buffered, TagThenBuffered};
-ghost use Rattle.content_de.specs.Reads.Own.{variant_or, no_variant_of, struct_refusal};
-ghost use Rattle.content_de.specs.Reads.Own.{StructGives};
+ghost use Rattle.content_de.specs.Reads.Own.{struct_refusal, StructGives};
+ghost use Rattle.serde_content.specs.Literals.{name};
+ghost use Rattle.serde_content.specs.Variants.{index_among, variants};
 ghost use Rattle.serde_content.specs.RoundTrip.{ComesBack};
 ghost use Rattle.serde_content.specs.Laws.Leaves.{bool_back, text_back, u8_back, i32_back};
 ghost use Rattle.serde_content.specs.Laws.Holders.{option_back};
@@ -51,8 +52,8 @@ ghost use Rattle.check_derive.specs.declared.choices.Color.TheVariants as color;
 
 use content_cbor::{CborRoundTrip, NotNull};
 use serde_content::de::{
-    Deserialize, FieldsByName, OneOfFour, OneOfTwo, first_of_four, first_of_two, internal_tag,
-    read_two, skip_fields, unknown_variant,
+    Deserialize, FieldsByName, Names, OneOfFour, OneOfTwo, TaggedVariants, first_of_four,
+    first_of_two, no_such_variant, read_tagged, read_two_of, skip_fields, variant_index,
 };
 use serde_content::ser::{Call, Serialize, Serializer, send_four, send_one, send_three, send_two};
 use serde_content::{Deserializer, Result, RoundTrip};
@@ -72,6 +73,18 @@ pub enum Command {
     },
 }
 
+/// The names of its fields.
+struct FieldsOfCommandStop;
+
+impl Names for FieldsOfCommandStop {
+    ghost names = { name "kind" ∷ [] };
+
+    #[tactic(auto, unfolding(serde_content::specs::Literals::name))]
+    fn names() -> &'static [&'static str] {
+        &["kind"]
+    }
+}
+
 /// Its contract tells proofs what a variant of signed numbers holds.
 fn make_command_move(x: i32, y: Option<i32>) -> Command
     ensures { result ≡ command.Move x y }
@@ -87,23 +100,47 @@ fn send_command_move<S: Serializer, T1: Serialize, T2: Serialize>(
     x2: &T2,
 ) -> Result<()>
     ensures { Sends S.step S.refuses (S.seen serializer.old)
-        (tagged_script (codes "Command") 3 (codes "kind") (codes "move")
-        (field_first (codes "x") (T1.script x1.now)
-        (field_first (codes "y") (T2.script x2.now)
+        (tagged_script (name "Command") 3 (name "kind") (name "move")
+        (field_first (name "x") (T1.script x1.now)
+        (field_first (name "y") (T2.script x2.now)
         end_script)))
         result (S.seen serializer.new) }
 {
     send_three(
         alloc,
         serializer,
-        Call::Struct("Command", 3),
-        Call::Field("kind"),
-        &"move",
-        Call::Field("x"),
+        Call::Struct(name_command(), 3),
+        Call::Field(name_kind()),
+        &name_move(),
+        Call::Field(name_x()),
         x1,
-        Call::Field("y"),
+        Call::Field(name_y()),
         x2,
     )
+}
+
+/// The names of its fields.
+struct FieldsOfCommandMove;
+
+impl Names for FieldsOfCommandMove {
+    ghost names = { name "kind" ∷ name "x" ∷ name "y" ∷ [] };
+
+    #[tactic(auto, unfolding(serde_content::specs::Literals::name))]
+    fn names() -> &'static [&'static str] {
+        &["kind", "x", "y"]
+    }
+}
+
+/// Those that are read together.
+struct FieldsOfCommandMove1To2;
+
+impl Names for FieldsOfCommandMove1To2 {
+    ghost names = { name "x" ∷ name "y" ∷ [] };
+
+    #[tactic(auto, unfolding(serde_content::specs::Literals::name))]
+    fn names() -> &'static [&'static str] {
+        &["x", "y"]
+    }
 }
 
 /// Fields, wherever they stand.
@@ -112,72 +149,47 @@ fn read_command_move<'de, 'n: 'de>(
     fields: FieldsByName<'de, 'n>,
 ) -> Result<(i32, Option<i32>)>
     ensures { Reads (
-        (named_then (codes "x") (⟦<i32 as Deserialize<'de>>⟧.refusal)
-        (named_or_then (codes "y") (⟦<Option<i32> as Deserialize<'de>>⟧.refusal)
-        (others_skipped (codes "kind" ∷ codes "x" ∷ codes "y" ∷ []))))
+        (named_then (name "x") (⟦<i32 as Deserialize<'de>>⟧.refusal)
+        (named_or_then (name "y") (⟦<Option<i32> as Deserialize<'de>>⟧.refusal)
+        (others_skipped (name "kind" ∷ name "x" ∷ name "y" ∷ []))))
         (fields_left fields.entry))
         (λ z.
-        (NamedThen (codes "x") (⟦<i32 as Deserialize<'de>>⟧.gives) z.0
-        (NamedOrThen (codes "y") (λ (x : (Option ℤ)). x ≡ None)
+        (NamedThen (name "x") (⟦<i32 as Deserialize<'de>>⟧.gives) z.0
+        (NamedOrThen (name "y") (λ (x : (Option ℤ)). x ≡ None)
         (⟦<Option<i32> as Deserialize<'de>>⟧.gives) z.1
         NoOthers))
         (fields_left fields.entry)) result }
 {
-    read_two(
+    read_two_of(
         alloc,
         fields,
-        "x",
+        &FieldsOfCommandMove1To2,
         None,
-        "y",
         Some(None),
-        &["kind", "x", "y"],
+        &FieldsOfCommandMove,
         false,
     )
 }
 
-/// The variant that its tag names.
-fn read_command<'de, 'n: 'de>(alloc: Global, mut fields: FieldsByName<'de, 'n>) -> Result<Command>
-    ensures { Reads (tag_then_buffered (codes "kind")
-        (variant_or (codes "stop")
-        (others_skipped (codes "kind" ∷ []))
-        (variant_or (codes "move")
-        (named_then (codes "x") (⟦<i32 as Deserialize<'de>>⟧.refusal)
-        (named_or_then (codes "y") (⟦<Option<i32> as Deserialize<'de>>⟧.refusal)
-        (others_skipped (codes "kind" ∷ codes "x" ∷ codes "y" ∷ []))))
-        (no_variant_of (codes "stop" ∷ codes "move" ∷ []))))
-        (fields_left fields.entry))
-        (elim [
-          | command.Stop ↦ TagThenBuffered (codes "kind") (codes "stop")
-              NoOthers (fields_left fields.entry)
-          | command.Move x1 x2 ↦ TagThenBuffered (codes "kind") (codes "move")
-              (NamedThen (codes "x") (⟦<i32 as Deserialize<'de>>⟧.gives) x1
-              (NamedOrThen (codes "y") (λ (x : (Option ℤ)). x ≡ None)
-              (⟦<Option<i32> as Deserialize<'de>>⟧.gives) x2
-              NoOthers)) (fields_left fields.entry)
-        ]) result }
-{
-    let tag = internal_tag(alloc, &mut fields, "kind")?;
-    match tag.as_str() {
-        "stop" => {
-            skip_fields(alloc, fields, &["kind"])?;
-            Ok(Command::Stop)
-        }
-        "move" => {
-            let (x, y) = read_command_move(alloc, fields)?;
-            Ok(make_command_move(x, y))
-        }
-        tag => Err(unknown_variant(alloc, tag, &["stop", "move"])),
+/// The names of its variants.
+struct NamesOfCommand;
+
+impl Names for NamesOfCommand {
+    ghost names = { name "stop" ∷ name "move" ∷ [] };
+
+    #[tactic(auto, unfolding(serde_content::specs::Literals::name))]
+    fn names() -> &'static [&'static str] {
+        &["stop", "move"]
     }
 }
 
 impl Serialize for Command {
     ghost script = { elim [
-      | command.Stop ↦ tagged_script (codes "Command") 1 (codes "kind") (codes "stop")
+      | command.Stop ↦ tagged_script (name "Command") 1 (name "kind") (name "stop")
           end_script
-      | command.Move x1 x2 ↦ tagged_script (codes "Command") 3 (codes "kind")
-          (codes "move")
-          (field_first (codes "x") (⟦<i32 as Serialize>⟧.script x1)
-          (field_first (codes "y") (⟦<Option<i32> as Serialize>⟧.script x2)
+      | command.Move x1 x2 ↦ tagged_script (name "Command") 3 (name "kind") (name "move")
+          (field_first (name "x") (⟦<i32 as Serialize>⟧.script x1)
+          (field_first (name "y") (⟦<Option<i32> as Serialize>⟧.script x2)
           end_script))
     ] };
 
@@ -198,9 +210,9 @@ impl Serialize for Command {
                 send_one(
                     alloc,
                     serializer,
-                    Call::Struct("Command", 1),
-                    Call::Field("kind"),
-                    &"stop",
+                    Call::Struct(name_command(), 1),
+                    Call::Field(name_kind()),
+                    &name_stop(),
                 )
             }
             Command::Move { x, y } => send_command_move(alloc, serializer, x, y),
@@ -208,34 +220,75 @@ impl Serialize for Command {
     }
 }
 
-impl<'de> Deserialize<'de> for Command {
-    ghost refusal = { struct_refusal (codes "Command")
-        (read_by_name (tag_then_buffered (codes "kind")
-        (variant_or (codes "stop")
-        (others_skipped (codes "kind" ∷ []))
-        (variant_or (codes "move")
-        (named_then (codes "x") (⟦<i32 as Deserialize<'de>>⟧.refusal)
-        (named_or_then (codes "y") (⟦<Option<i32> as Deserialize<'de>>⟧.refusal)
-        (others_skipped (codes "kind" ∷ codes "x" ∷ codes "y" ∷ []))))
-        (no_variant_of (codes "stop" ∷ codes "move" ∷ [])))))) };
+impl<'de> TaggedVariants<'de> for Command {
+    ghost name = { name "Command" };
 
-    ghost gives = { λ s. elim [
-      | command.Stop ↦ StructGives (codes "Command") (ReadByName
-          (TagThenBuffered (codes "kind") (codes "stop")
-          NoOthers)) s
-      | command.Move x1 x2 ↦ StructGives (codes "Command") (ReadByName
-          (TagThenBuffered (codes "kind") (codes "move")
-          (NamedThen (codes "x") (⟦<i32 as Deserialize<'de>>⟧.gives) x1
-          (NamedOrThen (codes "y") (λ (x : (Option ℤ)). x ≡ None)
-          (⟦<Option<i32> as Deserialize<'de>>⟧.gives) x2
-          NoOthers)))) s
+    ghost tag_name = { name "kind" };
+
+    ghost refusal = { variants (
+        (name "stop", (others_skipped (name "kind" ∷ [])))
+        ∷ (
+          name "move",
+          (named_then (name "x") (⟦<i32 as Deserialize<'de>>⟧.refusal)
+              (named_or_then (name "y") (⟦<Option<i32> as Deserialize<'de>>⟧.refusal)
+              (others_skipped (name "kind" ∷ name "x" ∷ name "y" ∷ [])))),
+        )
+        ∷ []) };
+
+    ghost named = { elim [
+      | command.Stop ↦ name "stop"
+      | command.Move x1 x2 ↦ name "move"
     ] };
 
+    ghost held = { elim [
+      | command.Stop ↦ NoOthers
+      | command.Move x1 x2 ↦ (NamedThen (name "x") (⟦<i32 as Deserialize<'de>>⟧.gives) x1
+          (NamedOrThen (name "y") (λ (x : (Option ℤ)). x ≡ None)
+          (⟦<Option<i32> as Deserialize<'de>>⟧.gives) x2
+          NoOthers))
+    ] };
+
+    #[tactic(auto, unfolding(serde_content::specs::Literals::name))]
+    fn name() -> &'static str {
+        "Command"
+    }
+
+    #[tactic(auto, unfolding(serde_content::specs::Literals::name))]
+    fn tag() -> &'static str {
+        "kind"
+    }
+
+    fn read_variant<'n: 'de>(
+        alloc: Global,
+        tag: &str,
+        fields: FieldsByName<'de, 'n>,
+    ) -> Result<Command> {
+        match variant_index(tag, &NamesOfCommand) {
+            Some(0) => {
+                skip_fields(alloc, fields, &[name_kind()])?;
+                Ok(Command::Stop)
+            }
+            Some(1) => {
+                let (x, y) = read_command_move(alloc, fields)?;
+                Ok(make_command_move(x, y))
+            }
+            _ => Err(no_such_variant(alloc, tag, &NamesOfCommand)),
+        }
+    }
+}
+
+impl<'de> Deserialize<'de> for Command {
+    ghost refusal = { struct_refusal (name "Command")
+        (read_by_name (tag_then_buffered (name "kind")
+        ⟦<Command as TaggedVariants<'de>>⟧.refusal)) };
+
+    ghost gives = { λ s y. StructGives (name "Command") (ReadByName
+        (TagThenBuffered (name "kind")
+        (⟦<Command as TaggedVariants<'de>>⟧.named y)
+        (⟦<Command as TaggedVariants<'de>>⟧.held y))) s };
+
     fn deserialize<'n: 'de>(alloc: Global, from: Deserializer<'de, 'n>) -> Result<Command> {
-        let fields = from
-            .deserialize_struct(alloc, "Command", &["kind"])?
-            .by_name();
-        read_command(alloc, fields)
+        read_tagged(alloc, from)
     }
 }
 
@@ -254,23 +307,23 @@ impl<'de> RoundTrip<'de> for Command {
         }
     }
 
-    ghost comes_back = { record {
+    ghost comes_back = { unfold name index_among in record {
       of_value = elim [
         | command.Stop ↦ λ real f. tagged_back Self.refusal Self.gives
-            (skipped_back {Y = Unit {0}} (codes "kind" ∷ []))
+            (skipped_back {Y = Unit {0}} (name "kind" ∷ []))
             f (buffering f) refl (λ fs. refl)
             (λ fs only. elim [
               | command.Stop ↦ λ it. refl
               | command.Move y1 y2 ↦ λ it. other_variant it.0 refl
             ])
         | command.Move x1 x2 ↦ λ real f. tagged_back Self.refusal Self.gives
-            (named_back (codes "x") i32_back x1 tt (λ (z : ℤ × (Option ℤ)). z.0)
-            (named_or_back (codes "y") (λ (x : (Option ℤ)). x ≡ None)
+            (named_back (name "x") i32_back x1 tt (λ (z : ℤ × (Option ℤ)). z.0)
+            (named_or_back (name "y") (λ (x : (Option ℤ)). x ≡ None)
             (let law : ComesBack (⟦<Option<i32> as RoundTrip<'de>>⟧.exists)
             (⟦<Option<i32> as Serialize>⟧.script) (⟦<Option<i32> as Deserialize<'de>>⟧.refusal)
             (⟦<Option<i32> as Deserialize<'de>>⟧.gives) (⟦<Option<i32> as PartialEq>⟧.eq) =
             (option_back i32_back) in law) x2 real (λ (z : ℤ × (Option ℤ)). z.1)
-            (skipped_back (codes "kind" ∷ codes "x" ∷ codes "y" ∷ []))))
+            (skipped_back (name "kind" ∷ name "x" ∷ name "y" ∷ []))))
             f (buffering f) refl (λ fs. refl)
             (λ fs only. elim [
               | command.Stop ↦ λ it. other_variant it.0 refl
@@ -283,32 +336,20 @@ impl<'de> RoundTrip<'de> for Command {
     ghost keeps = { record {
       of_origin = λ o people. elim [
         | command.Stop ↦ λ p.
-            let q = (struct_keeps (codes "Command") (by_name_keeps
-            (tag_keeps_buffered (codes "kind") (codes "stop")
-            (variant_or (codes "stop")
-            (others_skipped (codes "kind" ∷ []))
-            (variant_or (codes "move")
-            (named_then (codes "x") (⟦<i32 as Deserialize<'de>>⟧.refusal)
-            (named_or_then (codes "y") (⟦<Option<i32> as Deserialize<'de>>⟧.refusal)
-            (others_skipped (codes "kind" ∷ codes "x" ∷ codes "y" ∷ []))))
-            (no_variant_of (codes "stop" ∷ codes "move" ∷ []))))
+            let q = (struct_keeps (name "Command") (by_name_keeps
+            (tag_keeps_buffered (name "kind") (name "stop")
+            ⟦<Command as TaggedVariants<'de>>⟧.refusal
             (λ (z : Unit {0}).
             NoOthers)))).of_origin o people tt
             (record { free = p.free; given = p.given }) in
             record { free = q.free; given = q.given }
         | command.Move x1 x2 ↦ λ p.
-            let q = (struct_keeps (codes "Command") (by_name_keeps
-            (tag_keeps_buffered (codes "kind") (codes "move")
-            (variant_or (codes "stop")
-            (others_skipped (codes "kind" ∷ []))
-            (variant_or (codes "move")
-            (named_then (codes "x") (⟦<i32 as Deserialize<'de>>⟧.refusal)
-            (named_or_then (codes "y") (⟦<Option<i32> as Deserialize<'de>>⟧.refusal)
-            (others_skipped (codes "kind" ∷ codes "x" ∷ codes "y" ∷ []))))
-            (no_variant_of (codes "stop" ∷ codes "move" ∷ []))))
+            let q = (struct_keeps (name "Command") (by_name_keeps
+            (tag_keeps_buffered (name "kind") (name "move")
+            ⟦<Command as TaggedVariants<'de>>⟧.refusal
             (λ (z : ℤ × (Option ℤ)).
-            (NamedThen (codes "x") (⟦<i32 as Deserialize<'de>>⟧.gives) z.0
-            (NamedOrThen (codes "y") (λ (x : (Option ℤ)). x ≡ None)
+            (NamedThen (name "x") (⟦<i32 as Deserialize<'de>>⟧.gives) z.0
+            (NamedOrThen (name "y") (λ (x : (Option ℤ)). x ≡ None)
             (⟦<Option<i32> as Deserialize<'de>>⟧.gives) z.1
             NoOthers)))))).of_origin o people (x1, x2)
             (record { free = p.free; given = p.given }) in
@@ -318,24 +359,24 @@ impl<'de> RoundTrip<'de> for Command {
 }
 
 impl<'de> CborRoundTrip<'de> for Command {
-    ghost kept = { record {
+    ghost kept = { unfold name index_among in record {
       of_value = elim [
         | command.Stop ↦ λ real. tagged_kept Self.refusal Self.gives
-            (skipped_kept {Y = Unit {0}} (codes "kind" ∷ []))
+            (skipped_kept {Y = Unit {0}} (name "kind" ∷ []))
             (λ b. true) (λ b fs. refl)
             (λ b fs only. elim [
               | command.Stop ↦ λ it. refl
               | command.Move y1 y2 ↦ λ it. other_variant it.0 refl
             ])
         | command.Move x1 x2 ↦ λ real. tagged_kept Self.refusal Self.gives
-            (named_kept (codes "x") i32_kept x1 tt (λ (z : ℤ × (Option ℤ)). z.0)
-            (named_or_kept (codes "y") (λ (x : (Option ℤ)). x ≡ None)
+            (named_kept (name "x") i32_kept x1 tt (λ (z : ℤ × (Option ℤ)). z.0)
+            (named_or_kept (name "y") (λ (x : (Option ℤ)). x ≡ None)
             (let law : FormComesBack (⟦<Option<i32> as RoundTrip<'de>>⟧.exists)
             (⟦<Option<i32> as Serialize>⟧.script) (⟦<Option<i32> as Deserialize<'de>>⟧.refusal)
             (⟦<Option<i32> as Deserialize<'de>>⟧.gives) (⟦<Option<i32> as PartialEq>⟧.eq) =
             (option_kept (number_not_null kind.i32) i32_kept) in law) x2 real
             (λ (z : ℤ × (Option ℤ)). z.1)
-            (skipped_kept (codes "kind" ∷ codes "x" ∷ codes "y" ∷ []))))
+            (skipped_kept (name "kind" ∷ name "x" ∷ name "y" ∷ []))))
             (λ b. true) (λ b fs. refl)
             (λ b fs only. elim [
               | command.Stop ↦ λ it. other_variant it.0 refl
@@ -469,7 +510,7 @@ impl<'de> Deserialize<'de> for Setting {
 impl<'de> RoundTrip<'de> for Setting {
     fn known(&self) {}
 
-    ghost comes_back = { record {
+    ghost comes_back = { unfold name index_among in record {
       of_value = elim [
         | setting.Flag x1 ↦ λ real f. such_seen (λ t one. record {
           free = first_taken _ _ one.free;
@@ -539,7 +580,7 @@ impl<'de> RoundTrip<'de> for Setting {
 }
 
 impl<'de> CborRoundTrip<'de> for Setting {
-    ghost kept = { record {
+    ghost kept = { unfold name index_among in record {
       of_value = elim [
         | setting.Flag x1 ↦ λ real. such_seen (λ t one fits b. record {
           free = first_taken _ _ (one fits true).free;
@@ -835,7 +876,7 @@ impl<'de> Deserialize<'de> for Color {
 impl<'de> RoundTrip<'de> for Color {
     fn known(&self) {}
 
-    ghost comes_back = { record {
+    ghost comes_back = { unfold name index_among in record {
       of_value = elim [
         | color.Rgb x1 x2 x3 ↦ λ real f. such_seen (λ t one. record {
           free = first_taken _ _ one.free;
@@ -883,7 +924,7 @@ impl<'de> RoundTrip<'de> for Color {
 }
 
 impl<'de> CborRoundTrip<'de> for Color {
-    ghost kept = { record {
+    ghost kept = { unfold name index_among in record {
       of_value = elim [
         | color.Rgb x1 x2 x3 ↦ λ real. such_seen (λ t one fits b. record {
           free = first_taken _ _ (one fits true).free;
@@ -927,4 +968,52 @@ impl<'de> CborRoundTrip<'de> for Color {
 
 impl<'de> NotNull<'de> for Color {
     ghost refuses_null = { record { of_null = λ b e. absurd (cc e) } };
+}
+
+/// The name `Command`.
+#[tactic(auto, unfolding(serde_content::specs::Literals::name))]
+fn name_command() -> &'static str
+    ensures { result.now ≡ name "Command" }
+{
+    "Command"
+}
+
+/// The name `kind`.
+#[tactic(auto, unfolding(serde_content::specs::Literals::name))]
+fn name_kind() -> &'static str
+    ensures { result.now ≡ name "kind" }
+{
+    "kind"
+}
+
+/// The name `move`.
+#[tactic(auto, unfolding(serde_content::specs::Literals::name))]
+fn name_move() -> &'static str
+    ensures { result.now ≡ name "move" }
+{
+    "move"
+}
+
+/// The name `x`.
+#[tactic(auto, unfolding(serde_content::specs::Literals::name))]
+fn name_x() -> &'static str
+    ensures { result.now ≡ name "x" }
+{
+    "x"
+}
+
+/// The name `y`.
+#[tactic(auto, unfolding(serde_content::specs::Literals::name))]
+fn name_y() -> &'static str
+    ensures { result.now ≡ name "y" }
+{
+    "y"
+}
+
+/// The name `stop`.
+#[tactic(auto, unfolding(serde_content::specs::Literals::name))]
+fn name_stop() -> &'static str
+    ensures { result.now ≡ name "stop" }
+{
+    "stop"
 }

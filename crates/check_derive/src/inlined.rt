@@ -2,7 +2,7 @@
 //!
 //! Written by `tools/derive` from `inlined.rs`: change that file, and write this one anew.
 
-ghost use Rattle.std.specs.Prelude.{◌≡◌, ◌∷◌, [], ℤ, Option, None, true, codes, string_bytes, refl};
+ghost use Rattle.std.specs.Prelude.{◌≡◌, ◌∷◌, [], ℤ, Option, None, true, string_bytes, refl};
 ghost use Rattle.content_ser.specs.Scripts.Sends.{Sends};
 ghost use Rattle.content_ser.specs.Scripts.Own.{field_first, end_script, struct_script};
 ghost use Rattle.content_ser.specs.Laws.StandardScripts.{leaf_lawful, option_lawful};
@@ -17,8 +17,9 @@ ghost use Rattle.content_de.specs.Reads.ByName.{read_by_name, named_then, named_
 ghost use Rattle.content_de.specs.Reads.ByName.{others_skipped, ReadByName, NamedThen, NamedOrThen};
 ghost use Rattle.content_de.specs.Reads.ByName.{NoOthers};
 ghost use Rattle.content_de.specs.Reads.Tagged.{tag_then_buffered, TagThenBuffered};
-ghost use Rattle.content_de.specs.Reads.Own.{variant_or, no_variant_of, struct_refusal};
-ghost use Rattle.content_de.specs.Reads.Own.{StructGives};
+ghost use Rattle.content_de.specs.Reads.Own.{struct_refusal, StructGives};
+ghost use Rattle.serde_content.specs.Literals.{name};
+ghost use Rattle.serde_content.specs.Variants.{index_among, variants};
 ghost use Rattle.serde_content.specs.RoundTrip.{ComesBack, CoercionKeeps};
 ghost use Rattle.serde_content.specs.Laws.Leaves.{heedless_keeps, natural_keeps, integer_keeps};
 ghost use Rattle.serde_content.specs.Laws.Leaves.{text_back, u64_back, i32_back};
@@ -51,7 +52,8 @@ ghost use Rattle.check_derive.specs.declared.inlined.Change.TheVariants as chang
 
 use content_cbor::{CborRoundTrip, NotNull};
 use serde_content::de::{
-    Deserialize, FieldsByName, internal_tag, read_four, read_two, unknown_variant,
+    Deserialize, FieldsByName, Names, TaggedVariants, no_such_variant, read_four_of, read_tagged,
+    read_two_of, variant_index,
 };
 use serde_content::ser::{Call, Serialize, Serializer, send_eight, send_three, send_two};
 use serde_content::{Deserializer, Result, RoundTrip};
@@ -66,37 +68,48 @@ pub struct Amount {
     pub unit: Option<String>,
 }
 
+/// The names of its fields.
+struct FieldsOfAmount;
+
+impl Names for FieldsOfAmount {
+    ghost names = { name "count" ∷ name "unit" ∷ [] };
+
+    #[tactic(auto, unfolding(serde_content::specs::Literals::name))]
+    fn names() -> &'static [&'static str] {
+        &["count", "unit"]
+    }
+}
+
 /// Fields, wherever they stand.
 fn read_amount<'de, 'n: 'de>(alloc: Global, fields: FieldsByName<'de, 'n>) -> Result<Amount>
     ensures { Reads (
-        (named_then (codes "count") (⟦<i32 as Deserialize<'de>>⟧.refusal)
-        (named_or_then (codes "unit") (⟦<Option<String> as Deserialize<'de>>⟧.refusal)
-        (others_skipped (codes "count" ∷ codes "unit" ∷ []))))
+        (named_then (name "count") (⟦<i32 as Deserialize<'de>>⟧.refusal)
+        (named_or_then (name "unit") (⟦<Option<String> as Deserialize<'de>>⟧.refusal)
+        (others_skipped (name "count" ∷ name "unit" ∷ []))))
         (fields_left fields.entry))
         (λ z.
-        (NamedThen (codes "count") (⟦<i32 as Deserialize<'de>>⟧.gives) z.count
-        (NamedOrThen (codes "unit") (λ (x : (Option (String Global))). x ≡ None)
+        (NamedThen (name "count") (⟦<i32 as Deserialize<'de>>⟧.gives) z.count
+        (NamedOrThen (name "unit") (λ (x : (Option (String Global))). x ≡ None)
         (⟦<Option<String> as Deserialize<'de>>⟧.gives) z.unit
         NoOthers))
         (fields_left fields.entry)) result }
 {
-    let (count, unit) = read_two(
+    let (count, unit) = read_two_of(
         alloc,
         fields,
-        "count",
+        &FieldsOfAmount,
         None,
-        "unit",
         Some(None),
-        &["count", "unit"],
+        &FieldsOfAmount,
         false,
     )?;
     Ok(Amount { count, unit })
 }
 
 impl Serialize for Amount {
-    ghost script = { λ p. struct_script (codes "Amount") 2
-        (field_first (codes "count") (⟦<i32 as Serialize>⟧.script p.count)
-        (field_first (codes "unit") (⟦<Option<String> as Serialize>⟧.script p.unit)
+    ghost script = { λ p. struct_script (name "Amount") 2
+        (field_first (name "count") (⟦<i32 as Serialize>⟧.script p.count)
+        (field_first (name "unit") (⟦<Option<String> as Serialize>⟧.script p.unit)
         end_script)) };
 
     ghost lawful = { λ p readable. struct_lawful
@@ -108,30 +121,30 @@ impl Serialize for Amount {
         send_two(
             alloc,
             serializer,
-            Call::Struct("Amount", 2),
-            Call::Field("count"),
+            Call::Struct(name_amount(), 2),
+            Call::Field(name_count()),
             &self.count,
-            Call::Field("unit"),
+            Call::Field(name_unit()),
             &self.unit,
         )
     }
 }
 
 impl<'de> Deserialize<'de> for Amount {
-    ghost refusal = { struct_refusal (codes "Amount") (read_by_name
-        (named_then (codes "count") (⟦<i32 as Deserialize<'de>>⟧.refusal)
-        (named_or_then (codes "unit") (⟦<Option<String> as Deserialize<'de>>⟧.refusal)
-        (others_skipped (codes "count" ∷ codes "unit" ∷ []))))) };
+    ghost refusal = { struct_refusal (name "Amount") (read_by_name
+        (named_then (name "count") (⟦<i32 as Deserialize<'de>>⟧.refusal)
+        (named_or_then (name "unit") (⟦<Option<String> as Deserialize<'de>>⟧.refusal)
+        (others_skipped (name "count" ∷ name "unit" ∷ []))))) };
 
-    ghost gives = { λ s p. StructGives (codes "Amount") (ReadByName
-        (NamedThen (codes "count") (⟦<i32 as Deserialize<'de>>⟧.gives) p.count
-        (NamedOrThen (codes "unit") (λ (x : (Option (String Global))). x ≡ None)
+    ghost gives = { λ s p. StructGives (name "Amount") (ReadByName
+        (NamedThen (name "count") (⟦<i32 as Deserialize<'de>>⟧.gives) p.count
+        (NamedOrThen (name "unit") (λ (x : (Option (String Global))). x ≡ None)
         (⟦<Option<String> as Deserialize<'de>>⟧.gives) p.unit
         NoOthers))) s };
 
     fn deserialize<'n: 'de>(alloc: Global, from: Deserializer<'de, 'n>) -> Result<Amount> {
         let fields = from
-            .deserialize_struct(alloc, "Amount", &["count", "unit"])?
+            .deserialize_struct(alloc, name_amount(), FieldsOfAmount::names())?
             .by_name();
         read_amount(alloc, fields)
     }
@@ -146,40 +159,40 @@ impl<'de> RoundTrip<'de> for Amount {
 
     ghost comes_back = { record {
       of_value = λ p real f. struct_back (by_name_back
-          (named_back (codes "count") i32_back p.count tt (λ q. q.count)
-          (named_or_back (codes "unit") (λ (x : (Option (String Global))). x ≡ None)
+          (named_back (name "count") i32_back p.count tt (λ q. q.count)
+          (named_or_back (name "unit") (λ (x : (Option (String Global))). x ≡ None)
           (let law : ComesBack (⟦<Option<String> as RoundTrip<'de>>⟧.exists)
           (⟦<Option<String> as Serialize>⟧.script)
           (⟦<Option<String> as Deserialize<'de>>⟧.refusal)
           (⟦<Option<String> as Deserialize<'de>>⟧.gives) (⟦<Option<String> as PartialEq>⟧.eq)
           = (option_back text_back) in law) p.unit real (λ q. q.unit)
-          (skipped_back (codes "count" ∷ codes "unit" ∷ [])))))
+          (skipped_back (name "count" ∷ name "unit" ∷ [])))))
           f (λ q h. both_hold h.0 h.1.0);
     } };
 
-    ghost keeps = { struct_keeps (codes "Amount") (by_name_keeps
-        (named_keeps (codes "count") (λ q. q.count) (integer_keeps kind.i32)
-        (named_or_keeps (codes "unit") (λ (x : (Option (String Global))). x ≡ None)
+    ghost keeps = { struct_keeps (name "Amount") (by_name_keeps
+        (named_keeps (name "count") (λ q. q.count) (integer_keeps kind.i32)
+        (named_or_keeps (name "unit") (λ (x : (Option (String Global))). x ≡ None)
         (λ q. q.unit) (let law : CoercionKeeps
         (⟦<Option<String> as Deserialize<'de>>⟧.refusal)
         (⟦<Option<String> as Deserialize<'de>>⟧.gives) =
         (option_keeps (heedless_keeps (λ o. refusal_of (text_from o))
         (λ o (x : String Global). IsTaken (text_from o) (HasContent (string_bytes x))))) in
         law)
-        (skipped_keeps (codes "count" ∷ codes "unit" ∷ []))))) };
+        (skipped_keeps (name "count" ∷ name "unit" ∷ []))))) };
 }
 
 impl<'de> CborRoundTrip<'de> for Amount {
     ghost kept = { record {
       of_value = λ p real. struct_kept (by_name_kept
-          (named_kept (codes "count") i32_kept p.count tt (λ q. q.count)
-          (named_or_kept (codes "unit") (λ (x : (Option (String Global))). x ≡ None)
+          (named_kept (name "count") i32_kept p.count tt (λ q. q.count)
+          (named_or_kept (name "unit") (λ (x : (Option (String Global))). x ≡ None)
           (let law : FormComesBack (⟦<Option<String> as RoundTrip<'de>>⟧.exists)
           (⟦<Option<String> as Serialize>⟧.script)
           (⟦<Option<String> as Deserialize<'de>>⟧.refusal)
           (⟦<Option<String> as Deserialize<'de>>⟧.gives) (⟦<Option<String> as PartialEq>⟧.eq)
           = (option_kept text_not_null text_kept) in law) p.unit real (λ q. q.unit)
-          (skipped_kept (codes "count" ∷ codes "unit" ∷ [])))))
+          (skipped_kept (name "count" ∷ name "unit" ∷ [])))))
           (λ q h. both_hold h.0 h.1.0);
     } };
 }
@@ -210,10 +223,10 @@ fn send_line<S: Serializer, T1: Serialize, T2: Serialize, T3: Serialize, T4: Ser
 ) -> Result<()>
     ensures { Sends S.step S.refuses (S.seen serializer.old)
         (flattened_script
-        (flattened_first (codes "goods") (T1.script x1.now)
-        (flattened_first (codes "count") (T2.script x2.now)
-        (flattened_first (codes "unit") (T3.script x3.now)
-        (flattened_first (codes "price") (T4.script x4.now)
+        (flattened_first (name "goods") (T1.script x1.now)
+        (flattened_first (name "count") (T2.script x2.now)
+        (flattened_first (name "unit") (T3.script x3.now)
+        (flattened_first (name "price") (T4.script x4.now)
         end_script)))))
         result (S.seen serializer.new) }
 {
@@ -222,55 +235,63 @@ fn send_line<S: Serializer, T1: Serialize, T2: Serialize, T3: Serialize, T4: Ser
         serializer,
         Call::Map(None),
         Call::Key,
-        &"goods",
+        &name_goods(),
         Call::Value,
         x1,
         Call::Key,
-        &"count",
+        &name_count(),
         Call::Value,
         x2,
         Call::Key,
-        &"unit",
+        &name_unit(),
         Call::Value,
         x3,
         Call::Key,
-        &"price",
+        &name_price(),
         Call::Value,
         x4,
     )
 }
 
+/// The names of its fields.
+struct FieldsOfLine;
+
+impl Names for FieldsOfLine {
+    ghost names = { name "goods" ∷ name "count" ∷ name "unit" ∷ name "price" ∷ [] };
+
+    #[tactic(auto, unfolding(serde_content::specs::Literals::name))]
+    fn names() -> &'static [&'static str] {
+        &["goods", "count", "unit", "price"]
+    }
+}
+
 /// Fields, wherever they stand.
 fn read_line<'de, 'n: 'de>(alloc: Global, fields: FieldsByName<'de, 'n>) -> Result<Line>
     ensures { Reads (
-        (named_then (codes "goods") (⟦<String as Deserialize<'de>>⟧.refusal)
-        (named_then (codes "count") (⟦<i32 as Deserialize<'de>>⟧.refusal)
-        (named_or_then (codes "unit") (⟦<Option<String> as Deserialize<'de>>⟧.refusal)
-        (named_then (codes "price") (⟦<u64 as Deserialize<'de>>⟧.refusal)
-        (others_skipped (codes "goods" ∷ codes "count" ∷ codes "unit" ∷ codes "price" ∷
-        []))))))
+        (named_then (name "goods") (⟦<String as Deserialize<'de>>⟧.refusal)
+        (named_then (name "count") (⟦<i32 as Deserialize<'de>>⟧.refusal)
+        (named_or_then (name "unit") (⟦<Option<String> as Deserialize<'de>>⟧.refusal)
+        (named_then (name "price") (⟦<u64 as Deserialize<'de>>⟧.refusal)
+        (others_skipped (name "goods" ∷ name "count" ∷ name "unit" ∷ name "price" ∷ []))))))
         (fields_left fields.entry))
         (λ z.
-        (NamedThen (codes "goods") (⟦<String as Deserialize<'de>>⟧.gives) z.goods
-        (NamedThen (codes "count") (⟦<i32 as Deserialize<'de>>⟧.gives) z.amount.count
-        (NamedOrThen (codes "unit") (λ (x : (Option (String Global))). x ≡ None)
+        (NamedThen (name "goods") (⟦<String as Deserialize<'de>>⟧.gives) z.goods
+        (NamedThen (name "count") (⟦<i32 as Deserialize<'de>>⟧.gives) z.amount.count
+        (NamedOrThen (name "unit") (λ (x : (Option (String Global))). x ≡ None)
         (⟦<Option<String> as Deserialize<'de>>⟧.gives) z.amount.unit
-        (NamedThen (codes "price") (⟦<u64 as Deserialize<'de>>⟧.gives) z.price
+        (NamedThen (name "price") (⟦<u64 as Deserialize<'de>>⟧.gives) z.price
         NoOthers))))
         (fields_left fields.entry)) result }
 {
-    let (goods, amount_count, amount_unit, price) = read_four(
+    let (goods, amount_count, amount_unit, price) = read_four_of(
         alloc,
         fields,
-        "goods",
+        &FieldsOfLine,
         None,
-        "count",
         None,
-        "unit",
         Some(None),
-        "price",
         None,
-        &["goods", "count", "unit", "price"],
+        &FieldsOfLine,
         false,
     )?;
     Ok(Line {
@@ -285,11 +306,11 @@ fn read_line<'de, 'n: 'de>(alloc: Global, fields: FieldsByName<'de, 'n>) -> Resu
 
 impl Serialize for Line {
     ghost script = { λ p. flattened_script
-        (flattened_first (codes "goods") (⟦<String as Serialize>⟧.script p.goods)
-        (flattened_first (codes "count") (⟦<i32 as Serialize>⟧.script p.amount.count)
-        (flattened_first (codes "unit")
+        (flattened_first (name "goods") (⟦<String as Serialize>⟧.script p.goods)
+        (flattened_first (name "count") (⟦<i32 as Serialize>⟧.script p.amount.count)
+        (flattened_first (name "unit")
         (⟦<Option<String> as Serialize>⟧.script p.amount.unit)
-        (flattened_first (codes "price") (⟦<u64 as Serialize>⟧.script p.price)
+        (flattened_first (name "price") (⟦<u64 as Serialize>⟧.script p.price)
         end_script)))) };
 
     ghost lawful = { λ p readable. flattened_lawful
@@ -313,19 +334,19 @@ impl Serialize for Line {
 
 impl<'de> Deserialize<'de> for Line {
     ghost refusal = { flattened_refusal (read_by_name
-        (named_then (codes "goods") (⟦<String as Deserialize<'de>>⟧.refusal)
-        (named_then (codes "count") (⟦<i32 as Deserialize<'de>>⟧.refusal)
-        (named_or_then (codes "unit") (⟦<Option<String> as Deserialize<'de>>⟧.refusal)
-        (named_then (codes "price") (⟦<u64 as Deserialize<'de>>⟧.refusal)
-        (others_skipped (codes "goods" ∷ codes "count" ∷ codes "unit" ∷ codes "price" ∷
+        (named_then (name "goods") (⟦<String as Deserialize<'de>>⟧.refusal)
+        (named_then (name "count") (⟦<i32 as Deserialize<'de>>⟧.refusal)
+        (named_or_then (name "unit") (⟦<Option<String> as Deserialize<'de>>⟧.refusal)
+        (named_then (name "price") (⟦<u64 as Deserialize<'de>>⟧.refusal)
+        (others_skipped (name "goods" ∷ name "count" ∷ name "unit" ∷ name "price" ∷
         []))))))) };
 
     ghost gives = { λ s p. FlattenedGives (ReadByName
-        (NamedThen (codes "goods") (⟦<String as Deserialize<'de>>⟧.gives) p.goods
-        (NamedThen (codes "count") (⟦<i32 as Deserialize<'de>>⟧.gives) p.amount.count
-        (NamedOrThen (codes "unit") (λ (x : (Option (String Global))). x ≡ None)
+        (NamedThen (name "goods") (⟦<String as Deserialize<'de>>⟧.gives) p.goods
+        (NamedThen (name "count") (⟦<i32 as Deserialize<'de>>⟧.gives) p.amount.count
+        (NamedOrThen (name "unit") (λ (x : (Option (String Global))). x ≡ None)
         (⟦<Option<String> as Deserialize<'de>>⟧.gives) p.amount.unit
-        (NamedThen (codes "price") (⟦<u64 as Deserialize<'de>>⟧.gives) p.price
+        (NamedThen (name "price") (⟦<u64 as Deserialize<'de>>⟧.gives) p.price
         NoOthers))))) s };
 
     fn deserialize<'n: 'de>(alloc: Global, from: Deserializer<'de, 'n>) -> Result<Line> {
@@ -343,53 +364,52 @@ impl<'de> RoundTrip<'de> for Line {
 
     ghost comes_back = { record {
       of_value = λ p real f. flattened_back
-          (flattened_named_back (codes "goods") text_back p.goods tt (λ q. q.goods)
-          (flattened_named_back (codes "count") i32_back p.amount.count tt
+          (flattened_named_back (name "goods") text_back p.goods tt (λ q. q.goods)
+          (flattened_named_back (name "count") i32_back p.amount.count tt
           (λ q. q.amount.count)
-          (flattened_named_or_back (codes "unit") (λ (x : (Option (String Global))). x ≡ None)
+          (flattened_named_or_back (name "unit") (λ (x : (Option (String Global))). x ≡ None)
           (let law : ComesBack (⟦<Option<String> as RoundTrip<'de>>⟧.exists)
           (⟦<Option<String> as Serialize>⟧.script)
           (⟦<Option<String> as Deserialize<'de>>⟧.refusal)
           (⟦<Option<String> as Deserialize<'de>>⟧.gives) (⟦<Option<String> as PartialEq>⟧.eq)
           = (option_back text_back) in law) p.amount.unit real (λ q. q.amount.unit)
-          (flattened_named_back (codes "price") u64_back p.price tt (λ q. q.price)
-          (flattened_end_back (codes "goods" ∷ codes "count" ∷ codes "unit" ∷ codes "price" ∷
+          (flattened_named_back (name "price") u64_back p.price tt (λ q. q.price)
+          (flattened_end_back (name "goods" ∷ name "count" ∷ name "unit" ∷ name "price" ∷
           []))))))
           f (λ q h. both_hold h.0 (both_hold (both_hold h.1.0 h.1.1.0) h.1.1.1.0));
     } };
 
     ghost keeps = { flattened_keeps (by_name_keeps
-        (named_keeps (codes "goods") (λ q. q.goods)
+        (named_keeps (name "goods") (λ q. q.goods)
         (heedless_keeps (λ o. refusal_of (text_from o))
         (λ o (x : String Global). IsTaken (text_from o) (HasContent (string_bytes x))))
-        (named_keeps (codes "count") (λ q. q.amount.count) (integer_keeps kind.i32)
-        (named_or_keeps (codes "unit") (λ (x : (Option (String Global))). x ≡ None)
+        (named_keeps (name "count") (λ q. q.amount.count) (integer_keeps kind.i32)
+        (named_or_keeps (name "unit") (λ (x : (Option (String Global))). x ≡ None)
         (λ q. q.amount.unit) (let law : CoercionKeeps
         (⟦<Option<String> as Deserialize<'de>>⟧.refusal)
         (⟦<Option<String> as Deserialize<'de>>⟧.gives) =
         (option_keeps (heedless_keeps (λ o. refusal_of (text_from o))
         (λ o (x : String Global). IsTaken (text_from o) (HasContent (string_bytes x))))) in
         law)
-        (named_keeps (codes "price") (λ q. q.price) (natural_keeps kind.u64)
-        (skipped_keeps (codes "goods" ∷ codes "count" ∷ codes "unit" ∷ codes "price" ∷
-        []))))))) };
+        (named_keeps (name "price") (λ q. q.price) (natural_keeps kind.u64)
+        (skipped_keeps (name "goods" ∷ name "count" ∷ name "unit" ∷ name "price" ∷ []))))))) };
 }
 
 impl<'de> CborRoundTrip<'de> for Line {
     ghost kept = { record {
       of_value = λ p real. flattened_kept
-          (flattened_named_kept (codes "goods") text_kept p.goods tt (λ q. q.goods)
-          (flattened_named_kept (codes "count") i32_kept p.amount.count tt
+          (flattened_named_kept (name "goods") text_kept p.goods tt (λ q. q.goods)
+          (flattened_named_kept (name "count") i32_kept p.amount.count tt
           (λ q. q.amount.count)
-          (flattened_named_or_kept (codes "unit") (λ (x : (Option (String Global))). x ≡ None)
+          (flattened_named_or_kept (name "unit") (λ (x : (Option (String Global))). x ≡ None)
           (let law : FormComesBack (⟦<Option<String> as RoundTrip<'de>>⟧.exists)
           (⟦<Option<String> as Serialize>⟧.script)
           (⟦<Option<String> as Deserialize<'de>>⟧.refusal)
           (⟦<Option<String> as Deserialize<'de>>⟧.gives) (⟦<Option<String> as PartialEq>⟧.eq)
           = (option_kept text_not_null text_kept) in law) p.amount.unit real
           (λ q. q.amount.unit)
-          (flattened_named_kept (codes "price") u64_kept p.price tt (λ q. q.price)
-          (flattened_end_kept (codes "goods" ∷ codes "count" ∷ codes "unit" ∷ codes "price" ∷
+          (flattened_named_kept (name "price") u64_kept p.price tt (λ q. q.price)
+          (flattened_end_kept (name "goods" ∷ name "count" ∷ name "unit" ∷ name "price" ∷
           []))))))
           (λ q h. both_hold h.0 (both_hold (both_hold h.1.0 h.1.1.0) h.1.1.1.0));
     } };
@@ -414,84 +434,92 @@ fn send_change_add<S: Serializer, T1: Serialize, T2: Serialize>(
     x2: &T2,
 ) -> Result<()>
     ensures { Sends S.step S.refuses (S.seen serializer.old)
-        (tagged_script (codes "Amount") 3 (codes "op") (codes "add")
-        (field_first (codes "count") (T1.script x1.now)
-        (field_first (codes "unit") (T2.script x2.now)
+        (tagged_script (name "Amount") 3 (name "op") (name "add")
+        (field_first (name "count") (T1.script x1.now)
+        (field_first (name "unit") (T2.script x2.now)
         end_script)))
         result (S.seen serializer.new) }
 {
     send_three(
         alloc,
         serializer,
-        Call::Struct("Amount", 3),
-        Call::Field("op"),
-        &"add",
-        Call::Field("count"),
+        Call::Struct(name_amount(), 3),
+        Call::Field(name_op()),
+        &name_add(),
+        Call::Field(name_count()),
         x1,
-        Call::Field("unit"),
+        Call::Field(name_unit()),
         x2,
     )
+}
+
+/// The names of its fields.
+struct FieldsOfChangeAdd;
+
+impl Names for FieldsOfChangeAdd {
+    ghost names = { name "op" ∷ name "count" ∷ name "unit" ∷ [] };
+
+    #[tactic(auto, unfolding(serde_content::specs::Literals::name))]
+    fn names() -> &'static [&'static str] {
+        &["op", "count", "unit"]
+    }
+}
+
+/// Those that are read together.
+struct FieldsOfChangeAdd1To2;
+
+impl Names for FieldsOfChangeAdd1To2 {
+    ghost names = { name "count" ∷ name "unit" ∷ [] };
+
+    #[tactic(auto, unfolding(serde_content::specs::Literals::name))]
+    fn names() -> &'static [&'static str] {
+        &["count", "unit"]
+    }
 }
 
 /// Fields, wherever they stand.
 fn read_change_add<'de, 'n: 'de>(alloc: Global, fields: FieldsByName<'de, 'n>) -> Result<Amount>
     ensures { Reads (
-        (named_then (codes "count") (⟦<i32 as Deserialize<'de>>⟧.refusal)
-        (named_or_then (codes "unit") (⟦<Option<String> as Deserialize<'de>>⟧.refusal)
-        (others_skipped (codes "op" ∷ codes "count" ∷ codes "unit" ∷ []))))
+        (named_then (name "count") (⟦<i32 as Deserialize<'de>>⟧.refusal)
+        (named_or_then (name "unit") (⟦<Option<String> as Deserialize<'de>>⟧.refusal)
+        (others_skipped (name "op" ∷ name "count" ∷ name "unit" ∷ []))))
         (fields_left fields.entry))
         (λ z.
-        (NamedThen (codes "count") (⟦<i32 as Deserialize<'de>>⟧.gives) z.count
-        (NamedOrThen (codes "unit") (λ (x : (Option (String Global))). x ≡ None)
+        (NamedThen (name "count") (⟦<i32 as Deserialize<'de>>⟧.gives) z.count
+        (NamedOrThen (name "unit") (λ (x : (Option (String Global))). x ≡ None)
         (⟦<Option<String> as Deserialize<'de>>⟧.gives) z.unit
         NoOthers))
         (fields_left fields.entry)) result }
 {
-    let (count, unit) = read_two(
+    let (count, unit) = read_two_of(
         alloc,
         fields,
-        "count",
+        &FieldsOfChangeAdd1To2,
         None,
-        "unit",
         Some(None),
-        &["op", "count", "unit"],
+        &FieldsOfChangeAdd,
         false,
     )?;
     Ok(Amount { count, unit })
 }
 
-/// The variant that its tag names.
-fn read_change<'de, 'n: 'de>(alloc: Global, mut fields: FieldsByName<'de, 'n>) -> Result<Change>
-    ensures { Reads (tag_then_buffered (codes "op")
-        (variant_or (codes "add")
-        (named_then (codes "count") (⟦<i32 as Deserialize<'de>>⟧.refusal)
-        (named_or_then (codes "unit") (⟦<Option<String> as Deserialize<'de>>⟧.refusal)
-        (others_skipped (codes "op" ∷ codes "count" ∷ codes "unit" ∷ []))))
-        (no_variant_of (codes "add" ∷ [])))
-        (fields_left fields.entry))
-        (elim [
-          | change.Add x1 ↦ TagThenBuffered (codes "op") (codes "add")
-              (NamedThen (codes "count") (⟦<i32 as Deserialize<'de>>⟧.gives) x1.count
-              (NamedOrThen (codes "unit") (λ (x : (Option (String Global))). x ≡ None)
-              (⟦<Option<String> as Deserialize<'de>>⟧.gives) x1.unit
-              NoOthers)) (fields_left fields.entry)
-        ]) result }
-{
-    let tag = internal_tag(alloc, &mut fields, "op")?;
-    match tag.as_str() {
-        "add" => {
-            let x1 = read_change_add(alloc, fields)?;
-            Ok(Change::Add(x1))
-        }
-        tag => Err(unknown_variant(alloc, tag, &["add"])),
+/// The names of its variants.
+struct NamesOfChange;
+
+impl Names for NamesOfChange {
+    ghost names = { name "add" ∷ [] };
+
+    #[tactic(auto, unfolding(serde_content::specs::Literals::name))]
+    fn names() -> &'static [&'static str] {
+        &["add"]
     }
 }
 
 impl Serialize for Change {
     ghost script = { elim [
-      | change.Add x1 ↦ tagged_script (codes "Amount") 3 (codes "op") (codes "add")
-          (field_first (codes "count") (⟦<i32 as Serialize>⟧.script x1.count)
-          (field_first (codes "unit") (⟦<Option<String> as Serialize>⟧.script x1.unit)
+      | change.Add x1 ↦ tagged_script (name "Amount") 3 (name "op") (name "add")
+          (field_first (name "count") (⟦<i32 as Serialize>⟧.script x1.count)
+          (field_first (name "unit") (⟦<Option<String> as Serialize>⟧.script x1.unit)
           end_script))
     ] };
 
@@ -510,27 +538,68 @@ impl Serialize for Change {
     }
 }
 
-impl<'de> Deserialize<'de> for Change {
-    ghost refusal = { struct_refusal (codes "Change")
-        (read_by_name (tag_then_buffered (codes "op")
-        (variant_or (codes "add")
-        (named_then (codes "count") (⟦<i32 as Deserialize<'de>>⟧.refusal)
-        (named_or_then (codes "unit") (⟦<Option<String> as Deserialize<'de>>⟧.refusal)
-        (others_skipped (codes "op" ∷ codes "count" ∷ codes "unit" ∷ []))))
-        (no_variant_of (codes "add" ∷ []))))) };
+impl<'de> TaggedVariants<'de> for Change {
+    ghost name = { name "Change" };
 
-    ghost gives = { λ s. elim [
-      | change.Add x1 ↦ StructGives (codes "Change") (ReadByName
-          (TagThenBuffered (codes "op") (codes "add")
-          (NamedThen (codes "count") (⟦<i32 as Deserialize<'de>>⟧.gives) x1.count
-          (NamedOrThen (codes "unit") (λ (x : (Option (String Global))). x ≡ None)
-          (⟦<Option<String> as Deserialize<'de>>⟧.gives) x1.unit
-          NoOthers)))) s
+    ghost tag_name = { name "op" };
+
+    ghost refusal = { variants ((
+      name "add",
+      (named_then (name "count") (⟦<i32 as Deserialize<'de>>⟧.refusal)
+          (named_or_then (name "unit") (⟦<Option<String> as Deserialize<'de>>⟧.refusal)
+          (others_skipped (name "op" ∷ name "count" ∷ name "unit" ∷ [])))),
+    )
+        ∷ []) };
+
+    ghost named = { elim [
+      | change.Add x1 ↦ name "add"
     ] };
 
+    ghost held = { elim [
+      | change.Add x1 ↦ (NamedThen (name "count") (⟦<i32 as Deserialize<'de>>⟧.gives)
+          x1.count
+          (NamedOrThen (name "unit") (λ (x : (Option (String Global))). x ≡ None)
+          (⟦<Option<String> as Deserialize<'de>>⟧.gives) x1.unit
+          NoOthers))
+    ] };
+
+    #[tactic(auto, unfolding(serde_content::specs::Literals::name))]
+    fn name() -> &'static str {
+        "Change"
+    }
+
+    #[tactic(auto, unfolding(serde_content::specs::Literals::name))]
+    fn tag() -> &'static str {
+        "op"
+    }
+
+    fn read_variant<'n: 'de>(
+        alloc: Global,
+        tag: &str,
+        fields: FieldsByName<'de, 'n>,
+    ) -> Result<Change> {
+        match variant_index(tag, &NamesOfChange) {
+            Some(0) => {
+                let x1 = read_change_add(alloc, fields)?;
+                Ok(Change::Add(x1))
+            }
+            _ => Err(no_such_variant(alloc, tag, &NamesOfChange)),
+        }
+    }
+}
+
+impl<'de> Deserialize<'de> for Change {
+    ghost refusal = { struct_refusal (name "Change")
+        (read_by_name (tag_then_buffered (name "op")
+        ⟦<Change as TaggedVariants<'de>>⟧.refusal)) };
+
+    ghost gives = { λ s y. StructGives (name "Change") (ReadByName
+        (TagThenBuffered (name "op")
+        (⟦<Change as TaggedVariants<'de>>⟧.named y)
+        (⟦<Change as TaggedVariants<'de>>⟧.held y))) s };
+
     fn deserialize<'n: 'de>(alloc: Global, from: Deserializer<'de, 'n>) -> Result<Change> {
-        let fields = from.deserialize_struct(alloc, "Change", &["op"])?.by_name();
-        read_change(alloc, fields)
+        read_tagged(alloc, from)
     }
 }
 
@@ -547,19 +616,19 @@ impl<'de> RoundTrip<'de> for Change {
         }
     }
 
-    ghost comes_back = { record {
+    ghost comes_back = { unfold name index_among in record {
       of_value = elim [
         | change.Add x1 ↦ λ real f. tagged_back Self.refusal Self.gives
-            (named_back (codes "count") i32_back x1.count tt
+            (named_back (name "count") i32_back x1.count tt
             (λ (z : ℤ × (Option (String Global))). z.0)
-            (named_or_back (codes "unit") (λ (x : (Option (String Global))). x ≡ None)
+            (named_or_back (name "unit") (λ (x : (Option (String Global))). x ≡ None)
             (let law : ComesBack (⟦<Option<String> as RoundTrip<'de>>⟧.exists)
             (⟦<Option<String> as Serialize>⟧.script)
             (⟦<Option<String> as Deserialize<'de>>⟧.refusal)
             (⟦<Option<String> as Deserialize<'de>>⟧.gives) (⟦<Option<String> as PartialEq>⟧.eq)
             = (option_back text_back) in law) x1.unit real
             (λ (z : ℤ × (Option (String Global))). z.1)
-            (skipped_back (codes "op" ∷ codes "count" ∷ codes "unit" ∷ []))))
+            (skipped_back (name "op" ∷ name "count" ∷ name "unit" ∷ []))))
             f (buffering f) refl (λ fs. refl)
             (λ fs only. elim [
               | change.Add y1 ↦ λ it. let same = only (y1.count, y1.unit) it.1 in both_hold same.0
@@ -571,16 +640,12 @@ impl<'de> RoundTrip<'de> for Change {
     ghost keeps = { record {
       of_origin = λ o people. elim [
         | change.Add x1 ↦ λ p.
-            let q = (struct_keeps (codes "Change") (by_name_keeps
-            (tag_keeps_buffered (codes "op") (codes "add")
-            (variant_or (codes "add")
-            (named_then (codes "count") (⟦<i32 as Deserialize<'de>>⟧.refusal)
-            (named_or_then (codes "unit") (⟦<Option<String> as Deserialize<'de>>⟧.refusal)
-            (others_skipped (codes "op" ∷ codes "count" ∷ codes "unit" ∷ []))))
-            (no_variant_of (codes "add" ∷ [])))
+            let q = (struct_keeps (name "Change") (by_name_keeps
+            (tag_keeps_buffered (name "op") (name "add")
+            ⟦<Change as TaggedVariants<'de>>⟧.refusal
             (λ (z : ℤ × (Option (String Global))).
-            (NamedThen (codes "count") (⟦<i32 as Deserialize<'de>>⟧.gives) z.0
-            (NamedOrThen (codes "unit") (λ (x : (Option (String Global))). x ≡ None)
+            (NamedThen (name "count") (⟦<i32 as Deserialize<'de>>⟧.gives) z.0
+            (NamedOrThen (name "unit") (λ (x : (Option (String Global))). x ≡ None)
             (⟦<Option<String> as Deserialize<'de>>⟧.gives) z.1
             NoOthers)))))).of_origin o people (x1.count, x1.unit)
             (record { free = p.free; given = p.given }) in
@@ -590,19 +655,19 @@ impl<'de> RoundTrip<'de> for Change {
 }
 
 impl<'de> CborRoundTrip<'de> for Change {
-    ghost kept = { record {
+    ghost kept = { unfold name index_among in record {
       of_value = elim [
         | change.Add x1 ↦ λ real. tagged_kept Self.refusal Self.gives
-            (named_kept (codes "count") i32_kept x1.count tt
+            (named_kept (name "count") i32_kept x1.count tt
             (λ (z : ℤ × (Option (String Global))). z.0)
-            (named_or_kept (codes "unit") (λ (x : (Option (String Global))). x ≡ None)
+            (named_or_kept (name "unit") (λ (x : (Option (String Global))). x ≡ None)
             (let law : FormComesBack (⟦<Option<String> as RoundTrip<'de>>⟧.exists)
             (⟦<Option<String> as Serialize>⟧.script)
             (⟦<Option<String> as Deserialize<'de>>⟧.refusal)
             (⟦<Option<String> as Deserialize<'de>>⟧.gives) (⟦<Option<String> as PartialEq>⟧.eq)
             = (option_kept text_not_null text_kept) in law) x1.unit real
             (λ (z : ℤ × (Option (String Global))). z.1)
-            (skipped_kept (codes "op" ∷ codes "count" ∷ codes "unit" ∷ []))))
+            (skipped_kept (name "op" ∷ name "count" ∷ name "unit" ∷ []))))
             (λ b. true) (λ b fs. refl)
             (λ b fs only. elim [
               | change.Add y1 ↦ λ it. let same = only (y1.count, y1.unit) it.1 in both_hold same.0
@@ -614,4 +679,60 @@ impl<'de> CborRoundTrip<'de> for Change {
 
 impl<'de> NotNull<'de> for Change {
     ghost refuses_null = { record { of_null = λ b e. absurd (cc e) } };
+}
+
+/// The name `Amount`.
+#[tactic(auto, unfolding(serde_content::specs::Literals::name))]
+fn name_amount() -> &'static str
+    ensures { result.now ≡ name "Amount" }
+{
+    "Amount"
+}
+
+/// The name `count`.
+#[tactic(auto, unfolding(serde_content::specs::Literals::name))]
+fn name_count() -> &'static str
+    ensures { result.now ≡ name "count" }
+{
+    "count"
+}
+
+/// The name `unit`.
+#[tactic(auto, unfolding(serde_content::specs::Literals::name))]
+fn name_unit() -> &'static str
+    ensures { result.now ≡ name "unit" }
+{
+    "unit"
+}
+
+/// The name `goods`.
+#[tactic(auto, unfolding(serde_content::specs::Literals::name))]
+fn name_goods() -> &'static str
+    ensures { result.now ≡ name "goods" }
+{
+    "goods"
+}
+
+/// The name `price`.
+#[tactic(auto, unfolding(serde_content::specs::Literals::name))]
+fn name_price() -> &'static str
+    ensures { result.now ≡ name "price" }
+{
+    "price"
+}
+
+/// The name `op`.
+#[tactic(auto, unfolding(serde_content::specs::Literals::name))]
+fn name_op() -> &'static str
+    ensures { result.now ≡ name "op" }
+{
+    "op"
+}
+
+/// The name `add`.
+#[tactic(auto, unfolding(serde_content::specs::Literals::name))]
+fn name_add() -> &'static str
+    ensures { result.now ≡ name "add" }
+{
+    "add"
 }

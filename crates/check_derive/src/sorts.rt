@@ -2,7 +2,7 @@
 //!
 //! Written by `tools/derive` from `sorts.rs`: change that file, and write this one anew.
 
-ghost use Rattle.std.specs.Prelude.{◌≡◌, ◌∷◌, [], Bool, Option, codes, string_bytes, refl, ⊤};
+ghost use Rattle.std.specs.Prelude.{◌≡◌, ◌∷◌, [], Bool, Option, string_bytes, refl, ⊤};
 ghost use Rattle.content_tree.specs.Values.Text.{static_name};
 ghost use Rattle.content_ser.specs.Scripts.Own.{field_first, tuple_field_first, end_script};
 ghost use Rattle.content_ser.specs.Scripts.Own.{unit_struct_script, newtype_struct_script};
@@ -21,10 +21,11 @@ ghost use Rattle.content_de.specs.Reads.Read.{Reads};
 ghost use Rattle.content_de.specs.Reads.ByName.{read_by_name, named_then, others_skipped};
 ghost use Rattle.content_de.specs.Reads.ByName.{ReadByName, NamedThen, NoOthers};
 ghost use Rattle.content_de.specs.Reads.Tagged.{tag_then, TagThen};
-ghost use Rattle.content_de.specs.Reads.Own.{variant_or, no_variant_of, unit_struct_refusal};
-ghost use Rattle.content_de.specs.Reads.Own.{newtype_struct_refusal, NewtypeStructGives};
-ghost use Rattle.content_de.specs.Reads.Own.{tuple_struct_refusal, TupleStructGives};
-ghost use Rattle.content_de.specs.Reads.Own.{struct_refusal, StructGives};
+ghost use Rattle.content_de.specs.Reads.Own.{unit_struct_refusal, newtype_struct_refusal};
+ghost use Rattle.content_de.specs.Reads.Own.{NewtypeStructGives, tuple_struct_refusal};
+ghost use Rattle.content_de.specs.Reads.Own.{TupleStructGives, struct_refusal, StructGives};
+ghost use Rattle.serde_content.specs.Literals.{name};
+ghost use Rattle.serde_content.specs.Variants.{index_among, variants};
 ghost use Rattle.serde_content.specs.RoundTrip.{ComesBack, CoercionKeeps};
 ghost use Rattle.serde_content.specs.Laws.Leaves.{heedless_keeps, natural_keeps, integer_keeps};
 ghost use Rattle.serde_content.specs.Laws.Leaves.{bool_back, text_back, u8_back, i32_back};
@@ -59,7 +60,8 @@ ghost use Rattle.check_derive.specs.declared.sorts.Message.TheVariants as messag
 use crate::types::Place;
 use content_cbor::{CborRoundTrip, NotNull};
 use serde_content::de::{
-    Deserialize, FieldsByName, read_one, skip_fields, tag_field, two_parts, unknown_variant,
+    Deserialize, FieldsByName, Names, TaggedVariants, no_such_variant, read_adjacent, read_one_of,
+    skip_fields, two_parts, variant_index,
 };
 use serde_content::ser::{Call, Parts, Serialize, Serializer, send_one, send_two};
 use serde_content::{Deserializer, Result, RoundTrip};
@@ -71,22 +73,22 @@ use std::collections::BTreeMap;
 pub struct Marker;
 
 impl Serialize for Marker {
-    ghost script = { λ p. unit_struct_script (codes "Marker") };
+    ghost script = { λ p. unit_struct_script (name "Marker") };
 
     ghost lawful = { λ p readable. unit_struct_lawful };
 
     fn serialize<S: Serializer>(&self, _alloc: Global, serializer: &mut S) -> Result<()> {
-        Call::UnitStruct("Marker").send(serializer)
+        Call::UnitStruct(name_marker()).send(serializer)
     }
 }
 
 impl<'de> Deserialize<'de> for Marker {
-    ghost refusal = { unit_struct_refusal (codes "Marker") };
+    ghost refusal = { unit_struct_refusal (name "Marker") };
 
     ghost gives = { λ s p. ⊤ };
 
     fn deserialize<'n: 'de>(alloc: Global, from: Deserializer<'de, 'n>) -> Result<Marker> {
-        from.deserialize_unit_struct(alloc, "Marker")?;
+        from.deserialize_unit_struct(alloc, name_marker())?;
         Ok(Marker)
     }
 }
@@ -96,7 +98,7 @@ impl<'de> RoundTrip<'de> for Marker {
 
     ghost comes_back = { record {
       of_value = λ p real f. leaf_such
-          (tree.structure (static_name (codes "Marker")) tree.no_data) refl
+          (tree.structure (static_name (name "Marker")) tree.no_data) refl
           (record { free = refl; only = λ q h. refl });
     } };
 
@@ -108,25 +110,25 @@ impl<'de> RoundTrip<'de> for Marker {
 pub struct Code(pub u8);
 
 impl Serialize for Code {
-    ghost script = { λ p. newtype_struct_script (codes "Code")
+    ghost script = { λ p. newtype_struct_script (name "Code")
         (⟦<u8 as Serialize>⟧.script p.0) };
 
     ghost lawful = { λ p readable. newtype_struct_lawful (leaf_lawful refl) };
 
     fn serialize<S: Serializer>(&self, alloc: Global, serializer: &mut S) -> Result<()> {
-        Call::NewtypeStruct("Code").around(&self.0, alloc, serializer)
+        Call::NewtypeStruct(name_code()).around(&self.0, alloc, serializer)
     }
 }
 
 impl<'de> Deserialize<'de> for Code {
-    ghost refusal = { newtype_struct_refusal (codes "Code")
+    ghost refusal = { newtype_struct_refusal (name "Code")
         (⟦<u8 as Deserialize<'de>>⟧.refusal) };
 
-    ghost gives = { λ s p. NewtypeStructGives (codes "Code")
+    ghost gives = { λ s p. NewtypeStructGives (name "Code")
         (⟦<u8 as Deserialize<'de>>⟧.gives) p.0 s };
 
     fn deserialize<'n: 'de>(alloc: Global, from: Deserializer<'de, 'n>) -> Result<Code> {
-        let inside = from.deserialize_newtype_struct(alloc, "Code")?;
+        let inside = from.deserialize_newtype_struct(alloc, name_code())?;
         Ok(Code(inside.deserialize(alloc)?))
     }
 }
@@ -139,7 +141,7 @@ impl<'de> RoundTrip<'de> for Code {
     } };
 
     ghost keeps = { seen_keeps (λ q. q.0)
-        (newtype_struct_keeps (codes "Code") (natural_keeps kind.u8)) };
+        (newtype_struct_keeps (name "Code") (natural_keeps kind.u8)) };
 }
 
 impl<'de> CborRoundTrip<'de> for Code {
@@ -160,7 +162,7 @@ pub struct Stop(pub i32, pub Option<Place>);
 impl Serialize for Stop {
     ghost use Rattle.check_derive.specs.contracts.types.PlaceSerialize.TheImpl.Laws as place_serialize;
 
-    ghost script = { λ p. tuple_struct_script (codes "Stop") 2
+    ghost script = { λ p. tuple_struct_script (name "Stop") 2
         (tuple_field_first (⟦<i32 as Serialize>⟧.script p.0)
         (tuple_field_first (⟦<Option<Place> as Serialize>⟧.script p.1)
         end_script)) };
@@ -175,7 +177,7 @@ impl Serialize for Stop {
         send_two(
             alloc,
             serializer,
-            Call::TupleStruct("Stop", 2),
+            Call::TupleStruct(name_stop(), 2),
             Call::TupleField,
             &self.0,
             Call::TupleField,
@@ -185,18 +187,18 @@ impl Serialize for Stop {
 }
 
 impl<'de> Deserialize<'de> for Stop {
-    ghost refusal = { tuple_struct_refusal (codes "Stop")
+    ghost refusal = { tuple_struct_refusal (name "Stop")
         (part_then 2 0 (⟦<i32 as Deserialize<'de>>⟧.refusal)
         (part_then 2 1 (⟦<Option<Place> as Deserialize<'de>>⟧.refusal)
         (end_of_parts 2))) };
 
-    ghost gives = { λ s p. TupleStructGives (codes "Stop")
+    ghost gives = { λ s p. TupleStructGives (name "Stop")
         (PartThen (⟦<i32 as Deserialize<'de>>⟧.gives) p.0
         (PartThen (⟦<Option<Place> as Deserialize<'de>>⟧.gives) p.1
         NoPart)) s };
 
     fn deserialize<'n: 'de>(alloc: Global, from: Deserializer<'de, 'n>) -> Result<Stop> {
-        let parts = from.deserialize_tuple_struct(alloc, "Stop", 2)?;
+        let parts = from.deserialize_tuple_struct(alloc, name_stop(), 2)?;
         let (x1, x2) = two_parts(alloc, parts)?;
         Ok(Stop(x1, x2))
     }
@@ -223,7 +225,7 @@ impl<'de> RoundTrip<'de> for Stop {
           f (λ q h. both_hold h.0 h.1.0);
     } };
 
-    ghost keeps = { tuple_struct_keeps (codes "Stop")
+    ghost keeps = { tuple_struct_keeps (name "Stop")
         (part_keeps (λ q. q.0) 2 0 (integer_keeps kind.i32)
         (part_keeps (λ q. q.1) 2 1 (let law : CoercionKeeps
         (⟦<Option<Place> as Deserialize<'de>>⟧.refusal)
@@ -261,7 +263,7 @@ pub struct Ledger(pub BTreeMap<Code, bool>);
 impl Serialize for Ledger {
     ghost use Rattle.check_derive.specs.contracts.sorts.CodeSerialize.TheImpl.Laws as code_serialize;
 
-    ghost script = { λ p. newtype_struct_script (codes "Ledger")
+    ghost script = { λ p. newtype_struct_script (name "Ledger")
         (⟦<BTreeMap<Code, bool> as Serialize>⟧.script p.0) };
 
     ghost lawful = { λ p readable. newtype_struct_lawful
@@ -269,19 +271,19 @@ impl Serialize for Ledger {
         p.0.entries readable) };
 
     fn serialize<S: Serializer>(&self, alloc: Global, serializer: &mut S) -> Result<()> {
-        Call::NewtypeStruct("Ledger").around(&self.0, alloc, serializer)
+        Call::NewtypeStruct(name_ledger()).around(&self.0, alloc, serializer)
     }
 }
 
 impl<'de> Deserialize<'de> for Ledger {
-    ghost refusal = { newtype_struct_refusal (codes "Ledger")
+    ghost refusal = { newtype_struct_refusal (name "Ledger")
         (⟦<BTreeMap<Code, bool> as Deserialize<'de>>⟧.refusal) };
 
-    ghost gives = { λ s p. NewtypeStructGives (codes "Ledger")
+    ghost gives = { λ s p. NewtypeStructGives (name "Ledger")
         (⟦<BTreeMap<Code, bool> as Deserialize<'de>>⟧.gives) p.0 s };
 
     fn deserialize<'n: 'de>(alloc: Global, from: Deserializer<'de, 'n>) -> Result<Ledger> {
-        let inside = from.deserialize_newtype_struct(alloc, "Ledger")?;
+        let inside = from.deserialize_newtype_struct(alloc, name_ledger())?;
         Ok(Ledger(inside.deserialize(alloc)?))
     }
 }
@@ -308,7 +310,7 @@ impl<'de> RoundTrip<'de> for Ledger {
     } };
 
     ghost keeps = { seen_keeps (λ q. q.0)
-        (newtype_struct_keeps (codes "Ledger")
+        (newtype_struct_keeps (name "Ledger")
         (let law : CoercionKeeps (⟦<BTreeMap<Code, bool> as Deserialize<'de>>⟧.refusal)
         (⟦<BTreeMap<Code, bool> as Deserialize<'de>>⟧.gives) =
         (seen_keeps (λ m. m.entries) (map_keeps (⟦<Code as Ord>⟧.cmp)
@@ -346,58 +348,81 @@ pub enum Message {
     Text(String),
 }
 
+/// The names of its fields.
+struct FieldsOfMessagePing;
+
+impl Names for FieldsOfMessagePing {
+    ghost names = { name "t" ∷ [] };
+
+    #[tactic(auto, unfolding(serde_content::specs::Literals::name))]
+    fn names() -> &'static [&'static str] {
+        &["t"]
+    }
+}
+
+/// The names of its fields.
+struct FieldsOfMessageText;
+
+impl Names for FieldsOfMessageText {
+    ghost names = { name "t" ∷ name "c" ∷ [] };
+
+    #[tactic(auto, unfolding(serde_content::specs::Literals::name))]
+    fn names() -> &'static [&'static str] {
+        &["t", "c"]
+    }
+}
+
+/// Those that are read together.
+struct FieldsOfMessageText1To1;
+
+impl Names for FieldsOfMessageText1To1 {
+    ghost names = { name "c" ∷ [] };
+
+    #[tactic(auto, unfolding(serde_content::specs::Literals::name))]
+    fn names() -> &'static [&'static str] {
+        &["c"]
+    }
+}
+
 /// Fields, wherever they stand.
 fn read_message_text<'de, 'n: 'de>(alloc: Global, fields: FieldsByName<'de, 'n>) -> Result<String>
     ensures { Reads (
-        (named_then (codes "c") (⟦<String as Deserialize<'de>>⟧.refusal)
-        (others_skipped (codes "t" ∷ codes "c" ∷ [])))
+        (named_then (name "c") (⟦<String as Deserialize<'de>>⟧.refusal)
+        (others_skipped (name "t" ∷ name "c" ∷ [])))
         (fields_left fields.entry))
         (λ z.
-        (NamedThen (codes "c") (⟦<String as Deserialize<'de>>⟧.gives) z
+        (NamedThen (name "c") (⟦<String as Deserialize<'de>>⟧.gives) z
         NoOthers)
         (fields_left fields.entry)) result }
 {
-    read_one(alloc, fields, "c", None, &["t", "c"], false)
+    read_one_of(
+        alloc,
+        fields,
+        &FieldsOfMessageText1To1,
+        None,
+        &FieldsOfMessageText,
+        false,
+    )
 }
 
-/// The variant that its tag names.
-fn read_message<'de, 'n: 'de>(alloc: Global, mut fields: FieldsByName<'de, 'n>) -> Result<Message>
-    ensures { Reads (tag_then (codes "t")
-        (variant_or (codes "Ping")
-        (others_skipped (codes "t" ∷ []))
-        (variant_or (codes "Text")
-        (named_then (codes "c") (⟦<String as Deserialize<'de>>⟧.refusal)
-        (others_skipped (codes "t" ∷ codes "c" ∷ [])))
-        (no_variant_of (codes "Ping" ∷ codes "Text" ∷ []))))
-        (fields_left fields.entry))
-        (elim [
-          | message.Ping ↦ TagThen (codes "t") (codes "Ping")
-              NoOthers (fields_left fields.entry)
-          | message.Text x1 ↦ TagThen (codes "t") (codes "Text")
-              (NamedThen (codes "c") (⟦<String as Deserialize<'de>>⟧.gives) x1
-              NoOthers) (fields_left fields.entry)
-        ]) result }
-{
-    let tag = tag_field(alloc, &mut fields, "t")?;
-    match tag.as_str() {
-        "Ping" => {
-            skip_fields(alloc, fields, &["t"])?;
-            Ok(Message::Ping)
-        }
-        "Text" => {
-            let x1 = read_message_text(alloc, fields)?;
-            Ok(Message::Text(x1))
-        }
-        tag => Err(unknown_variant(alloc, tag, &["Ping", "Text"])),
+/// The names of its variants.
+struct NamesOfMessage;
+
+impl Names for NamesOfMessage {
+    ghost names = { name "Ping" ∷ name "Text" ∷ [] };
+
+    #[tactic(auto, unfolding(serde_content::specs::Literals::name))]
+    fn names() -> &'static [&'static str] {
+        &["Ping", "Text"]
     }
 }
 
 impl Serialize for Message {
     ghost script = { elim [
-      | message.Ping ↦ tagged_script (codes "Message") 1 (codes "t") (codes "Ping")
+      | message.Ping ↦ tagged_script (name "Message") 1 (name "t") (name "Ping")
           end_script
-      | message.Text x1 ↦ tagged_script (codes "Message") 2 (codes "t") (codes "Text")
-          (field_first (codes "c") (⟦<String as Serialize>⟧.script x1)
+      | message.Text x1 ↦ tagged_script (name "Message") 2 (name "t") (name "Text")
+          (field_first (name "c") (⟦<String as Serialize>⟧.script x1)
           end_script)
     ] };
 
@@ -417,19 +442,19 @@ impl Serialize for Message {
                 send_one(
                     alloc,
                     serializer,
-                    Call::Struct("Message", 1),
-                    Call::Field("t"),
-                    &"Ping",
+                    Call::Struct(name_message(), 1),
+                    Call::Field(name_t()),
+                    &name_ping(),
                 )
             }
             Message::Text(x1) => {
                 send_two(
                     alloc,
                     serializer,
-                    Call::Struct("Message", 2),
-                    Call::Field("t"),
-                    &"Text",
-                    Call::Field("c"),
+                    Call::Struct(name_message(), 2),
+                    Call::Field(name_t()),
+                    &name_text(),
+                    Call::Field(name_c()),
                     x1,
                 )
             }
@@ -437,47 +462,89 @@ impl Serialize for Message {
     }
 }
 
-impl<'de> Deserialize<'de> for Message {
-    ghost refusal = { struct_refusal (codes "Message")
-        (read_by_name (tag_then (codes "t")
-        (variant_or (codes "Ping")
-        (others_skipped (codes "t" ∷ []))
-        (variant_or (codes "Text")
-        (named_then (codes "c") (⟦<String as Deserialize<'de>>⟧.refusal)
-        (others_skipped (codes "t" ∷ codes "c" ∷ [])))
-        (no_variant_of (codes "Ping" ∷ codes "Text" ∷ [])))))) };
+impl<'de> TaggedVariants<'de> for Message {
+    ghost name = { name "Message" };
 
-    ghost gives = { λ s. elim [
-      | message.Ping ↦ StructGives (codes "Message") (ReadByName
-          (TagThen (codes "t") (codes "Ping")
-          NoOthers)) s
-      | message.Text x1 ↦ StructGives (codes "Message") (ReadByName
-          (TagThen (codes "t") (codes "Text")
-          (NamedThen (codes "c") (⟦<String as Deserialize<'de>>⟧.gives) x1
-          NoOthers))) s
+    ghost tag_name = { name "t" };
+
+    ghost refusal = { variants (
+        (name "Ping", (others_skipped (name "t" ∷ [])))
+        ∷ (
+          name "Text",
+          (named_then (name "c") (⟦<String as Deserialize<'de>>⟧.refusal)
+              (others_skipped (name "t" ∷ name "c" ∷ []))),
+        )
+        ∷ []) };
+
+    ghost named = { elim [
+      | message.Ping ↦ name "Ping"
+      | message.Text x1 ↦ name "Text"
     ] };
 
+    ghost held = { elim [
+      | message.Ping ↦ NoOthers
+      | message.Text x1 ↦ (NamedThen (name "c") (⟦<String as Deserialize<'de>>⟧.gives) x1
+          NoOthers)
+    ] };
+
+    #[tactic(auto, unfolding(serde_content::specs::Literals::name))]
+    fn name() -> &'static str {
+        "Message"
+    }
+
+    #[tactic(auto, unfolding(serde_content::specs::Literals::name))]
+    fn tag() -> &'static str {
+        "t"
+    }
+
+    fn read_variant<'n: 'de>(
+        alloc: Global,
+        tag: &str,
+        fields: FieldsByName<'de, 'n>,
+    ) -> Result<Message> {
+        match variant_index(tag, &NamesOfMessage) {
+            Some(0) => {
+                skip_fields(alloc, fields, &[name_t()])?;
+                Ok(Message::Ping)
+            }
+            Some(1) => {
+                let x1 = read_message_text(alloc, fields)?;
+                Ok(Message::Text(x1))
+            }
+            _ => Err(no_such_variant(alloc, tag, &NamesOfMessage)),
+        }
+    }
+}
+
+impl<'de> Deserialize<'de> for Message {
+    ghost refusal = { struct_refusal (name "Message") (read_by_name (tag_then (name "t")
+        ⟦<Message as TaggedVariants<'de>>⟧.refusal)) };
+
+    ghost gives = { λ s y. StructGives (name "Message") (ReadByName
+        (TagThen (name "t")
+        (⟦<Message as TaggedVariants<'de>>⟧.named y)
+        (⟦<Message as TaggedVariants<'de>>⟧.held y))) s };
+
     fn deserialize<'n: 'de>(alloc: Global, from: Deserializer<'de, 'n>) -> Result<Message> {
-        let fields = from.deserialize_struct(alloc, "Message", &["t"])?.by_name();
-        read_message(alloc, fields)
+        read_adjacent(alloc, from)
     }
 }
 
 impl<'de> RoundTrip<'de> for Message {
     fn known(&self) {}
 
-    ghost comes_back = { record {
+    ghost comes_back = { unfold name index_among in record {
       of_value = elim [
         | message.Ping ↦ λ real f. tagged_back Self.refusal Self.gives
-            (skipped_back {Y = Unit {0}} (codes "t" ∷ []))
+            (skipped_back {Y = Unit {0}} (name "t" ∷ []))
             f f refl (λ fs. refl)
             (λ fs only. elim [
               | message.Ping ↦ λ it. refl
               | message.Text y1 ↦ λ it. other_variant it.0 refl
             ])
         | message.Text x1 ↦ λ real f. tagged_back Self.refusal Self.gives
-            (named_back (codes "c") text_back x1 tt (λ (z : (String Global)). z)
-            (skipped_back (codes "t" ∷ codes "c" ∷ [])))
+            (named_back (name "c") text_back x1 tt (λ (z : (String Global)). z)
+            (skipped_back (name "t" ∷ name "c" ∷ [])))
             f f refl (λ fs. refl)
             (λ fs only. elim [
               | message.Ping ↦ λ it. other_variant it.0 refl
@@ -489,30 +556,20 @@ impl<'de> RoundTrip<'de> for Message {
     ghost keeps = { record {
       of_origin = λ o people. elim [
         | message.Ping ↦ λ p.
-            let q = (struct_keeps (codes "Message") (by_name_keeps
-            (tag_keeps (codes "t") (codes "Ping")
-            (variant_or (codes "Ping")
-            (others_skipped (codes "t" ∷ []))
-            (variant_or (codes "Text")
-            (named_then (codes "c") (⟦<String as Deserialize<'de>>⟧.refusal)
-            (others_skipped (codes "t" ∷ codes "c" ∷ [])))
-            (no_variant_of (codes "Ping" ∷ codes "Text" ∷ [])))) (λ f. refl)
-            (skipped_keeps {Y = Unit {0}} (codes "t" ∷ []))))).of_origin o people tt
+            let q = (struct_keeps (name "Message") (by_name_keeps
+            (tag_keeps (name "t") (name "Ping") ⟦<Message as TaggedVariants<'de>>⟧.refusal
+            (λ f. refl)
+            (skipped_keeps {Y = Unit {0}} (name "t" ∷ []))))).of_origin o people tt
             (record { free = p.free; given = p.given }) in
             record { free = q.free; given = q.given }
         | message.Text x1 ↦ λ p.
-            let q = (struct_keeps (codes "Message") (by_name_keeps
-            (tag_keeps (codes "t") (codes "Text")
-            (variant_or (codes "Ping")
-            (others_skipped (codes "t" ∷ []))
-            (variant_or (codes "Text")
-            (named_then (codes "c") (⟦<String as Deserialize<'de>>⟧.refusal)
-            (others_skipped (codes "t" ∷ codes "c" ∷ [])))
-            (no_variant_of (codes "Ping" ∷ codes "Text" ∷ [])))) (λ f. refl)
-            (named_keeps (codes "c") (λ (z : (String Global)). z)
+            let q = (struct_keeps (name "Message") (by_name_keeps
+            (tag_keeps (name "t") (name "Text") ⟦<Message as TaggedVariants<'de>>⟧.refusal
+            (λ f. refl)
+            (named_keeps (name "c") (λ (z : (String Global)). z)
             (heedless_keeps (λ o. refusal_of (text_from o))
             (λ o (x : String Global). IsTaken (text_from o) (HasContent (string_bytes x))))
-            (skipped_keeps (codes "t" ∷ codes "c" ∷ [])))))).of_origin o people x1
+            (skipped_keeps (name "t" ∷ name "c" ∷ [])))))).of_origin o people x1
             (record { free = p.free; given = p.given }) in
             record { free = q.free; given = q.given }
       ];
@@ -520,18 +577,18 @@ impl<'de> RoundTrip<'de> for Message {
 }
 
 impl<'de> CborRoundTrip<'de> for Message {
-    ghost kept = { record {
+    ghost kept = { unfold name index_among in record {
       of_value = elim [
         | message.Ping ↦ λ real. tagged_kept Self.refusal Self.gives
-            (skipped_kept {Y = Unit {0}} (codes "t" ∷ []))
+            (skipped_kept {Y = Unit {0}} (name "t" ∷ []))
             (λ b. b) (λ b fs. refl)
             (λ b fs only. elim [
               | message.Ping ↦ λ it. refl
               | message.Text y1 ↦ λ it. other_variant it.0 refl
             ])
         | message.Text x1 ↦ λ real. tagged_kept Self.refusal Self.gives
-            (named_kept (codes "c") text_kept x1 tt (λ (z : (String Global)). z)
-            (skipped_kept (codes "t" ∷ codes "c" ∷ [])))
+            (named_kept (name "c") text_kept x1 tt (λ (z : (String Global)). z)
+            (skipped_kept (name "t" ∷ name "c" ∷ [])))
             (λ b. b) (λ b fs. refl)
             (λ b fs only. elim [
               | message.Ping ↦ λ it. other_variant it.0 refl
@@ -543,4 +600,76 @@ impl<'de> CborRoundTrip<'de> for Message {
 
 impl<'de> NotNull<'de> for Message {
     ghost refuses_null = { record { of_null = λ b e. absurd (cc e) } };
+}
+
+/// The name `Marker`.
+#[tactic(auto, unfolding(serde_content::specs::Literals::name))]
+fn name_marker() -> &'static str
+    ensures { result.now ≡ name "Marker" }
+{
+    "Marker"
+}
+
+/// The name `Code`.
+#[tactic(auto, unfolding(serde_content::specs::Literals::name))]
+fn name_code() -> &'static str
+    ensures { result.now ≡ name "Code" }
+{
+    "Code"
+}
+
+/// The name `Stop`.
+#[tactic(auto, unfolding(serde_content::specs::Literals::name))]
+fn name_stop() -> &'static str
+    ensures { result.now ≡ name "Stop" }
+{
+    "Stop"
+}
+
+/// The name `Ledger`.
+#[tactic(auto, unfolding(serde_content::specs::Literals::name))]
+fn name_ledger() -> &'static str
+    ensures { result.now ≡ name "Ledger" }
+{
+    "Ledger"
+}
+
+/// The name `Message`.
+#[tactic(auto, unfolding(serde_content::specs::Literals::name))]
+fn name_message() -> &'static str
+    ensures { result.now ≡ name "Message" }
+{
+    "Message"
+}
+
+/// The name `t`.
+#[tactic(auto, unfolding(serde_content::specs::Literals::name))]
+fn name_t() -> &'static str
+    ensures { result.now ≡ name "t" }
+{
+    "t"
+}
+
+/// The name `Ping`.
+#[tactic(auto, unfolding(serde_content::specs::Literals::name))]
+fn name_ping() -> &'static str
+    ensures { result.now ≡ name "Ping" }
+{
+    "Ping"
+}
+
+/// The name `Text`.
+#[tactic(auto, unfolding(serde_content::specs::Literals::name))]
+fn name_text() -> &'static str
+    ensures { result.now ≡ name "Text" }
+{
+    "Text"
+}
+
+/// The name `c`.
+#[tactic(auto, unfolding(serde_content::specs::Literals::name))]
+fn name_c() -> &'static str
+    ensures { result.now ≡ name "c" }
+{
+    "c"
 }

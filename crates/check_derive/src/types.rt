@@ -2,7 +2,7 @@
 //!
 //! Written by `tools/derive` from `types.rs`: change that file, and write this one anew.
 
-ghost use Rattle.std.specs.Prelude.{◌≡◌, ◌∷◌, [], ℕ, ℤ, Option, None, codes, string_bytes, refl, ⊤};
+ghost use Rattle.std.specs.Prelude.{◌≡◌, ◌∷◌, [], ℕ, ℤ, Option, None, string_bytes, refl, ⊤};
 ghost use Rattle.std.specs.Cmp.Lexicographic.{texts_ties};
 ghost use Rattle.std.specs.String.{string_cmp_total};
 ghost use Rattle.content_ser.specs.Scripts.Sends.{Sends};
@@ -26,12 +26,13 @@ ghost use Rattle.content_de.specs.Reads.Read.{Reads};
 ghost use Rattle.content_de.specs.Reads.ByName.{read_by_name, named_then, named_or_then};
 ghost use Rattle.content_de.specs.Reads.ByName.{others_skipped, no_others, ReadByName, NamedThen};
 ghost use Rattle.content_de.specs.Reads.ByName.{NamedOrThen, NoOthers};
-ghost use Rattle.content_de.specs.Reads.Own.{enum_refusal, variant_or, no_variant_of, EnumGives};
-ghost use Rattle.content_de.specs.Reads.Own.{unit_variant_refusal, UnitVariantGives};
-ghost use Rattle.content_de.specs.Reads.Own.{newtype_variant_refusal, NewtypeVariantGives};
-ghost use Rattle.content_de.specs.Reads.Own.{tuple_variant_refusal, TupleVariantGives};
-ghost use Rattle.content_de.specs.Reads.Own.{struct_refusal, StructGives, struct_variant_refusal};
-ghost use Rattle.content_de.specs.Reads.Own.{StructVariantGives};
+ghost use Rattle.content_de.specs.Reads.Own.{enum_refusal, EnumGives, unit_variant_refusal};
+ghost use Rattle.content_de.specs.Reads.Own.{UnitVariantGives, newtype_variant_refusal};
+ghost use Rattle.content_de.specs.Reads.Own.{NewtypeVariantGives, tuple_variant_refusal};
+ghost use Rattle.content_de.specs.Reads.Own.{TupleVariantGives, struct_refusal, StructGives};
+ghost use Rattle.content_de.specs.Reads.Own.{struct_variant_refusal, StructVariantGives};
+ghost use Rattle.serde_content.specs.Literals.{name};
+ghost use Rattle.serde_content.specs.Variants.{index_among, variants};
 ghost use Rattle.serde_content.specs.RoundTrip.{ComesBack, CoercionKeeps};
 ghost use Rattle.serde_content.specs.Laws.Leaves.{heedless_keeps, natural_keeps, integer_keeps};
 ghost use Rattle.serde_content.specs.Laws.Leaves.{text_back, u8_back, u16_back, u32_back, u64_back};
@@ -76,10 +77,11 @@ ghost use Rattle.check_derive.specs.declared.types.Step.TheVariants as step;
 
 use content_cbor::{CborRoundTrip, NotNull};
 use serde_content::de::{
-    Deserialize, FieldsByName, read_six, read_two, two_parts, unknown_variant,
+    Deserialize, FieldsByName, Names, VariantAccess, Variants, no_such_variant, read_enum,
+    read_six_of, read_two_of, two_parts, variant_index,
 };
 use serde_content::ser::{Call, Parts, Serialize, Serializer, send_six, send_two};
-use serde_content::{CowStr, Deserializer, Result, RoundTrip};
+use serde_content::{Deserializer, Result, RoundTrip};
 use std::alloc::Global;
 use std::collections::BTreeMap;
 
@@ -92,37 +94,48 @@ pub struct Place {
     pub floor: Option<u8>,
 }
 
+/// The names of its fields.
+struct FieldsOfPlace;
+
+impl Names for FieldsOfPlace {
+    ghost names = { name "streetName" ∷ name "floor" ∷ [] };
+
+    #[tactic(auto, unfolding(serde_content::specs::Literals::name))]
+    fn names() -> &'static [&'static str] {
+        &["streetName", "floor"]
+    }
+}
+
 /// Fields, wherever they stand.
 fn read_place<'de, 'n: 'de>(alloc: Global, fields: FieldsByName<'de, 'n>) -> Result<Place>
     ensures { Reads (
-        (named_then (codes "streetName") (⟦<String as Deserialize<'de>>⟧.refusal)
-        (named_or_then (codes "floor") (⟦<Option<u8> as Deserialize<'de>>⟧.refusal)
-        (no_others (codes "streetName" ∷ codes "floor" ∷ []))))
+        (named_then (name "streetName") (⟦<String as Deserialize<'de>>⟧.refusal)
+        (named_or_then (name "floor") (⟦<Option<u8> as Deserialize<'de>>⟧.refusal)
+        (no_others (name "streetName" ∷ name "floor" ∷ []))))
         (fields_left fields.entry))
         (λ z.
-        (NamedThen (codes "streetName") (⟦<String as Deserialize<'de>>⟧.gives) z.street_name
-        (NamedOrThen (codes "floor") (λ (x : (Option ℕ)). x ≡ None)
+        (NamedThen (name "streetName") (⟦<String as Deserialize<'de>>⟧.gives) z.street_name
+        (NamedOrThen (name "floor") (λ (x : (Option ℕ)). x ≡ None)
         (⟦<Option<u8> as Deserialize<'de>>⟧.gives) z.floor
         NoOthers))
         (fields_left fields.entry)) result }
 {
-    let (street_name, floor) = read_two(
+    let (street_name, floor) = read_two_of(
         alloc,
         fields,
-        "streetName",
+        &FieldsOfPlace,
         None,
-        "floor",
         Some(None),
-        &["streetName", "floor"],
+        &FieldsOfPlace,
         true,
     )?;
     Ok(Place { street_name, floor })
 }
 
 impl Serialize for Place {
-    ghost script = { λ p. struct_script (codes "Place") 2
-        (field_first (codes "streetName") (⟦<String as Serialize>⟧.script p.street_name)
-        (field_first (codes "floor") (⟦<Option<u8> as Serialize>⟧.script p.floor)
+    ghost script = { λ p. struct_script (name "Place") 2
+        (field_first (name "streetName") (⟦<String as Serialize>⟧.script p.street_name)
+        (field_first (name "floor") (⟦<Option<u8> as Serialize>⟧.script p.floor)
         end_script)) };
 
     ghost lawful = { λ p readable. struct_lawful
@@ -134,30 +147,30 @@ impl Serialize for Place {
         send_two(
             alloc,
             serializer,
-            Call::Struct("Place", 2),
-            Call::Field("streetName"),
+            Call::Struct(name_place(), 2),
+            Call::Field(name_street_name()),
             &self.street_name,
-            Call::Field("floor"),
+            Call::Field(name_floor()),
             &self.floor,
         )
     }
 }
 
 impl<'de> Deserialize<'de> for Place {
-    ghost refusal = { struct_refusal (codes "Place") (read_by_name
-        (named_then (codes "streetName") (⟦<String as Deserialize<'de>>⟧.refusal)
-        (named_or_then (codes "floor") (⟦<Option<u8> as Deserialize<'de>>⟧.refusal)
-        (no_others (codes "streetName" ∷ codes "floor" ∷ []))))) };
+    ghost refusal = { struct_refusal (name "Place") (read_by_name
+        (named_then (name "streetName") (⟦<String as Deserialize<'de>>⟧.refusal)
+        (named_or_then (name "floor") (⟦<Option<u8> as Deserialize<'de>>⟧.refusal)
+        (no_others (name "streetName" ∷ name "floor" ∷ []))))) };
 
-    ghost gives = { λ s p. StructGives (codes "Place") (ReadByName
-        (NamedThen (codes "streetName") (⟦<String as Deserialize<'de>>⟧.gives) p.street_name
-        (NamedOrThen (codes "floor") (λ (x : (Option ℕ)). x ≡ None)
+    ghost gives = { λ s p. StructGives (name "Place") (ReadByName
+        (NamedThen (name "streetName") (⟦<String as Deserialize<'de>>⟧.gives) p.street_name
+        (NamedOrThen (name "floor") (λ (x : (Option ℕ)). x ≡ None)
         (⟦<Option<u8> as Deserialize<'de>>⟧.gives) p.floor
         NoOthers))) s };
 
     fn deserialize<'n: 'de>(alloc: Global, from: Deserializer<'de, 'n>) -> Result<Place> {
         let fields = from
-            .deserialize_struct(alloc, "Place", &["streetName", "floor"])?
+            .deserialize_struct(alloc, name_place(), FieldsOfPlace::names())?
             .by_name();
         read_place(alloc, fields)
     }
@@ -172,37 +185,37 @@ impl<'de> RoundTrip<'de> for Place {
 
     ghost comes_back = { record {
       of_value = λ p real f. struct_back (by_name_back
-          (named_back (codes "streetName") text_back p.street_name tt (λ q. q.street_name)
-          (named_or_back (codes "floor") (λ (x : (Option ℕ)). x ≡ None)
+          (named_back (name "streetName") text_back p.street_name tt (λ q. q.street_name)
+          (named_or_back (name "floor") (λ (x : (Option ℕ)). x ≡ None)
           (let law : ComesBack (⟦<Option<u8> as RoundTrip<'de>>⟧.exists)
           (⟦<Option<u8> as Serialize>⟧.script) (⟦<Option<u8> as Deserialize<'de>>⟧.refusal)
           (⟦<Option<u8> as Deserialize<'de>>⟧.gives) (⟦<Option<u8> as PartialEq>⟧.eq) =
           (option_back u8_back) in law) p.floor real (λ q. q.floor)
-          (closed_back (codes "streetName" ∷ codes "floor" ∷ [])))))
+          (closed_back (name "streetName" ∷ name "floor" ∷ [])))))
           f (λ q h. both_hold h.0 h.1.0);
     } };
 
-    ghost keeps = { struct_keeps (codes "Place") (by_name_keeps
-        (named_keeps (codes "streetName") (λ q. q.street_name)
+    ghost keeps = { struct_keeps (name "Place") (by_name_keeps
+        (named_keeps (name "streetName") (λ q. q.street_name)
         (heedless_keeps (λ o. refusal_of (text_from o))
         (λ o (x : String Global). IsTaken (text_from o) (HasContent (string_bytes x))))
-        (named_or_keeps (codes "floor") (λ (x : (Option ℕ)). x ≡ None) (λ q. q.floor)
+        (named_or_keeps (name "floor") (λ (x : (Option ℕ)). x ≡ None) (λ q. q.floor)
         (let law : CoercionKeeps (⟦<Option<u8> as Deserialize<'de>>⟧.refusal)
         (⟦<Option<u8> as Deserialize<'de>>⟧.gives) = (option_keeps (natural_keeps kind.u8))
         in law)
-        (closed_keeps (codes "streetName" ∷ codes "floor" ∷ []))))) };
+        (closed_keeps (name "streetName" ∷ name "floor" ∷ []))))) };
 }
 
 impl<'de> CborRoundTrip<'de> for Place {
     ghost kept = { record {
       of_value = λ p real. struct_kept (by_name_kept
-          (named_kept (codes "streetName") text_kept p.street_name tt (λ q. q.street_name)
-          (named_or_kept (codes "floor") (λ (x : (Option ℕ)). x ≡ None)
+          (named_kept (name "streetName") text_kept p.street_name tt (λ q. q.street_name)
+          (named_or_kept (name "floor") (λ (x : (Option ℕ)). x ≡ None)
           (let law : FormComesBack (⟦<Option<u8> as RoundTrip<'de>>⟧.exists)
           (⟦<Option<u8> as Serialize>⟧.script) (⟦<Option<u8> as Deserialize<'de>>⟧.refusal)
           (⟦<Option<u8> as Deserialize<'de>>⟧.gives) (⟦<Option<u8> as PartialEq>⟧.eq) =
           (option_kept (number_not_null kind.u8) u8_kept) in law) p.floor real (λ q. q.floor)
-          (closed_kept (codes "streetName" ∷ codes "floor" ∷ [])))))
+          (closed_kept (name "streetName" ∷ name "floor" ∷ [])))))
           (λ q h. both_hold h.0 h.1.0);
     } };
 }
@@ -236,48 +249,71 @@ fn make_step_moved(x1: i32, x2: i32) -> Step
     Step::Moved(x1, x2)
 }
 
+/// The names of its fields.
+struct FieldsOfStepLeft;
+
+impl Names for FieldsOfStepLeft {
+    ghost names = { name "with" ∷ name "at" ∷ [] };
+
+    #[tactic(auto, unfolding(serde_content::specs::Literals::name))]
+    fn names() -> &'static [&'static str] {
+        &["with", "at"]
+    }
+}
+
 /// Fields, wherever they stand.
 fn read_step_left<'de, 'n: 'de>(
     alloc: Global,
     fields: FieldsByName<'de, 'n>,
 ) -> Result<(String, Place)>
     ensures { Reads (
-        (named_then (codes "with") (⟦<String as Deserialize<'de>>⟧.refusal)
-        (named_then (codes "at") (⟦<Place as Deserialize<'de>>⟧.refusal)
-        (others_skipped (codes "with" ∷ codes "at" ∷ []))))
+        (named_then (name "with") (⟦<String as Deserialize<'de>>⟧.refusal)
+        (named_then (name "at") (⟦<Place as Deserialize<'de>>⟧.refusal)
+        (others_skipped (name "with" ∷ name "at" ∷ []))))
         (fields_left fields.entry))
         (λ z.
-        (NamedThen (codes "with") (⟦<String as Deserialize<'de>>⟧.gives) z.0
-        (NamedThen (codes "at") (⟦<Place as Deserialize<'de>>⟧.gives) z.1
+        (NamedThen (name "with") (⟦<String as Deserialize<'de>>⟧.gives) z.0
+        (NamedThen (name "at") (⟦<Place as Deserialize<'de>>⟧.gives) z.1
         NoOthers))
         (fields_left fields.entry)) result }
 {
-    read_two(
+    read_two_of(
         alloc,
         fields,
-        "with",
+        &FieldsOfStepLeft,
         None,
-        "at",
         None,
-        &["with", "at"],
+        &FieldsOfStepLeft,
         false,
     )
+}
+
+/// The names of its variants.
+struct NamesOfStep;
+
+impl Names for NamesOfStep {
+    ghost names = { name "open" ∷ name "weighed" ∷ name "moved-by" ∷ name "left" ∷ [] };
+
+    #[tactic(auto, unfolding(serde_content::specs::Literals::name))]
+    fn names() -> &'static [&'static str] {
+        &["open", "weighed", "moved-by", "left"]
+    }
 }
 
 impl Serialize for Step {
     ghost use Rattle.check_derive.specs.contracts.types.PlaceSerialize.TheImpl.Laws as place_serialize;
 
     ghost script = { elim [
-      | step.Open ↦ unit_variant_script (codes "Step") 0 (codes "open")
-      | step.Weighed x1 ↦ newtype_variant_script (codes "Step") 1 (codes "weighed")
+      | step.Open ↦ unit_variant_script (name "Step") 0 (name "open")
+      | step.Weighed x1 ↦ newtype_variant_script (name "Step") 1 (name "weighed")
           (⟦<u32 as Serialize>⟧.script x1)
-      | step.Moved x1 x2 ↦ tuple_variant_script (codes "Step") 2 (codes "moved-by") 2
+      | step.Moved x1 x2 ↦ tuple_variant_script (name "Step") 2 (name "moved-by") 2
           (tuple_field_first (⟦<i32 as Serialize>⟧.script x1)
           (tuple_field_first (⟦<i32 as Serialize>⟧.script x2)
           end_script))
-      | step.Left x1 x2 ↦ struct_variant_script (codes "Step") 3 (codes "left") 2
-          (field_first (codes "with") (⟦<String as Serialize>⟧.script x1)
-          (field_first (codes "at") (⟦<Place as Serialize>⟧.script x2)
+      | step.Left x1 x2 ↦ struct_variant_script (name "Step") 3 (name "left") 2
+          (field_first (name "with") (⟦<String as Serialize>⟧.script x1)
+          (field_first (name "at") (⟦<Place as Serialize>⟧.script x2)
           end_script))
     ] };
 
@@ -296,15 +332,15 @@ impl Serialize for Step {
 
     fn serialize<S: Serializer>(&self, alloc: Global, serializer: &mut S) -> Result<()> {
         match self {
-            Step::Open => Call::UnitVariant("Step", 0, "open").send(serializer),
+            Step::Open => Call::UnitVariant(name_step(), 0, name_open()).send(serializer),
             Step::Weighed(x1) => {
-                Call::NewtypeVariant("Step", 1, "weighed").around(x1, alloc, serializer)
+                Call::NewtypeVariant(name_step(), 1, name_weighed()).around(x1, alloc, serializer)
             }
             Step::Moved(x1, x2) => {
                 send_two(
                     alloc,
                     serializer,
-                    Call::TupleVariant("Step", 2, "moved-by", 2),
+                    Call::TupleVariant(name_step(), 2, name_moved_by(), 2),
                     Call::TupleField,
                     x1,
                     Call::TupleField,
@@ -315,10 +351,10 @@ impl Serialize for Step {
                 send_two(
                     alloc,
                     serializer,
-                    Call::StructVariant("Step", 3, "left", 2),
-                    Call::Field("with"),
+                    Call::StructVariant(name_step(), 3, name_left(), 2),
+                    Call::Field(name_with()),
                     with,
-                    Call::Field("at"),
+                    Call::Field(name_at()),
                     place,
                 )
             }
@@ -326,62 +362,94 @@ impl Serialize for Step {
     }
 }
 
-impl<'de> Deserialize<'de> for Step {
-    ghost refusal = { enum_refusal (codes "Step")
-        (variant_or (codes "open") unit_variant_refusal
-        (variant_or (codes "weighed")
-        (newtype_variant_refusal (⟦<u32 as Deserialize<'de>>⟧.refusal))
-        (variant_or (codes "moved-by") (tuple_variant_refusal
-        (part_then 2 0 (⟦<i32 as Deserialize<'de>>⟧.refusal)
-        (part_then 2 1 (⟦<i32 as Deserialize<'de>>⟧.refusal)
-        (end_of_parts 2))))
-        (variant_or (codes "left") (struct_variant_refusal (read_by_name
-        (named_then (codes "with") (⟦<String as Deserialize<'de>>⟧.refusal)
-        (named_then (codes "at") (⟦<Place as Deserialize<'de>>⟧.refusal)
-        (others_skipped (codes "with" ∷ codes "at" ∷ []))))))
-        (no_variant_of (codes "open" ∷ codes "weighed" ∷ codes "moved-by" ∷ codes "left" ∷
-        [])))))) };
+impl<'de> Variants<'de> for Step {
+    ghost name = { name "Step" };
 
-    ghost gives = { λ s. elim [
-      | step.Open ↦ EnumGives (codes "Step") (codes "open") UnitVariantGives s
-      | step.Weighed x1 ↦ EnumGives (codes "Step") (codes "weighed")
-          (NewtypeVariantGives (⟦<u32 as Deserialize<'de>>⟧.gives) x1) s
-      | step.Moved x1 x2 ↦ EnumGives (codes "Step") (codes "moved-by") (TupleVariantGives
-          (PartThen (⟦<i32 as Deserialize<'de>>⟧.gives) x1
-          (PartThen (⟦<i32 as Deserialize<'de>>⟧.gives) x2
-          NoPart))) s
-      | step.Left x1 x2 ↦ EnumGives (codes "Step") (codes "left")
-          (StructVariantGives (ReadByName
-          (NamedThen (codes "with") (⟦<String as Deserialize<'de>>⟧.gives) x1
-          (NamedThen (codes "at") (⟦<Place as Deserialize<'de>>⟧.gives) x2
-          NoOthers)))) s
+    ghost refusal = { variants (
+        (name "open", unit_variant_refusal)
+        ∷ (name "weighed", newtype_variant_refusal (⟦<u32 as Deserialize<'de>>⟧.refusal))
+        ∷ (
+          name "moved-by",
+          tuple_variant_refusal
+              (part_then 2 0 (⟦<i32 as Deserialize<'de>>⟧.refusal)
+              (part_then 2 1 (⟦<i32 as Deserialize<'de>>⟧.refusal)
+              (end_of_parts 2))),
+        )
+        ∷ (
+          name "left",
+          struct_variant_refusal (read_by_name
+              (named_then (name "with") (⟦<String as Deserialize<'de>>⟧.refusal)
+              (named_then (name "at") (⟦<Place as Deserialize<'de>>⟧.refusal)
+              (others_skipped (name "with" ∷ name "at" ∷ []))))),
+        )
+        ∷ []) };
+
+    ghost named = { elim [
+      | step.Open ↦ name "open"
+      | step.Weighed x1 ↦ name "weighed"
+      | step.Moved x1 x2 ↦ name "moved-by"
+      | step.Left x1 x2 ↦ name "left"
     ] };
 
-    fn deserialize<'n: 'de>(alloc: Global, from: Deserializer<'de, 'n>) -> Result<Step> {
-        let access = from.deserialize_enum(
-            alloc,
-            "Step",
-            &["open", "weighed", "moved-by", "left"],
-        )?;
-        let (tag, variant) = access.variant::<CowStr<'de>>(alloc)?;
-        match tag.as_str() {
-            "open" => {
+    ghost held = { elim [
+      | step.Open ↦ UnitVariantGives
+      | step.Weighed x1 ↦ NewtypeVariantGives (⟦<u32 as Deserialize<'de>>⟧.gives) x1
+      | step.Moved x1 x2 ↦ TupleVariantGives
+          (PartThen (⟦<i32 as Deserialize<'de>>⟧.gives) x1
+          (PartThen (⟦<i32 as Deserialize<'de>>⟧.gives) x2
+          NoPart))
+      | step.Left x1 x2 ↦ StructVariantGives (ReadByName
+          (NamedThen (name "with") (⟦<String as Deserialize<'de>>⟧.gives) x1
+          (NamedThen (name "at") (⟦<Place as Deserialize<'de>>⟧.gives) x2
+          NoOthers)))
+    ] };
+
+    #[tactic(auto, unfolding(serde_content::specs::Literals::name))]
+    fn name() -> &'static str {
+        "Step"
+    }
+
+    fn names() -> &'static [&'static str] {
+        NamesOfStep::names()
+    }
+
+    fn read_variant<'n: 'de>(
+        alloc: Global,
+        tag: &str,
+        variant: VariantAccess<'de, 'n>,
+    ) -> Result<Step> {
+        match variant_index(tag, &NamesOfStep) {
+            Some(0) => {
                 variant.unit_variant(alloc)?;
                 Ok(Step::Open)
             }
-            "weighed" => Ok(Step::Weighed(variant.newtype_variant(alloc)?)),
-            "moved-by" => {
+            Some(1) => Ok(Step::Weighed(variant.newtype_variant(alloc)?)),
+            Some(2) => {
                 let parts = variant.tuple_variant(alloc, 2)?;
                 let (x1, x2) = two_parts(alloc, parts)?;
                 Ok(make_step_moved(x1, x2))
             }
-            "left" => {
-                let fields = variant.struct_variant(alloc, &["with", "at"])?.by_name();
+            Some(3) => {
+                let fields = variant
+                    .struct_variant(alloc, FieldsOfStepLeft::names())?
+                    .by_name();
                 let (with, place) = read_step_left(alloc, fields)?;
                 Ok(Step::Left { with, place })
             }
-            tag => Err(unknown_variant(alloc, tag, &["open", "weighed", "moved-by", "left"])),
+            _ => Err(no_such_variant(alloc, tag, &NamesOfStep)),
         }
+    }
+}
+
+impl<'de> Deserialize<'de> for Step {
+    ghost refusal = { enum_refusal (name "Step") ⟦<Step as Variants<'de>>⟧.refusal };
+
+    ghost gives = { λ s y. EnumGives (name "Step")
+        (⟦<Step as Variants<'de>>⟧.named y)
+        (⟦<Step as Variants<'de>>⟧.held y) s };
+
+    fn deserialize<'n: 'de>(alloc: Global, from: Deserializer<'de, 'n>) -> Result<Step> {
+        read_enum(alloc, from)
     }
 }
 
@@ -406,7 +474,7 @@ impl<'de> RoundTrip<'de> for Step {
         }
     }
 
-    ghost comes_back = { record {
+    ghost comes_back = { unfold name index_among in record {
       of_value = elim [
         | step.Open ↦ λ real f. variant_back Self.refusal Self.gives unit_variant_back
             f (λ d. refl)
@@ -440,10 +508,10 @@ impl<'de> RoundTrip<'de> for Step {
             ])
         | step.Left x1 x2 ↦ λ real f. variant_back Self.refusal Self.gives
             (struct_variant_back (by_name_back
-            (named_back (codes "with") text_back x1 tt (λ (z : (String Global) × Place). z.0)
-            (named_back (codes "at") place_round_trip.comes_back-law x2 real
+            (named_back (name "with") text_back x1 tt (λ (z : (String Global) × Place). z.0)
+            (named_back (name "at") place_round_trip.comes_back-law x2 real
             (λ (z : (String Global) × Place). z.1)
-            (skipped_back (codes "with" ∷ codes "at" ∷ []))))))
+            (skipped_back (name "with" ∷ name "at" ∷ []))))))
             f (λ d. refl)
             (λ d only. elim [
               | step.Open ↦ λ it. other_variant it.0 refl
@@ -457,16 +525,16 @@ impl<'de> RoundTrip<'de> for Step {
     ghost keeps = { record {
       of_origin = λ o people. elim [
         | step.Open ↦ λ p.
-            let q = variant_kept (codes "Step") (codes "open") _ (λ v. refl) unit_variant_keeps
+            let q = variant_kept (name "Step") (name "open") _ (λ v. refl) unit_variant_keeps
             o people tt p.free p.given in
             record { free = q.0; given = q.1 }
         | step.Weighed x1 ↦ λ p.
-            let q = variant_kept (codes "Step") (codes "weighed") _ (λ v. refl)
+            let q = variant_kept (name "Step") (name "weighed") _ (λ v. refl)
             (newtype_variant_keeps (natural_keeps kind.u32))
             o people x1 p.free p.given in
             record { free = q.0; given = q.1 }
         | step.Moved x1 x2 ↦ λ p.
-            let q = variant_kept (codes "Step") (codes "moved-by") _ (λ v. refl)
+            let q = variant_kept (name "Step") (name "moved-by") _ (λ v. refl)
             (tuple_variant_keeps
             (part_keeps (λ (z : ℤ × ℤ). z.0) 2 0 (integer_keeps kind.i32)
             (part_keeps (λ (z : ℤ × ℤ). z.1) 2 1 (integer_keeps kind.i32)
@@ -474,14 +542,14 @@ impl<'de> RoundTrip<'de> for Step {
             o people (x1, x2) p.free p.given in
             record { free = q.0; given = q.1 }
         | step.Left x1 x2 ↦ λ p.
-            let q = variant_kept (codes "Step") (codes "left") _ (λ v. refl)
+            let q = variant_kept (name "Step") (name "left") _ (λ v. refl)
             (struct_variant_keeps (by_name_keeps
-            (named_keeps (codes "with") (λ (z : (String Global) × Place). z.0)
+            (named_keeps (name "with") (λ (z : (String Global) × Place). z.0)
             (heedless_keeps (λ o. refusal_of (text_from o))
             (λ o (x : String Global). IsTaken (text_from o) (HasContent (string_bytes x))))
-            (named_keeps (codes "at") (λ (z : (String Global) × Place). z.1)
+            (named_keeps (name "at") (λ (z : (String Global) × Place). z.1)
             place_round_trip.keeps-law
-            (skipped_keeps (codes "with" ∷ codes "at" ∷ []))))))
+            (skipped_keeps (name "with" ∷ name "at" ∷ []))))))
             o people (x1, x2) p.free p.given in
             record { free = q.0; given = q.1 }
       ];
@@ -491,31 +559,31 @@ impl<'de> RoundTrip<'de> for Step {
 impl<'de> CborRoundTrip<'de> for Step {
     ghost use Rattle.check_derive.specs.contracts.types.PlaceCborRoundTrip.TheImpl.Laws as place_cbor_round_trip;
 
-    ghost kept = { record {
+    ghost kept = { unfold name index_among in record {
       of_value = elim [
         | step.Open ↦ λ real. variant_comes_back _ Self.gives unit_variant_kept
             (λ v. refl)
             (λ b d only. elim [
               | step.Open ↦ λ it. refl
               | step.Weighed y1 ↦ λ it. other_variant
-                  (given_as b (codes "Step") (codes "open") d it).named refl
+                  (given_as b (name "Step") (name "open") d it).named refl
               | step.Moved y1 y2 ↦ λ it. other_variant
-                  (given_as b (codes "Step") (codes "open") d it).named refl
+                  (given_as b (name "Step") (name "open") d it).named refl
               | step.Left y1 y2 ↦ λ it. other_variant
-                  (given_as b (codes "Step") (codes "open") d it).named refl
+                  (given_as b (name "Step") (name "open") d it).named refl
             ])
         | step.Weighed x1 ↦ λ real. variant_comes_back _ Self.gives
             (newtype_variant_kept u32_kept x1 tt)
             (λ v. refl)
             (λ b d only. elim [
               | step.Open ↦ λ it. other_variant
-                  (given_as b (codes "Step") (codes "weighed") d it).named refl
+                  (given_as b (name "Step") (name "weighed") d it).named refl
               | step.Weighed y1 ↦ λ it. only y1
-                  (given_as b (codes "Step") (codes "weighed") d it).held
+                  (given_as b (name "Step") (name "weighed") d it).held
               | step.Moved y1 y2 ↦ λ it. other_variant
-                  (given_as b (codes "Step") (codes "weighed") d it).named refl
+                  (given_as b (name "Step") (name "weighed") d it).named refl
               | step.Left y1 y2 ↦ λ it. other_variant
-                  (given_as b (codes "Step") (codes "weighed") d it).named refl
+                  (given_as b (name "Step") (name "weighed") d it).named refl
             ])
         | step.Moved x1 x2 ↦ λ real. variant_comes_back _ Self.gives (tuple_variant_kept
             (tuple_field_kept i32_kept x1 tt (λ (z : ℤ × ℤ). z.0) 2 0
@@ -524,31 +592,30 @@ impl<'de> CborRoundTrip<'de> for Step {
             (λ v. refl)
             (λ b d only. elim [
               | step.Open ↦ λ it. other_variant
-                  (given_as b (codes "Step") (codes "moved-by") d it).named refl
+                  (given_as b (name "Step") (name "moved-by") d it).named refl
               | step.Weighed y1 ↦ λ it. other_variant
-                  (given_as b (codes "Step") (codes "moved-by") d it).named refl
+                  (given_as b (name "Step") (name "moved-by") d it).named refl
               | step.Moved y1 y2 ↦ λ it. let same = only (y1, y2)
-                  (given_as b (codes "Step") (codes "moved-by") d it).held in both_hold same.0
-                  same.1.0
+                  (given_as b (name "Step") (name "moved-by") d it).held in both_hold same.0 same.1.0
               | step.Left y1 y2 ↦ λ it. other_variant
-                  (given_as b (codes "Step") (codes "moved-by") d it).named refl
+                  (given_as b (name "Step") (name "moved-by") d it).named refl
             ])
         | step.Left x1 x2 ↦ λ real. variant_comes_back _ Self.gives
             (struct_variant_kept (by_name_kept
-            (named_kept (codes "with") text_kept x1 tt (λ (z : (String Global) × Place). z.0)
-            (named_kept (codes "at") place_cbor_round_trip.kept-law x2 real
+            (named_kept (name "with") text_kept x1 tt (λ (z : (String Global) × Place). z.0)
+            (named_kept (name "at") place_cbor_round_trip.kept-law x2 real
             (λ (z : (String Global) × Place). z.1)
-            (skipped_kept (codes "with" ∷ codes "at" ∷ []))))))
+            (skipped_kept (name "with" ∷ name "at" ∷ []))))))
             (λ v. refl)
             (λ b d only. elim [
               | step.Open ↦ λ it. other_variant
-                  (given_as b (codes "Step") (codes "left") d it).named refl
+                  (given_as b (name "Step") (name "left") d it).named refl
               | step.Weighed y1 ↦ λ it. other_variant
-                  (given_as b (codes "Step") (codes "left") d it).named refl
+                  (given_as b (name "Step") (name "left") d it).named refl
               | step.Moved y1 y2 ↦ λ it. other_variant
-                  (given_as b (codes "Step") (codes "left") d it).named refl
+                  (given_as b (name "Step") (name "left") d it).named refl
               | step.Left y1 y2 ↦ λ it. let same = only (y1, y2)
-                  (given_as b (codes "Step") (codes "left") d it).held in both_hold same.0 same.1.0
+                  (given_as b (name "Step") (name "left") d it).held in both_hold same.0 same.1.0
             ])
       ];
     } };
@@ -595,76 +662,84 @@ fn send_order<
     x6: &T6,
 ) -> Result<()>
     ensures { Sends S.step S.refuses (S.seen serializer.old)
-        (struct_script (codes "Order") 6
-        (field_first (codes "order-id") (T1.script x1.now)
-        (field_first (codes "to") (T2.script x2.now)
-        (field_first (codes "steps") (T3.script x3.now)
-        (field_first (codes "goods") (T4.script x4.now)
-        (field_first (codes "size") (T5.script x5.now)
-        (field_first (codes "note") (T6.script x6.now)
+        (struct_script (name "Order") 6
+        (field_first (name "order-id") (T1.script x1.now)
+        (field_first (name "to") (T2.script x2.now)
+        (field_first (name "steps") (T3.script x3.now)
+        (field_first (name "goods") (T4.script x4.now)
+        (field_first (name "size") (T5.script x5.now)
+        (field_first (name "note") (T6.script x6.now)
         end_script)))))))
         result (S.seen serializer.new) }
 {
     send_six(
         alloc,
         serializer,
-        Call::Struct("Order", 6),
-        Call::Field("order-id"),
+        Call::Struct(name_order(), 6),
+        Call::Field(name_order_id()),
         x1,
-        Call::Field("to"),
+        Call::Field(name_to()),
         x2,
-        Call::Field("steps"),
+        Call::Field(name_steps()),
         x3,
-        Call::Field("goods"),
+        Call::Field(name_goods()),
         x4,
-        Call::Field("size"),
+        Call::Field(name_size()),
         x5,
-        Call::Field("note"),
+        Call::Field(name_note()),
         x6,
     )
+}
+
+/// The names of its fields.
+struct FieldsOfOrder;
+
+impl Names for FieldsOfOrder {
+    ghost names = { name "order-id" ∷ name "to" ∷ name "steps" ∷ name "goods" ∷
+        name "size" ∷ name "note" ∷ [] };
+
+    #[tactic(auto, unfolding(serde_content::specs::Literals::name))]
+    fn names() -> &'static [&'static str] {
+        &["order-id", "to", "steps", "goods", "size", "note"]
+    }
 }
 
 /// Fields, wherever they stand.
 fn read_order<'de, 'n: 'de>(alloc: Global, fields: FieldsByName<'de, 'n>) -> Result<Order>
     ensures { Reads (
-        (named_then (codes "order-id") (⟦<u64 as Deserialize<'de>>⟧.refusal)
-        (named_then (codes "to") (⟦<Place as Deserialize<'de>>⟧.refusal)
-        (named_or_then (codes "steps") (⟦<Vec<Step> as Deserialize<'de>>⟧.refusal)
-        (named_then (codes "goods") (⟦<BTreeMap<String, u32> as Deserialize<'de>>⟧.refusal)
-        (named_then (codes "size") (⟦<(u16, u16, u16) as Deserialize<'de>>⟧.refusal)
-        (named_or_then (codes "note") (⟦<Option<Box<String>> as Deserialize<'de>>⟧.refusal)
-        (others_skipped (codes "order-id" ∷ codes "to" ∷ codes "steps" ∷ codes "goods" ∷
-        codes "size" ∷ codes "note" ∷ []))))))))
+        (named_then (name "order-id") (⟦<u64 as Deserialize<'de>>⟧.refusal)
+        (named_then (name "to") (⟦<Place as Deserialize<'de>>⟧.refusal)
+        (named_or_then (name "steps") (⟦<Vec<Step> as Deserialize<'de>>⟧.refusal)
+        (named_then (name "goods") (⟦<BTreeMap<String, u32> as Deserialize<'de>>⟧.refusal)
+        (named_then (name "size") (⟦<(u16, u16, u16) as Deserialize<'de>>⟧.refusal)
+        (named_or_then (name "note") (⟦<Option<Box<String>> as Deserialize<'de>>⟧.refusal)
+        (others_skipped (name "order-id" ∷ name "to" ∷ name "steps" ∷ name "goods" ∷
+        name "size" ∷ name "note" ∷ []))))))))
         (fields_left fields.entry))
         (λ z.
-        (NamedThen (codes "order-id") (⟦<u64 as Deserialize<'de>>⟧.gives) z.id
-        (NamedThen (codes "to") (⟦<Place as Deserialize<'de>>⟧.gives) z.to
-        (NamedOrThen (codes "steps") (λ (x : (Vec Step Global)). x.items ≡ [])
+        (NamedThen (name "order-id") (⟦<u64 as Deserialize<'de>>⟧.gives) z.id
+        (NamedThen (name "to") (⟦<Place as Deserialize<'de>>⟧.gives) z.to
+        (NamedOrThen (name "steps") (λ (x : (Vec Step Global)). x.items ≡ [])
         (⟦<Vec<Step> as Deserialize<'de>>⟧.gives) z.steps
-        (NamedThen (codes "goods") (⟦<BTreeMap<String, u32> as Deserialize<'de>>⟧.gives)
+        (NamedThen (name "goods") (⟦<BTreeMap<String, u32> as Deserialize<'de>>⟧.gives)
         z.goods
-        (NamedThen (codes "size") (⟦<(u16, u16, u16) as Deserialize<'de>>⟧.gives) z.size
-        (NamedOrThen (codes "note") (λ (x : (Option (Box (String Global) Global))). x ≡
-        None) (⟦<Option<Box<String>> as Deserialize<'de>>⟧.gives) z.note
+        (NamedThen (name "size") (⟦<(u16, u16, u16) as Deserialize<'de>>⟧.gives) z.size
+        (NamedOrThen (name "note") (λ (x : (Option (Box (String Global) Global))). x ≡ None)
+        (⟦<Option<Box<String>> as Deserialize<'de>>⟧.gives) z.note
         NoOthers))))))
         (fields_left fields.entry)) result }
 {
-    let (id, to, steps, goods, size, note) = read_six(
+    let (id, to, steps, goods, size, note) = read_six_of(
         alloc,
         fields,
-        "order-id",
+        &FieldsOfOrder,
         None,
-        "to",
         None,
-        "steps",
         Some(Vec::new(alloc)),
-        "goods",
         None,
-        "size",
         None,
-        "note",
         Some(None),
-        &["order-id", "to", "steps", "goods", "size", "note"],
+        &FieldsOfOrder,
         false,
     )?;
     Ok(Order {
@@ -681,13 +756,13 @@ impl Serialize for Order {
     ghost use Rattle.check_derive.specs.contracts.types.PlaceSerialize.TheImpl.Laws as place_serialize;
     ghost use Rattle.check_derive.specs.contracts.types.StepSerialize.TheImpl.Laws as step_serialize;
 
-    ghost script = { λ p. struct_script (codes "Order") 6
-        (field_first (codes "order-id") (⟦<u64 as Serialize>⟧.script p.id)
-        (field_first (codes "to") (⟦<Place as Serialize>⟧.script p.to)
-        (field_first (codes "steps") (⟦<Vec<Step> as Serialize>⟧.script p.steps)
-        (field_first (codes "goods") (⟦<BTreeMap<String, u32> as Serialize>⟧.script p.goods)
-        (field_first (codes "size") (⟦<(u16, u16, u16) as Serialize>⟧.script p.size)
-        (field_first (codes "note") (⟦<Option<Box<String>> as Serialize>⟧.script p.note)
+    ghost script = { λ p. struct_script (name "Order") 6
+        (field_first (name "order-id") (⟦<u64 as Serialize>⟧.script p.id)
+        (field_first (name "to") (⟦<Place as Serialize>⟧.script p.to)
+        (field_first (name "steps") (⟦<Vec<Step> as Serialize>⟧.script p.steps)
+        (field_first (name "goods") (⟦<BTreeMap<String, u32> as Serialize>⟧.script p.goods)
+        (field_first (name "size") (⟦<(u16, u16, u16) as Serialize>⟧.script p.size)
+        (field_first (name "note") (⟦<Option<Box<String>> as Serialize>⟧.script p.note)
         end_script)))))) };
 
     ghost lawful = { λ p readable. struct_lawful
@@ -720,35 +795,31 @@ impl Serialize for Order {
 }
 
 impl<'de> Deserialize<'de> for Order {
-    ghost refusal = { struct_refusal (codes "Order") (read_by_name
-        (named_then (codes "order-id") (⟦<u64 as Deserialize<'de>>⟧.refusal)
-        (named_then (codes "to") (⟦<Place as Deserialize<'de>>⟧.refusal)
-        (named_or_then (codes "steps") (⟦<Vec<Step> as Deserialize<'de>>⟧.refusal)
-        (named_then (codes "goods") (⟦<BTreeMap<String, u32> as Deserialize<'de>>⟧.refusal)
-        (named_then (codes "size") (⟦<(u16, u16, u16) as Deserialize<'de>>⟧.refusal)
-        (named_or_then (codes "note") (⟦<Option<Box<String>> as Deserialize<'de>>⟧.refusal)
-        (others_skipped (codes "order-id" ∷ codes "to" ∷ codes "steps" ∷ codes "goods" ∷
-        codes "size" ∷ codes "note" ∷ []))))))))) };
+    ghost refusal = { struct_refusal (name "Order") (read_by_name
+        (named_then (name "order-id") (⟦<u64 as Deserialize<'de>>⟧.refusal)
+        (named_then (name "to") (⟦<Place as Deserialize<'de>>⟧.refusal)
+        (named_or_then (name "steps") (⟦<Vec<Step> as Deserialize<'de>>⟧.refusal)
+        (named_then (name "goods") (⟦<BTreeMap<String, u32> as Deserialize<'de>>⟧.refusal)
+        (named_then (name "size") (⟦<(u16, u16, u16) as Deserialize<'de>>⟧.refusal)
+        (named_or_then (name "note") (⟦<Option<Box<String>> as Deserialize<'de>>⟧.refusal)
+        (others_skipped (name "order-id" ∷ name "to" ∷ name "steps" ∷ name "goods" ∷
+        name "size" ∷ name "note" ∷ []))))))))) };
 
-    ghost gives = { λ s p. StructGives (codes "Order") (ReadByName
-        (NamedThen (codes "order-id") (⟦<u64 as Deserialize<'de>>⟧.gives) p.id
-        (NamedThen (codes "to") (⟦<Place as Deserialize<'de>>⟧.gives) p.to
-        (NamedOrThen (codes "steps") (λ (x : (Vec Step Global)). x.items ≡ [])
+    ghost gives = { λ s p. StructGives (name "Order") (ReadByName
+        (NamedThen (name "order-id") (⟦<u64 as Deserialize<'de>>⟧.gives) p.id
+        (NamedThen (name "to") (⟦<Place as Deserialize<'de>>⟧.gives) p.to
+        (NamedOrThen (name "steps") (λ (x : (Vec Step Global)). x.items ≡ [])
         (⟦<Vec<Step> as Deserialize<'de>>⟧.gives) p.steps
-        (NamedThen (codes "goods") (⟦<BTreeMap<String, u32> as Deserialize<'de>>⟧.gives)
+        (NamedThen (name "goods") (⟦<BTreeMap<String, u32> as Deserialize<'de>>⟧.gives)
         p.goods
-        (NamedThen (codes "size") (⟦<(u16, u16, u16) as Deserialize<'de>>⟧.gives) p.size
-        (NamedOrThen (codes "note") (λ (x : (Option (Box (String Global) Global))). x ≡
-        None) (⟦<Option<Box<String>> as Deserialize<'de>>⟧.gives) p.note
+        (NamedThen (name "size") (⟦<(u16, u16, u16) as Deserialize<'de>>⟧.gives) p.size
+        (NamedOrThen (name "note") (λ (x : (Option (Box (String Global) Global))). x ≡ None)
+        (⟦<Option<Box<String>> as Deserialize<'de>>⟧.gives) p.note
         NoOthers))))))) s };
 
     fn deserialize<'n: 'de>(alloc: Global, from: Deserializer<'de, 'n>) -> Result<Order> {
         let fields = from
-            .deserialize_struct(
-                alloc,
-                "Order",
-                &["order-id", "to", "steps", "goods", "size", "note"],
-            )?
+            .deserialize_struct(alloc, name_order(), FieldsOfOrder::names())?
             .by_name();
         read_order(alloc, fields)
     }
@@ -774,15 +845,15 @@ impl<'de> RoundTrip<'de> for Order {
 
     ghost comes_back = { record {
       of_value = λ p real f. struct_back (by_name_back
-          (named_back (codes "order-id") u64_back p.id tt (λ q. q.id)
-          (named_back (codes "to") place_round_trip.comes_back-law p.to real.0 (λ q. q.to)
-          (named_or_back (codes "steps") (λ (x : (Vec Step Global)). x.items ≡ [])
+          (named_back (name "order-id") u64_back p.id tt (λ q. q.id)
+          (named_back (name "to") place_round_trip.comes_back-law p.to real.0 (λ q. q.to)
+          (named_or_back (name "steps") (λ (x : (Vec Step Global)). x.items ≡ [])
           (let law : ComesBack (⟦<Vec<Step> as RoundTrip<'de>>⟧.exists)
           (⟦<Vec<Step> as Serialize>⟧.script) (⟦<Vec<Step> as Deserialize<'de>>⟧.refusal)
           (⟦<Vec<Step> as Deserialize<'de>>⟧.gives) (⟦<Vec<Step> as PartialEq>⟧.eq) =
           (seen_back (λ v. v.items) (seq_back step_round_trip.comes_back-law)) in law) p.steps
           real.1 (λ q. q.steps)
-          (named_back (codes "goods") (let law : ComesBack
+          (named_back (name "goods") (let law : ComesBack
           (⟦<BTreeMap<String, u32> as RoundTrip<'de>>⟧.exists)
           (⟦<BTreeMap<String, u32> as Serialize>⟧.script)
           (⟦<BTreeMap<String, u32> as Deserialize<'de>>⟧.refusal)
@@ -791,7 +862,7 @@ impl<'de> RoundTrip<'de> for Order {
           (seen_back (λ m. m.entries) (map_back string_cmp_total
           (λ x y. texts_ties (string_bytes x) (string_bytes y)) text_back u32_back)) in law)
           p.goods real.2 (λ q. q.goods)
-          (named_back (codes "size") (let law : ComesBack
+          (named_back (name "size") (let law : ComesBack
           (⟦<(u16, u16, u16) as RoundTrip<'de>>⟧.exists)
           (⟦<(u16, u16, u16) as Serialize>⟧.script)
           (⟦<(u16, u16, u16) as Deserialize<'de>>⟧.refusal)
@@ -805,43 +876,42 @@ impl<'de> RoundTrip<'de> for Order {
                 f (λ y h. both_hold (both_hold h.0 h.1.0) h.1.1.0);
           }) in law) p.size real.3
           (λ q. q.size)
-          (named_or_back (codes "note")
-          (λ (x : (Option (Box (String Global) Global))). x ≡ None)
-          (let law : ComesBack (⟦<Option<Box<String>> as RoundTrip<'de>>⟧.exists)
+          (named_or_back (name "note") (λ (x : (Option (Box (String Global) Global))). x ≡
+          None) (let law : ComesBack (⟦<Option<Box<String>> as RoundTrip<'de>>⟧.exists)
           (⟦<Option<Box<String>> as Serialize>⟧.script)
           (⟦<Option<Box<String>> as Deserialize<'de>>⟧.refusal)
           (⟦<Option<Box<String>> as Deserialize<'de>>⟧.gives)
           (⟦<Option<Box<String>> as PartialEq>⟧.eq) =
           (option_back (seen_back (λ b. b.value) text_back)) in law) p.note real.4
           (λ q. q.note)
-          (skipped_back (codes "order-id" ∷ codes "to" ∷ codes "steps" ∷ codes "goods" ∷ codes
-          "size" ∷ codes "note" ∷ [])))))))))
+          (skipped_back (name "order-id" ∷ name "to" ∷ name "steps" ∷ name "goods" ∷
+          name "size" ∷ name "note" ∷ [])))))))))
           f (λ q h. both_hold h.0 (both_hold h.1.0
           (both_hold h.1.1.0 (both_hold h.1.1.1.0 (both_hold h.1.1.1.1.0 h.1.1.1.1.1.0)))));
     } };
 
-    ghost keeps = { struct_keeps (codes "Order") (by_name_keeps
-        (named_keeps (codes "order-id") (λ q. q.id) (natural_keeps kind.u64)
-        (named_keeps (codes "to") (λ q. q.to) place_round_trip.keeps-law
-        (named_or_keeps (codes "steps") (λ (x : (Vec Step Global)). x.items ≡ [])
+    ghost keeps = { struct_keeps (name "Order") (by_name_keeps
+        (named_keeps (name "order-id") (λ q. q.id) (natural_keeps kind.u64)
+        (named_keeps (name "to") (λ q. q.to) place_round_trip.keeps-law
+        (named_or_keeps (name "steps") (λ (x : (Vec Step Global)). x.items ≡ [])
         (λ q. q.steps) (let law : CoercionKeeps (⟦<Vec<Step> as Deserialize<'de>>⟧.refusal)
         (⟦<Vec<Step> as Deserialize<'de>>⟧.gives) =
         (seen_keeps (λ v. v.items) (seq_keeps step_round_trip.keeps-law)) in law)
-        (named_keeps (codes "goods") (λ q. q.goods)
+        (named_keeps (name "goods") (λ q. q.goods)
         (let law : CoercionKeeps (⟦<BTreeMap<String, u32> as Deserialize<'de>>⟧.refusal)
         (⟦<BTreeMap<String, u32> as Deserialize<'de>>⟧.gives) =
         (seen_keeps (λ m. m.entries) (map_keeps (⟦<String as Ord>⟧.cmp)
         (heedless_keeps (λ o. refusal_of (text_from o))
         (λ o (x : String Global). IsTaken (text_from o) (HasContent (string_bytes x))))
         (natural_keeps kind.u32))) in law)
-        (named_keeps (codes "size") (λ q. q.size)
+        (named_keeps (name "size") (λ q. q.size)
         (let law : CoercionKeeps (⟦<(u16, u16, u16) as Deserialize<'de>>⟧.refusal)
         (⟦<(u16, u16, u16) as Deserialize<'de>>⟧.gives) = (tuple_keeps 3
         (part_keeps (λ y. y.0) 3 0 (natural_keeps kind.u16)
         (part_keeps (λ y. y.1) 3 1 (natural_keeps kind.u16)
         (part_keeps (λ y. y.2) 3 2 (natural_keeps kind.u16)
         (parts_end_keeps 3))))) in law)
-        (named_or_keeps (codes "note")
+        (named_or_keeps (name "note")
         (λ (x : (Option (Box (String Global) Global))). x ≡ None) (λ q. q.note)
         (let law : CoercionKeeps (⟦<Option<Box<String>> as Deserialize<'de>>⟧.refusal)
         (⟦<Option<Box<String>> as Deserialize<'de>>⟧.gives) =
@@ -849,8 +919,8 @@ impl<'de> RoundTrip<'de> for Order {
         (heedless_keeps (λ o. refusal_of (text_from o))
         (λ o (x : String Global). IsTaken (text_from o) (HasContent (string_bytes x)))))) in
         law)
-        (skipped_keeps (codes "order-id" ∷ codes "to" ∷ codes "steps" ∷ codes "goods" ∷
-        codes "size" ∷ codes "note" ∷ []))))))))) };
+        (skipped_keeps (name "order-id" ∷ name "to" ∷ name "steps" ∷ name "goods" ∷
+        name "size" ∷ name "note" ∷ []))))))))) };
 }
 
 impl<'de> CborRoundTrip<'de> for Order {
@@ -859,15 +929,15 @@ impl<'de> CborRoundTrip<'de> for Order {
 
     ghost kept = { record {
       of_value = λ p real. struct_kept (by_name_kept
-          (named_kept (codes "order-id") u64_kept p.id tt (λ q. q.id)
-          (named_kept (codes "to") place_cbor_round_trip.kept-law p.to real.0 (λ q. q.to)
-          (named_or_kept (codes "steps") (λ (x : (Vec Step Global)). x.items ≡ [])
+          (named_kept (name "order-id") u64_kept p.id tt (λ q. q.id)
+          (named_kept (name "to") place_cbor_round_trip.kept-law p.to real.0 (λ q. q.to)
+          (named_or_kept (name "steps") (λ (x : (Vec Step Global)). x.items ≡ [])
           (let law : FormComesBack (⟦<Vec<Step> as RoundTrip<'de>>⟧.exists)
           (⟦<Vec<Step> as Serialize>⟧.script) (⟦<Vec<Step> as Deserialize<'de>>⟧.refusal)
           (⟦<Vec<Step> as Deserialize<'de>>⟧.gives) (⟦<Vec<Step> as PartialEq>⟧.eq) =
           (seen_kept (λ v. v.items) (seq_kept step_cbor_round_trip.kept-law)) in law) p.steps
           real.1 (λ q. q.steps)
-          (named_kept (codes "goods") (let law : FormComesBack
+          (named_kept (name "goods") (let law : FormComesBack
           (⟦<BTreeMap<String, u32> as RoundTrip<'de>>⟧.exists)
           (⟦<BTreeMap<String, u32> as Serialize>⟧.script)
           (⟦<BTreeMap<String, u32> as Deserialize<'de>>⟧.refusal)
@@ -876,7 +946,7 @@ impl<'de> CborRoundTrip<'de> for Order {
           (seen_kept (λ m. m.entries) (map_kept string_cmp_total
           (λ x y. texts_ties (string_bytes x) (string_bytes y)) text_kept u32_kept)) in law)
           p.goods real.2 (λ q. q.goods)
-          (named_kept (codes "size") (let law : FormComesBack
+          (named_kept (name "size") (let law : FormComesBack
           (⟦<(u16, u16, u16) as RoundTrip<'de>>⟧.exists)
           (⟦<(u16, u16, u16) as Serialize>⟧.script)
           (⟦<(u16, u16, u16) as Deserialize<'de>>⟧.refusal)
@@ -890,17 +960,16 @@ impl<'de> CborRoundTrip<'de> for Order {
                 (λ y h. both_hold (both_hold h.0 h.1.0) h.1.1.0);
           }) in law) p.size real.3
           (λ q. q.size)
-          (named_or_kept (codes "note")
-          (λ (x : (Option (Box (String Global) Global))). x ≡ None)
-          (let law : FormComesBack (⟦<Option<Box<String>> as RoundTrip<'de>>⟧.exists)
+          (named_or_kept (name "note") (λ (x : (Option (Box (String Global) Global))). x ≡
+          None) (let law : FormComesBack (⟦<Option<Box<String>> as RoundTrip<'de>>⟧.exists)
           (⟦<Option<Box<String>> as Serialize>⟧.script)
           (⟦<Option<Box<String>> as Deserialize<'de>>⟧.refusal)
           (⟦<Option<Box<String>> as Deserialize<'de>>⟧.gives)
           (⟦<Option<Box<String>> as PartialEq>⟧.eq) =
           (option_kept text_not_null (seen_kept (λ b. b.value) text_kept)) in law) p.note
           real.4 (λ q. q.note)
-          (skipped_kept (codes "order-id" ∷ codes "to" ∷ codes "steps" ∷ codes "goods" ∷ codes
-          "size" ∷ codes "note" ∷ [])))))))))
+          (skipped_kept (name "order-id" ∷ name "to" ∷ name "steps" ∷ name "goods" ∷
+          name "size" ∷ name "note" ∷ [])))))))))
           (λ q h. both_hold h.0 (both_hold h.1.0
           (both_hold h.1.1.0 (both_hold h.1.1.1.0 (both_hold h.1.1.1.1.0 h.1.1.1.1.1.0)))));
     } };
@@ -908,4 +977,140 @@ impl<'de> CborRoundTrip<'de> for Order {
 
 impl<'de> NotNull<'de> for Order {
     ghost refuses_null = { record { of_null = λ b e. absurd (cc e) } };
+}
+
+/// The name `Place`.
+#[tactic(auto, unfolding(serde_content::specs::Literals::name))]
+fn name_place() -> &'static str
+    ensures { result.now ≡ name "Place" }
+{
+    "Place"
+}
+
+/// The name `streetName`.
+#[tactic(auto, unfolding(serde_content::specs::Literals::name))]
+fn name_street_name() -> &'static str
+    ensures { result.now ≡ name "streetName" }
+{
+    "streetName"
+}
+
+/// The name `floor`.
+#[tactic(auto, unfolding(serde_content::specs::Literals::name))]
+fn name_floor() -> &'static str
+    ensures { result.now ≡ name "floor" }
+{
+    "floor"
+}
+
+/// The name `Step`.
+#[tactic(auto, unfolding(serde_content::specs::Literals::name))]
+fn name_step() -> &'static str
+    ensures { result.now ≡ name "Step" }
+{
+    "Step"
+}
+
+/// The name `open`.
+#[tactic(auto, unfolding(serde_content::specs::Literals::name))]
+fn name_open() -> &'static str
+    ensures { result.now ≡ name "open" }
+{
+    "open"
+}
+
+/// The name `weighed`.
+#[tactic(auto, unfolding(serde_content::specs::Literals::name))]
+fn name_weighed() -> &'static str
+    ensures { result.now ≡ name "weighed" }
+{
+    "weighed"
+}
+
+/// The name `moved-by`.
+#[tactic(auto, unfolding(serde_content::specs::Literals::name))]
+fn name_moved_by() -> &'static str
+    ensures { result.now ≡ name "moved-by" }
+{
+    "moved-by"
+}
+
+/// The name `left`.
+#[tactic(auto, unfolding(serde_content::specs::Literals::name))]
+fn name_left() -> &'static str
+    ensures { result.now ≡ name "left" }
+{
+    "left"
+}
+
+/// The name `with`.
+#[tactic(auto, unfolding(serde_content::specs::Literals::name))]
+fn name_with() -> &'static str
+    ensures { result.now ≡ name "with" }
+{
+    "with"
+}
+
+/// The name `at`.
+#[tactic(auto, unfolding(serde_content::specs::Literals::name))]
+fn name_at() -> &'static str
+    ensures { result.now ≡ name "at" }
+{
+    "at"
+}
+
+/// The name `Order`.
+#[tactic(auto, unfolding(serde_content::specs::Literals::name))]
+fn name_order() -> &'static str
+    ensures { result.now ≡ name "Order" }
+{
+    "Order"
+}
+
+/// The name `order-id`.
+#[tactic(auto, unfolding(serde_content::specs::Literals::name))]
+fn name_order_id() -> &'static str
+    ensures { result.now ≡ name "order-id" }
+{
+    "order-id"
+}
+
+/// The name `to`.
+#[tactic(auto, unfolding(serde_content::specs::Literals::name))]
+fn name_to() -> &'static str
+    ensures { result.now ≡ name "to" }
+{
+    "to"
+}
+
+/// The name `steps`.
+#[tactic(auto, unfolding(serde_content::specs::Literals::name))]
+fn name_steps() -> &'static str
+    ensures { result.now ≡ name "steps" }
+{
+    "steps"
+}
+
+/// The name `goods`.
+#[tactic(auto, unfolding(serde_content::specs::Literals::name))]
+fn name_goods() -> &'static str
+    ensures { result.now ≡ name "goods" }
+{
+    "goods"
+}
+
+/// The name `size`.
+#[tactic(auto, unfolding(serde_content::specs::Literals::name))]
+fn name_size() -> &'static str
+    ensures { result.now ≡ name "size" }
+{
+    "size"
+}
+
+/// The name `note`.
+#[tactic(auto, unfolding(serde_content::specs::Literals::name))]
+fn name_note() -> &'static str
+    ensures { result.now ≡ name "note" }
+{
+    "note"
 }
