@@ -47,12 +47,11 @@ def held(types: List[str], style: str) -> str:
 def structs() -> Dict[str, str]:
     """Structs by count of fields, by name and by place."""
     made = {}
-    for count in (0, 1, 2, 3, 6, 8, 9, 12, 20, 40):
+    for count in (1, 2, 3, 6, 8, 9, 12, 20, 40):
         for sort, kinds in (("mixed", MIXED), ("text", ["String"]), ("byte", ["u8"])):
             types = list(islice(cycle(kinds), count))
             made[f"struct_{sort}_{count}"] = f"{ALL}\npub struct Tried {named(types)}"
-            if count:
-                made[f"place_{sort}_{count}"] = f"{ALL}\npub struct Tried({', '.join('pub ' + t for t in types)});"
+            made[f"place_{sort}_{count}"] = f"{ALL}\npub struct Tried({', '.join('pub ' + t for t in types)});"
         types = list(islice(cycle(MIXED), count))
         made[f"closed_{count}"] = f"{BOTH}\n#[serde(deny_unknown_fields)]\npub struct Tried {named(types)}"
         made[f"sent_{count}"] = f"{SENT}\npub struct Tried {named(types)}"

@@ -49,8 +49,32 @@ class EnumWriter:
         """Those that the impls call."""
         return [text for v, holder in self.variants
                 for text in self.maker(v) * self.reads + holder.send_function() * self.sends
-                + (holder.names_lists() + self.reader(v, holder)) * self.reads
+                + self.whole_sender(v, holder) * self.sends + (holder.names_lists() + self.reader(v, holder)) * self.reads
                 ] + self.names_list() * self.reads
+
+    def whole_sender(self, v: Variant, holder: Holder) -> List[str]:
+        """The function that sends a variant of several values by the script of the enum: its proof
+        sees the types of this variant alone."""
+        if holder.count <= holder.most:
+            return []
+        places = v.data.places()
+        given = "".join(f", {p}: &{f.type.rust()}" for p, f in zip(places, v.data.fields))
+        value = " ".join([f"{self.cases}.{in_term(v.name)}"] + [f"{in_term(p)}.now" for p in places])
+        return [f"/// Sends that variant.\nfn {self.whole_name(v)}<S: Serializer>(alloc: Global, serializer: &mut S,"
+                f" whole: &{self.item.name}{given}) -> Result<()>\n"
+                + clause("requires", f"whole.now ≡ {value}")
+                + clause("ensures", "Sends S.step S.refuses (S.seen serializer.old)\n"
+                         f"(⟦<{self.item.name} as Serialize>⟧.script whole.now)\nresult (S.seen serializer.new)")
+                + f"{{\n{holder.send(self.sent(v))}\n}}\n"]
+
+    def whole_name(self, v: Variant) -> str:
+        return f"send_whole_{v.owner}"
+
+    def send_variant(self, v: Variant, holder: Holder) -> str:
+        """The code that sends a variant."""
+        if holder.count <= holder.most:
+            return holder.send(self.sent(v))
+        return f"{self.whole_name(v)}({', '.join(['alloc', 'serializer', 'self'] + v.data.places())})"
 
     def names_list(self) -> List[str]:
         """The type that stands for the names of the variants."""
@@ -84,7 +108,7 @@ class EnumWriter:
         return ["match self {"] + arms + ["}"]
 
     def serialize(self) -> List[str]:
-        sent = [arm(self.made(v, v.data.places()), [h.send(self.sent(v))]) for v, h in self.variants]
+        sent = [arm(self.made(v, v.data.places()), [self.send_variant(v, h)]) for v, h in self.variants]
         return [ghost("script", self.each(lambda v, holder, x: holder.script(x))),
                 ghost("lawful", self.each(lambda v, holder, x: f"λ readable. {holder.lawful(x)}")),
                 function(SERIALIZE, *self.match(sent))]
@@ -175,7 +199,7 @@ class EnumWriter:
         law = f"{holder.word}_kept{holder.kept(values, self.sees(holder))}"
         it = f"(given_as b {self.name} {name_term(v.wire)} d it)"
         read = elim([self.read(v, w, f"{it}.named", f"{it}.held") for w in self.item.variants])
-        return f"λ real. variant_comes_back _ Self.gives {bracketed(law)}\n(λ v. refl)\n(λ b d only. {read})"
+        return f"λ real. variant_comes_back {self.member('refusal')} Self.gives {bracketed(law)}\n(λ v. refl)\n(λ b d only. {read})"
 
     def read(self, sent: Variant, read: Variant, named: str = "it.0", held: str = "it.1") -> str:
         """That a variant that was read is equal to the one that was sent, by what is known of its
@@ -197,7 +221,7 @@ class EnumWriter:
     def keeps(self, v: Variant, holder: Holder, values: List[str]) -> str:
         """That a variant is given with coercion where it is without."""
         law = f"{holder.word}_keeps{holder.keeps(self.sees(holder))}"
-        return (f"λ p.\nlet q = variant_kept {self.name} {name_term(v.wire)} _ (λ v. refl) {bracketed(law)}\n"
+        return (f"λ p.\nlet q = variant_kept {{own = {bracketed(holder.refusal())}}} {self.name} {name_term(v.wire)}\n{self.member('refusal')} (λ v. refl) {bracketed(law)}\n"
                 f"o people {together(values)} p.free p.given in\nrecord {{ free = q.0; given = q.1 }}")
 
     @staticmethod

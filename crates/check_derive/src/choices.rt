@@ -119,6 +119,22 @@ fn send_command_move<S: Serializer, T1: Serialize, T2: Serialize>(
     )
 }
 
+/// Sends that variant.
+fn send_whole_command_move<S: Serializer>(
+    alloc: Global,
+    serializer: &mut S,
+    whole: &Command,
+    x: &i32,
+    y: &Option<i32>,
+) -> Result<()>
+    requires { whole.now ≡ command.Move x.now y.now }
+    ensures { Sends S.step S.refuses (S.seen serializer.old)
+        (⟦<Command as Serialize>⟧.script whole.now)
+        result (S.seen serializer.new) }
+{
+    send_command_move(alloc, serializer, x, y)
+}
+
 /// The names of its fields.
 struct FieldsOfCommandMove;
 
@@ -215,7 +231,7 @@ impl Serialize for Command {
                     &name_stop(),
                 )
             }
-            Command::Move { x, y } => send_command_move(alloc, serializer, x, y),
+            Command::Move { x, y } => send_whole_command_move(alloc, serializer, self, x, y),
         }
     }
 }

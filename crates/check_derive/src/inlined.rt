@@ -453,6 +453,21 @@ fn send_change_add<S: Serializer, T1: Serialize, T2: Serialize>(
     )
 }
 
+/// Sends that variant.
+fn send_whole_change_add<S: Serializer>(
+    alloc: Global,
+    serializer: &mut S,
+    whole: &Change,
+    x1: &Amount,
+) -> Result<()>
+    requires { whole.now ≡ change.Add x1.now }
+    ensures { Sends S.step S.refuses (S.seen serializer.old)
+        (⟦<Change as Serialize>⟧.script whole.now)
+        result (S.seen serializer.new) }
+{
+    send_change_add(alloc, serializer, &x1.count, &x1.unit)
+}
+
 /// The names of its fields.
 struct FieldsOfChangeAdd;
 
@@ -533,7 +548,7 @@ impl Serialize for Change {
 
     fn serialize<S: Serializer>(&self, alloc: Global, serializer: &mut S) -> Result<()> {
         match self {
-            Change::Add(x1) => send_change_add(alloc, serializer, &x1.count, &x1.unit),
+            Change::Add(x1) => send_whole_change_add(alloc, serializer, self, x1),
         }
     }
 }

@@ -525,25 +525,34 @@ impl<'de> RoundTrip<'de> for Step {
     ghost keeps = { record {
       of_origin = λ o people. elim [
         | step.Open ↦ λ p.
-            let q = variant_kept (name "Step") (name "open") _ (λ v. refl) unit_variant_keeps
+            let q = variant_kept {own = unit_variant_refusal} (name "Step") (name "open")
+            ⟦<Step as Variants<'de>>⟧.refusal (λ v. refl) unit_variant_keeps
             o people tt p.free p.given in
             record { free = q.0; given = q.1 }
         | step.Weighed x1 ↦ λ p.
-            let q = variant_kept (name "Step") (name "weighed") _ (λ v. refl)
+            let q = variant_kept {own = (newtype_variant_refusal
+            (⟦<u32 as Deserialize<'de>>⟧.refusal))} (name "Step") (name "weighed")
+            ⟦<Step as Variants<'de>>⟧.refusal (λ v. refl)
             (newtype_variant_keeps (natural_keeps kind.u32))
             o people x1 p.free p.given in
             record { free = q.0; given = q.1 }
         | step.Moved x1 x2 ↦ λ p.
-            let q = variant_kept (name "Step") (name "moved-by") _ (λ v. refl)
-            (tuple_variant_keeps
+            let q = variant_kept {own = (tuple_variant_refusal
+            (part_then 2 0 (⟦<i32 as Deserialize<'de>>⟧.refusal)
+            (part_then 2 1 (⟦<i32 as Deserialize<'de>>⟧.refusal)
+            (end_of_parts 2))))} (name "Step") (name "moved-by")
+            ⟦<Step as Variants<'de>>⟧.refusal (λ v. refl) (tuple_variant_keeps
             (part_keeps (λ (z : ℤ × ℤ). z.0) 2 0 (integer_keeps kind.i32)
             (part_keeps (λ (z : ℤ × ℤ). z.1) 2 1 (integer_keeps kind.i32)
             (parts_end_keeps 2))))
             o people (x1, x2) p.free p.given in
             record { free = q.0; given = q.1 }
         | step.Left x1 x2 ↦ λ p.
-            let q = variant_kept (name "Step") (name "left") _ (λ v. refl)
-            (struct_variant_keeps (by_name_keeps
+            let q = variant_kept {own = (struct_variant_refusal (read_by_name
+            (named_then (name "with") (⟦<String as Deserialize<'de>>⟧.refusal)
+            (named_then (name "at") (⟦<Place as Deserialize<'de>>⟧.refusal)
+            (others_skipped (name "with" ∷ name "at" ∷ []))))))} (name "Step") (name "left")
+            ⟦<Step as Variants<'de>>⟧.refusal (λ v. refl) (struct_variant_keeps (by_name_keeps
             (named_keeps (name "with") (λ (z : (String Global) × Place). z.0)
             (heedless_keeps (λ o. refusal_of (text_from o))
             (λ o (x : String Global). IsTaken (text_from o) (HasContent (string_bytes x))))
@@ -561,7 +570,8 @@ impl<'de> CborRoundTrip<'de> for Step {
 
     ghost kept = { unfold name index_among in record {
       of_value = elim [
-        | step.Open ↦ λ real. variant_comes_back _ Self.gives unit_variant_kept
+        | step.Open ↦ λ real. variant_comes_back ⟦<Step as Variants<'de>>⟧.refusal
+            Self.gives unit_variant_kept
             (λ v. refl)
             (λ b d only. elim [
               | step.Open ↦ λ it. refl
@@ -572,8 +582,8 @@ impl<'de> CborRoundTrip<'de> for Step {
               | step.Left y1 y2 ↦ λ it. other_variant
                   (given_as b (name "Step") (name "open") d it).named refl
             ])
-        | step.Weighed x1 ↦ λ real. variant_comes_back _ Self.gives
-            (newtype_variant_kept u32_kept x1 tt)
+        | step.Weighed x1 ↦ λ real. variant_comes_back ⟦<Step as Variants<'de>>⟧.refusal
+            Self.gives (newtype_variant_kept u32_kept x1 tt)
             (λ v. refl)
             (λ b d only. elim [
               | step.Open ↦ λ it. other_variant
@@ -585,7 +595,8 @@ impl<'de> CborRoundTrip<'de> for Step {
               | step.Left y1 y2 ↦ λ it. other_variant
                   (given_as b (name "Step") (name "weighed") d it).named refl
             ])
-        | step.Moved x1 x2 ↦ λ real. variant_comes_back _ Self.gives (tuple_variant_kept
+        | step.Moved x1 x2 ↦ λ real. variant_comes_back ⟦<Step as Variants<'de>>⟧.refusal
+            Self.gives (tuple_variant_kept
             (tuple_field_kept i32_kept x1 tt (λ (z : ℤ × ℤ). z.0) 2 0
             (tuple_field_kept i32_kept x2 tt (λ (z : ℤ × ℤ). z.1) 2 1
             (parts_end_kept 2))))
@@ -600,8 +611,8 @@ impl<'de> CborRoundTrip<'de> for Step {
               | step.Left y1 y2 ↦ λ it. other_variant
                   (given_as b (name "Step") (name "moved-by") d it).named refl
             ])
-        | step.Left x1 x2 ↦ λ real. variant_comes_back _ Self.gives
-            (struct_variant_kept (by_name_kept
+        | step.Left x1 x2 ↦ λ real. variant_comes_back ⟦<Step as Variants<'de>>⟧.refusal
+            Self.gives (struct_variant_kept (by_name_kept
             (named_kept (name "with") text_kept x1 tt (λ (z : (String Global) × Place). z.0)
             (named_kept (name "at") place_cbor_round_trip.kept-law x2 real
             (λ (z : (String Global) × Place). z.1)

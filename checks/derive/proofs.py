@@ -1,0 +1,95 @@
+"""Writes types of matrix.py into crates of a scratch repository, checks these, and prints what is not
+proved: proofs.py TOP ROOM COUNT SEED [--cbor], by checks/derive_proofs.sh."""
+import random
+import re
+import resource
+import shutil
+import subprocess
+import sys
+from pathlib import Path
+from typing import Dict, List
+
+from matrix import matrix
+
+LIBRARIES = ["content_tree", "content_ser", "content_build", "content_de", "serde_content", "content_cbor"]
+TOGETHER = 8
+
+
+def drawn(count: int, seed: int) -> Dict[str, str]:
+    """So many types of the matrix, or all."""
+    every = matrix()
+    names = random.Random(seed).sample(sorted(every), count) if count else sorted(every)
+    return {name: every[name] for name in names}
+
+
+def repository(top: Path, room: Path) -> None:
+    """A repository of the libraries, as they are built."""
+    lines = [line for line in (top / "crates.txt").read_text().splitlines()
+             if line.split(":")[0] in LIBRARIES]
+    (room / "crates.txt").write_text("\n".join(lines) + "\n")
+    shutil.copy(top / "HANDLES", room)
+    (room / ".git").mkdir()
+    for name in LIBRARIES:
+        subprocess.run(["cp", "-a", str(top / "crates" / name), str(room / "crates" / name)], check=True)
+
+
+def crate(top: Path, room: Path, name: str, types: Dict[str, str], flags: List[str]) -> List[str]:
+    """Writes the crate of these types; those that tools/derive refuses are left out, and named."""
+    source, refused = room / "crates" / name / "src", []
+    source.mkdir(parents=True)
+    for module, text in types.items():
+        declared = room / f"{module}.rs"
+        declared.write_text(text)
+        command = [str(top / "tools" / "derive"), "--crate", name, "--module", module, *flags, str(declared)]
+        written = subprocess.run(command, capture_output=True, text=True)
+        if written.returncode:
+            refused.append(module)
+            print(f"{module}: refused: {written.stderr.strip().splitlines()[-1]}", flush=True)
+        else:
+            (source / f"{module}.rt").write_text(written.stdout)
+    kept = [f"pub mod {module};" for module in types if module not in refused]
+    (source / "lib.rt").write_text("\n".join(["//! Types.", "#![tactic(auto)]", "", *kept, ""]))
+    with open(room / "crates.txt", "a") as crates:
+        crates.write(f"{name}: {' '.join(LIBRARIES[:1] + LIBRARIES[1:2] + LIBRARIES[3:])}\n")
+    return [module for module in types if module not in refused]
+
+
+def failing(name: str, module: str, log: str) -> str:
+    """The first goal of a module that is not proved, or nothing."""
+    found = re.search(rf"^(?:fn|impl|struct|enum|trait) {name}::{module}::(?!.*: proved$).*$", log, re.M)
+    goal = re.search(rf"^fn {name}::{module}::(\S+): no proof: .*?did not prove `([^`]*)`", log, re.M)
+    error = re.search(rf"^src/{module}\.rt:\d+:\d+: error: .*$", log, re.M)
+    return f"{goal.group(1)}: {goal.group(2)}" if goal else error.group(0) if error else found.group(0) if found else ""
+
+
+def check(room: Path, name: str, modules: List[str]) -> int:
+    """Checks a crate, prints what is not proved of it and its seconds, and gives how many those are."""
+    before = resource.getrusage(resource.RUSAGE_CHILDREN).ru_utime
+    done = subprocess.run(["rt", "check", "--jobs", "2"], cwd=room / "crates" / name, capture_output=True, text=True)
+    seconds = resource.getrusage(resource.RUSAGE_CHILDREN).ru_utime - before
+    log, count = done.stdout + done.stderr, 0
+    for module in modules:
+        why = failing(name, module, log)
+        if why or f" {name}::{module}::" not in log:
+            count += 1
+            print(f"{module}: not proved: {why or log.strip().splitlines()[-1]}", flush=True)
+    print(f"{name}: {len(modules) - count} of {len(modules)} proved, {seconds:.0f} s: {' '.join(modules)}", flush=True)
+    return count
+
+
+def main() -> int:
+    top, room = Path(sys.argv[1]), Path(sys.argv[2])
+    types, flags = drawn(int(sys.argv[3]), int(sys.argv[4])), sys.argv[5:]
+    (room / "crates").mkdir()
+    repository(top, room)
+    names, failed = list(types), 0
+    for place in range(0, len(names), TOGETHER):
+        name = f"types{place // TOGETHER}"
+        modules = crate(top, room, name, {one: types[one] for one in names[place:place + TOGETHER]}, flags)
+        failed += check(room, name, modules)
+    print(f"{len(types) - failed} of {len(types)} proved or refused")
+    return 1 if failed else 0
+
+
+if __name__ == "__main__":
+    sys.exit(main())
