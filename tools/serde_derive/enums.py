@@ -55,7 +55,7 @@ class EnumWriter:
     def whole_sender(self, v: Variant, holder: Holder) -> List[str]:
         """The function that sends a variant of several values by the script of the enum: its proof
         sees the types of this variant alone."""
-        if holder.count <= holder.most:
+        if not self.is_apart(v, holder):
             return []
         places = v.data.places()
         given = "".join(f", {p}: &{f.type.rust()}" for p, f in zip(places, v.data.fields))
@@ -65,7 +65,15 @@ class EnumWriter:
                 + clause("requires", f"whole.now ≡ {value}")
                 + clause("ensures", "Sends S.step S.refuses (S.seen serializer.old)\n"
                          f"(⟦<{self.item.name} as Serialize>⟧.script whole.now)\nresult (S.seen serializer.new)")
-                + f"{{\n{holder.send(self.sent(v))}\n}}\n"]
+                + f"{{\n{self.send_values(v, holder)}\n}}\n"]
+
+    def is_apart(self, v: Variant, holder: Holder) -> bool:
+        """Whether a variant is sent by a function of its own."""
+        return holder.count > holder.most
+
+    def send_values(self, v: Variant, holder: Holder) -> str:
+        """The call that sends its values."""
+        return holder.send(self.sent(v))
 
     def whole_name(self, v: Variant) -> str:
         return f"send_whole_{v.owner}"

@@ -22,10 +22,10 @@ class UntaggedWriter(EnumWriter):
         self.last = f"data did not match any variant of untagged enum {item.name}"
 
     def functions(self) -> List[str]:
-        return [text for v in self.item.variants
-                for text in self.maker(v) * self.reads + (self.sender(v) + self.whole_sender(v)) * self.sends]
+        return [text for v, holder in self.variants
+                for text in self.maker(v) * self.reads + (self.sender(v, holder) + self.whole_sender(v, holder)) * self.sends]
 
-    def sender(self, v: Variant) -> List[str]:
+    def sender(self, v: Variant, holder: Holder) -> List[str]:
         """The function that sends the values of a variant as a tuple."""
         count = len(v.data.fields)
         if count == 1:
@@ -34,28 +34,16 @@ class UntaggedWriter(EnumWriter):
         given = "".join(f", x{i + 1}: &T{i + 1}" for i in range(count))
         script = self.tuple_script([f"T{i + 1}.script x{i + 1}.now" for i in range(count)])
         return ["/// Sends values of any types, so that its proof looks into none.\n"
-                f"fn {self.sender_name(v)}<S: Serializer{types}>(alloc: Global, serializer: &mut S{given}) -> Result<()>\n"
+                f"fn {holder.sender}<S: Serializer{types}>(alloc: Global, serializer: &mut S{given}) -> Result<()>\n"
                 + clause("ensures", f"Sends S.step S.refuses (S.seen serializer.old)\n({script})\n"
                          "result (S.seen serializer.new)")
                 + f"{{\n{sending(f'Call::Tuple({count})', [('Call::Element', p) for p in v.data.places()])}\n}}\n"]
 
-    def whole_sender(self, v: Variant) -> List[str]:
-        """The function that sends a variant of several values, whose contract speaks of the whole enum."""
-        places = v.data.places()
-        if len(places) == 1:
-            return []
-        given = "".join(f", {place}: &{f.type.rust()}" for place, f in zip(places, v.data.fields))
-        whole = " ".join([f"{self.cases}.{v.name}"] + [f"{place}.now" for place in places])
-        name = self.item.name
-        return [f"/// Sends that variant.\nfn {self.sender_name(v)}_whole<S: Serializer>(alloc: Global, serializer: &mut S,"
-                f" whole: &{name}{given}) -> Result<()>\n"
-                + clause("requires", f"whole.now ≡ {whole}")
-                + clause("ensures", f"Sends S.step S.refuses (S.seen serializer.old)\n"
-                         f"(⟦<{name} as Serialize>⟧.script whole.now)\nresult (S.seen serializer.new)")
-                + f"{{\n{self.sender_name(v)}(alloc, serializer, {', '.join(places)})\n}}\n"]
+    def is_apart(self, v: Variant, holder: Holder) -> bool:
+        return len(v.data.fields) > 1
 
-    def sender_name(self, v: Variant) -> str:
-        return dict((w.name, holder) for w, holder in self.variants)[v.name].sender
+    def send_values(self, v: Variant, holder: Holder) -> str:
+        return f"{holder.sender}(alloc, serializer, {', '.join(v.data.places())})"
 
     def serialize(self) -> List[str]:
         return [ghost("script", self.each(lambda v, holder, x: self.script(v, x))),
@@ -84,7 +72,7 @@ class UntaggedWriter(EnumWriter):
         places = v.data.places()
         if len(places) == 1:
             return f"{places[0]}.serialize(alloc, serializer)"
-        return f"{self.sender_name(v)}_whole(alloc, serializer, self, {', '.join(places)})"
+        return f"{self.whole_name(v)}(alloc, serializer, self, {', '.join(places)})"
 
     def deserialize(self) -> List[str]:
         refusals = [f"({v.held().member(READ, 'refusal')} (in_buffer s))" for v in self.item.variants]

@@ -453,7 +453,7 @@ fn send_setting_range<S: Serializer, T1: Serialize, T2: Serialize>(
 }
 
 /// Sends that variant.
-fn send_setting_range_whole<S: Serializer>(
+fn send_whole_setting_range<S: Serializer>(
     alloc: Global,
     serializer: &mut S,
     whole: &Setting,
@@ -493,7 +493,7 @@ impl Serialize for Setting {
         match self {
             Setting::Flag(x1) => x1.serialize(alloc, serializer),
             Setting::Level(x1) => x1.serialize(alloc, serializer),
-            Setting::Range(x1, x2) => send_setting_range_whole(alloc, serializer, self, x1, x2),
+            Setting::Range(x1, x2) => send_whole_setting_range(alloc, serializer, self, x1, x2),
             Setting::Name(x1) => x1.serialize(alloc, serializer),
         }
     }
@@ -718,7 +718,7 @@ fn send_steps_pair<S: Serializer, T1: Serialize, T2: Serialize>(
 }
 
 /// Sends that variant.
-fn send_steps_pair_whole<S: Serializer>(
+fn send_whole_steps_pair<S: Serializer>(
     alloc: Global,
     serializer: &mut S,
     whole: &Steps,
@@ -752,7 +752,7 @@ impl Serialize for Steps {
 
     fn serialize<S: Serializer>(&self, alloc: Global, serializer: &mut S) -> Result<()> {
         match self {
-            Steps::Pair(x1, x2) => send_steps_pair_whole(alloc, serializer, self, x1, x2),
+            Steps::Pair(x1, x2) => send_whole_steps_pair(alloc, serializer, self, x1, x2),
             Steps::List(x1) => x1.serialize(alloc, serializer),
         }
     }
@@ -824,7 +824,7 @@ fn send_color_rgb<S: Serializer, T1: Serialize, T2: Serialize, T3: Serialize>(
 }
 
 /// Sends that variant.
-fn send_color_rgb_whole<S: Serializer>(
+fn send_whole_color_rgb<S: Serializer>(
     alloc: Global,
     serializer: &mut S,
     whole: &Color,
@@ -874,7 +874,7 @@ fn send_color_rgba<S: Serializer, T1: Serialize, T2: Serialize, T3: Serialize, T
 }
 
 /// Sends that variant.
-fn send_color_rgba_whole<S: Serializer>(
+fn send_whole_color_rgba<S: Serializer>(
     alloc: Global,
     serializer: &mut S,
     whole: &Color,
@@ -922,9 +922,9 @@ impl Serialize for Color {
 
     fn serialize<S: Serializer>(&self, alloc: Global, serializer: &mut S) -> Result<()> {
         match self {
-            Color::Rgb(x1, x2, x3) => send_color_rgb_whole(alloc, serializer, self, x1, x2, x3),
+            Color::Rgb(x1, x2, x3) => send_whole_color_rgb(alloc, serializer, self, x1, x2, x3),
             Color::Rgba(x1, x2, x3, x4) => {
-                send_color_rgba_whole(alloc, serializer, self, x1, x2, x3, x4)
+                send_whole_color_rgba(alloc, serializer, self, x1, x2, x3, x4)
             }
         }
     }
