@@ -84,7 +84,7 @@ def number(kind=None):
     """A tree of a number: small, or near the bounds of some kind."""
     kind = kind or pick(KINDS)
     least, greatest = bounds(kind)
-    near = pick([0, 1, 7, *bounds(pick(KINDS))]) + pick([-1, 0, 0, 1])
+    near = pick([0, 7, *bounds(pick(KINDS)), least, greatest]) + pick([-1, 0, 0, 1])
     return str(min(max(near, least), greatest)) + kind
 
 
@@ -159,8 +159,8 @@ def entry(sort=None):
 
 
 def counted(kind):
-    """A number of this kind, or one that may be coerced."""
-    return number(kind) if chance() < 0.6 else number()
+    """A number of this kind, or one of any that may be coerced, oftener a wide one."""
+    return number(kind) if chance() < 0.5 else number(pick([*KINDS, *KINDS[-4:]]))
 
 
 def wanted(request):
@@ -299,19 +299,35 @@ def pair():
                  (string("a"), string("a"))])
 
 
+def sent_as():
+    """What a tree holds, sent as a type."""
+    word = pick(["unit", "bool", "char", "String", "&str", "whole", "Number", "usize", "isize", "Option", "Box", "Vec",
+                 "tuple", "BTreeMap"])
+    makers = {
+        "String": lambda: "o" + quoted(text(), '"'), "whole": number, "Number": number, "usize": lambda: number("u64"),
+        "isize": lambda: number("i64"), "Option": lambda: pick(["None", f"Some({tree(3)})"]),
+        "Box": lambda: pick([struct, variant])(4),
+        "tuple": lambda: "Tuple[" + ", ".join(tree(3) for _ in range(pick([1, 2, 3, 4]))) + "]",
+    }
+    by_word = {"&str": "str", "Vec": "seq", "BTreeMap": "map"}
+    return word, makers.get(word, lambda: wanted(by_word.get(word, word)))()
+
+
 def whole():
     """An operation on whole trees."""
-    alone = [(word, tree()) for word in ("canonical", "send", "image", "copy", "own")]
-    compared = [(word, *pair()) for word in ("compare", "compare_images")]
-    part = pick([number, lambda: struct(3), lambda: variant(3)])
-    refused = [("unexpected", tree(3), expectation()), ("unexpected_part", part(), expectation())]
-    return pick([*alone, *compared, *refused, ("compare_expected", expectation(), expectation()), ordered()])
+    makers = {
+        "compare": pair, "compare_images": pair, "compare_expected": lambda: (expectation(), expectation()),
+        "order": ordered, "send_as": sent_as, "unexpected": lambda: (tree(3), expectation()),
+        "unexpected_part": lambda: (pick([number, lambda: struct(3), lambda: variant(3)])(), expectation()),
+    }
+    word = pick(["canonical", "send", "image", "copy", "own", *makers])
+    return word, *makers.get(word, lambda: (tree(),))()
 
 
 def ordered():
     """Two deserializers to compare."""
     one, other = pair()
-    return "order", pick(FLAGS), one, pick(FLAGS), other
+    return pick(FLAGS), one, pick(FLAGS), other
 
 
 # Lists of calls.

@@ -9,6 +9,12 @@ from collections import Counter
 from pathlib import Path
 
 ROWS_A_FILE = 2500
+SERDE_TEXTS = {
+    r"invalid length (\d+), expected a tuple of size (\d+)": r"too few elements: expected \2, found \1",
+    r"invalid type: string .*, expected a borrowed string": "expected a borrowed string",
+    "invalid type: byte array, expected a borrowed byte array": "expected borrowed bytes",
+    "invalid type: .*, expected a number": "expected a number",
+}
 
 
 class Case:
@@ -90,14 +96,6 @@ def serde_text(case):
     return None
 
 
-SERDE_TEXTS = {
-    r"invalid length (\d+), expected a tuple of size (\d+)": r"too few elements: expected \2, found \1",
-    r"invalid type: string .*, expected a borrowed string": "expected a borrowed string",
-    "invalid type: byte array, expected a borrowed byte array": "expected borrowed bytes",
-    "invalid type: .*, expected a number": "expected a number",
-}
-
-
 # The start of a line of docs/DIFFERENCES.md, and what it makes of an answer.
 RULES = {
     "a length hint reserves memory, and can panic": hint,
@@ -138,7 +136,7 @@ def lines_of(path):
 
 
 def write_rows(page, room):
-    """Writes the rows, and behind each other's number the lines of the page that it falls under."""
+    """Writes the rows, and of each the lines of the page that it falls under."""
     check_page(page)
     rows, named = [], []
     for case, answer in zip(lines_of(room / "cases"), lines_of(room / "answers"), strict=True):

@@ -14,6 +14,7 @@ mod sending;
 mod showing;
 mod stepping;
 mod trees;
+mod typed;
 mod whole;
 
 use std::io::{stdin, stdout, BufWriter, Write};

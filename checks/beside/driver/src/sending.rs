@@ -1,11 +1,11 @@
-//! The calls by which a tree is sent.
+//! The calls by which a value is sent.
 
 use crate::trees::{printed, printed_in_list};
 use serde::ser::{
     Serialize, SerializeMap, SerializeSeq, SerializeStruct, SerializeStructVariant, SerializeTuple,
     SerializeTupleStruct, SerializeTupleVariant, Serializer,
 };
-use serde_content::{Error, Value};
+use serde_content::Error;
 use std::cell::RefCell;
 use std::fmt::Display;
 
@@ -13,8 +13,8 @@ use std::fmt::Display;
 #[derive(Default)]
 struct Recorder(RefCell<Vec<String>>);
 
-/// The calls by which the tree is sent, and where that stops, its text.
-pub fn sent(tree: &Value) -> String {
+/// The calls by which it is sent, and where that stops, its text.
+pub fn sent<T: Serialize>(tree: &T) -> String {
     let recorder = Recorder::default();
     let end = tree.serialize(&recorder);
     let calls = recorder.0.take().join("; ");

@@ -6,6 +6,7 @@ use crate::handed::Flags;
 use crate::opening::image;
 use crate::sending::sent;
 use crate::trees::{printed, read, show};
+use crate::typed::sent_as;
 use serde_content::{DataType, Expected, Serializer, Unexpected, Value};
 
 /// What the crate makes of trees.
@@ -15,6 +16,7 @@ pub fn answer(operation: &str, columns: &[&'static str]) -> String {
             answered(Serializer::new().serialize(read(tree)).map(|tree: Value| show(&tree)))
         }
         ("send", [tree]) => sent(&read(tree)),
+        ("send_as", [typ, tree]) => sent_as(typ, read(tree)),
         ("image", [tree]) => printed(&image(read(tree)).to_string()),
         ("copy", [tree]) => show(&read(tree).clone()),
         ("own", [tree]) => show(&read(tree).into_owned()),
