@@ -5,7 +5,7 @@
 # It prints how many are the same, how many differ as a line of docs/DIFFERENCES.md says, for each line, and how many
 # differ otherwise: the first ten of these, and status 1. It works in the folder ROOM, which it makes and keeps. It
 # stands outside the gate, proves nothing, needs Debian's librust-serde-dev and librust-serde-derive-dev, rsync, cargo
-# and python3, and takes six minutes.
+# and python3, and takes four minutes.
 set -euo pipefail
 top=$(cd "$(dirname "$0")/.." && pwd)
 parts=$top/checks/beside
