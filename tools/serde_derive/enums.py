@@ -186,12 +186,16 @@ class EnumWriter:
         looks = self.item.asked()
         return [ghost("exists", self.each(lambda v, holder, x: holder.exists(x)))] * looks + [
             function(KNOWN, *self.match(known) * looks),
-            ghost("comes_back", opened(f"record {{\nof_value = {self.each(self.back)};\n}}")),
+            ghost("comes_back", self.opened(f"record {{\nof_value = {self.each(self.back)};\n}}")),
             ghost("keeps", self.coercion_keeps())]
 
     def coercion_keeps(self) -> str:
         """That what is given without coercion is given with it."""
-        return f"record {{\nof_origin = λ o people. {self.each(self.keeps)};\n}}"
+        return self.opened(f"record {{\nof_origin = λ o people. {self.each(self.keeps)};\n}}")
+
+    def opened(self, term: str) -> str:
+        """A law, which looks into the names of variants where there are some."""
+        return term if "untagged" in self.item.serde else opened(term)
 
     def back(self, v: Variant, holder: Holder, values: List[str]) -> str:
         """That a variant comes back."""
@@ -200,7 +204,7 @@ class EnumWriter:
                 f"(λ d only. {elim([self.read(v, w) for w in self.item.variants])})")
 
     def cbor_round_trip(self) -> List[str]:
-        return [ghost("kept", opened(f"record {{\nof_value = {self.each(self.kept)};\n}}"))]
+        return [ghost("kept", self.opened(f"record {{\nof_value = {self.each(self.kept)};\n}}"))]
 
     def kept(self, v: Variant, holder: Holder, values: List[str]) -> str:
         """That a variant comes back from CBOR."""

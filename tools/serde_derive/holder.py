@@ -3,7 +3,7 @@ from typing import Callable, List, NamedTuple, Optional, Tuple
 
 from .cases import pascal
 from .declarations import Data, Field
-from .literals import list_impl, list_term, name_call, name_term
+from .literals import SEALED, list_impl, list_term, name_call, name_term, opened_names
 from .text import clause, fields_reader, together
 from .types import READ, TRIP, nest, snake
 from .words import READERS, SENDERS
@@ -152,7 +152,7 @@ class Holder:
 
     def send_function(self) -> List[str]:
         """The function that sends more than two values; its proof sees none of their types. Of more
-        than eight it hands on the first eight to a further one."""
+        than eight it hands on all but the last eight to a further one, and names stand there as letters."""
         if self.count <= self.most:
             return []
         texts, start, head, before = [], 0, self.call, self.before
@@ -163,7 +163,7 @@ class Holder:
             script = f"P.first parts{self.row('script', inner, start=start)}" if start else self.script(
                 [f"{v}.now" for v in values], [f"T{i}.script" for i in places])
             calls = len(self.announced("", ""))
-            later = self.count if len(pairs) <= len(SENDERS) else start + (len(SENDERS) - len(before)) // calls
+            later = self.count if len(pairs) <= len(SENDERS) else max(start + 1, self.count - len(SENDERS) // calls)
             body = sending(head, pairs) if later == self.count else (
                 f"let parts = {handed_on(head, pairs[:len(before) + (later - start) * calls])};\n"
                 f"{self.sender_at(later)}(alloc, serializer, parts, {', '.join(values[later - start:])})")
@@ -176,7 +176,7 @@ class Holder:
                          + clause("ensures", f"Sends S.step S.refuses (S.seen serializer.old)\n({script})\n"
                                   "result (S.seen serializer.new)") + f"{{\n{body}\n}}\n")
             if later == self.count:
-                return texts
+                return texts if not start else [opened_names(text) for text in texts]
             start, head, before = later, "parts", []
 
     def sender_at(self, start: int) -> str:
@@ -240,7 +240,8 @@ class Holder:
             texts.insert(0, fields_reader(
                 "Fields, wherever they stand.", self.reader_at(start), result,
                 self.row("refusal", refusals, start=start),
-                f"λ z. {self.row('gives', gives, start=start)}\n(fields_left fields.entry)", lines))
+                f"λ z. {self.row('gives', gives, start=start)}\n(fields_left fields.entry)", lines,
+                SEALED if len(rest) > len(READERS) else ""))
             start += 2 if len(rest) > len(READERS) else len(rest)
         return texts
 
@@ -248,7 +249,7 @@ class Holder:
     def taking(f: Field, place: str) -> str:
         """The statement that reads one field."""
         reader, missing = ("field_or", f", {f.missing[0]}") if f.missing else ("named_field", "")
-        return f'let {place} = {reader}(alloc, &mut fields, {name_call(f.wire)}{missing})?;'
+        return f'let {place} = {reader}(alloc, &mut fields, "{f.wire}"{missing})?;'
 
     def taken(self, fields: List[Field]) -> str:
         """The call that reads all fields, up to six, and what is left over."""

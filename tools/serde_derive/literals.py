@@ -28,6 +28,12 @@ def list_term(names: List[str]) -> str:
     return "(" + " ∷ ".join([name_term(name)[1:-1] for name in names] + ["[]"]) + ")"
 
 
+def opened_names(function: str) -> str:
+    """A function, after its one line of comment, with its names as letters."""
+    about, code = function.split("\n", 1)
+    return f"{about}\n{SEALED}\n" + CALL.sub(lambda found: f'"{found.group(1)}"', code)
+
+
 def opened(term: str) -> str:
     """A term that looks into names."""
     return f"unfold name index_among in {term}"

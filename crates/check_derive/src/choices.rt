@@ -349,7 +349,7 @@ impl<'de> RoundTrip<'de> for Command {
       ];
     } };
 
-    ghost keeps = { record {
+    ghost keeps = { unfold name index_among in record {
       of_origin = λ o people. elim [
         | command.Stop ↦ λ p.
             let q = (struct_keeps (name "Command") (by_name_keeps
@@ -542,7 +542,7 @@ impl<'de> Deserialize<'de> for Setting {
 impl<'de> RoundTrip<'de> for Setting {
     fn known(&self) {}
 
-    ghost comes_back = { unfold name index_among in record {
+    ghost comes_back = { record {
       of_value = elim [
         | setting.Flag x1 ↦ λ real f. such_seen (λ t one. record {
           free = first_taken _ _ one.free;
@@ -612,7 +612,7 @@ impl<'de> RoundTrip<'de> for Setting {
 }
 
 impl<'de> CborRoundTrip<'de> for Setting {
-    ghost kept = { unfold name index_among in record {
+    ghost kept = { record {
       of_value = elim [
         | setting.Flag x1 ↦ λ real. such_seen (λ t one fits b. record {
           free = first_taken _ _ (one fits true).free;
@@ -961,7 +961,7 @@ impl<'de> Deserialize<'de> for Color {
 impl<'de> RoundTrip<'de> for Color {
     fn known(&self) {}
 
-    ghost comes_back = { unfold name index_among in record {
+    ghost comes_back = { record {
       of_value = elim [
         | color.Rgb x1 x2 x3 ↦ λ real f. such_seen (λ t one. record {
           free = first_taken _ _ one.free;
@@ -1009,7 +1009,7 @@ impl<'de> RoundTrip<'de> for Color {
 }
 
 impl<'de> CborRoundTrip<'de> for Color {
-    ghost kept = { unfold name index_among in record {
+    ghost kept = { record {
       of_value = elim [
         | color.Rgb x1 x2 x3 ↦ λ real. such_seen (λ t one fits b. record {
           free = first_taken _ _ (one fits true).free;

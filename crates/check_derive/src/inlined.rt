@@ -652,7 +652,7 @@ impl<'de> RoundTrip<'de> for Change {
       ];
     } };
 
-    ghost keeps = { record {
+    ghost keeps = { unfold name index_among in record {
       of_origin = λ o people. elim [
         | change.Add x1 ↦ λ p.
             let q = (struct_keeps (name "Change") (by_name_keeps

@@ -553,7 +553,7 @@ impl<'de> RoundTrip<'de> for Message {
       ];
     } };
 
-    ghost keeps = { record {
+    ghost keeps = { unfold name index_among in record {
       of_origin = λ o people. elim [
         | message.Ping ↦ λ p.
             let q = (struct_keeps (name "Message") (by_name_keeps
