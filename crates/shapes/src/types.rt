@@ -477,7 +477,7 @@ impl<'de> RoundTrip<'de> for Step {
       ];
     } };
 
-    ghost keeps = { record {
+    ghost keeps = { unfold name index_among in record {
       of_origin = λ o people. elim [
         | step.Open ↦ λ p.
             let q = variant_kept {own = unit_variant_refusal} (name "Step") (name "open")
