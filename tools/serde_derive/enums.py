@@ -186,32 +186,28 @@ class EnumWriter:
         looks = self.item.asked()
         return [ghost("exists", self.each(lambda v, holder, x: holder.exists(x)))] * looks + [
             function(KNOWN, *self.match(known) * looks),
-            ghost("comes_back", self.opened(f"record {{\nof_value = {self.each(self.back)};\n}}")),
+            ghost("comes_back", f"record {{\nof_value = {self.each(self.back)};\n}}"),
             ghost("keeps", self.coercion_keeps())]
 
     def coercion_keeps(self) -> str:
         """That what is given without coercion is given with it."""
-        return self.opened(f"record {{\nof_origin = λ o people. {self.each(self.keeps)};\n}}")
-
-    def opened(self, term: str) -> str:
-        """A law, which looks into the names of variants where there are some."""
-        return term if "untagged" in self.item.serde else opened(term)
+        return f"record {{\nof_origin = λ o people. {self.each(self.keeps)};\n}}"
 
     def back(self, v: Variant, holder: Holder, values: List[str]) -> str:
         """That a variant comes back."""
         law = f"{holder.word}_back{holder.back(values, self.sees(holder))}"
-        return (f"λ real f. variant_back Self.refusal Self.gives {bracketed(law)}\nf (λ d. refl)\n"
-                f"(λ d only. {elim([self.read(v, w) for w in self.item.variants])})")
+        return (f"λ real f. variant_back Self.refusal Self.gives {bracketed(law)}\nf ({opened('λ d. refl')})\n"
+                f"({opened('λ d only. ' + elim([self.read(v, w) for w in self.item.variants]))})")
 
     def cbor_round_trip(self) -> List[str]:
-        return [ghost("kept", self.opened(f"record {{\nof_value = {self.each(self.kept)};\n}}"))]
+        return [ghost("kept", f"record {{\nof_value = {self.each(self.kept)};\n}}")]
 
     def kept(self, v: Variant, holder: Holder, values: List[str]) -> str:
         """That a variant comes back from CBOR."""
         law = f"{holder.word}_kept{holder.kept(values, self.sees(holder))}"
         it = f"(given_as b {self.name} {name_term(v.wire)} d it)"
         read = elim([self.read(v, w, f"{it}.named", f"{it}.held") for w in self.item.variants])
-        return f"λ real. variant_comes_back {self.member('refusal')} Self.gives {bracketed(law)}\n(λ v. refl)\n(λ b d only. {read})"
+        return f"λ real. variant_comes_back {self.member('refusal')} Self.gives {bracketed(law)}\n({opened('λ v. refl')})\n({opened('λ b d only. ' + read)})"
 
     def read(self, sent: Variant, read: Variant, named: str = "it.0", held: str = "it.1") -> str:
         """That a variant that was read is equal to the one that was sent, by what is known of its
@@ -233,7 +229,7 @@ class EnumWriter:
     def keeps(self, v: Variant, holder: Holder, values: List[str]) -> str:
         """That a variant is given with coercion where it is without."""
         law = f"{holder.word}_keeps{holder.keeps(self.sees(holder))}"
-        return (f"λ p.\nlet q = variant_kept {{own = {bracketed(holder.refusal())}}} {self.name} {name_term(v.wire)}\n{self.member('refusal')} (λ v. refl) {bracketed(law)}\n"
+        return (f"λ p.\nlet q = variant_kept {{own = {bracketed(holder.refusal())}}} {self.name} {name_term(v.wire)}\n{self.member('refusal')} ({opened('λ v. refl')}) {bracketed(law)}\n"
                 f"o people {together(values)} p.free p.given in\nrecord {{ free = q.0; given = q.1 }}")
 
     @staticmethod

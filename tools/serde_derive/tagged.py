@@ -6,7 +6,7 @@ from typing import List, Optional
 from .declarations import Data, Field, Item, Refused, Variant
 from .enums import EnumWriter
 from .holder import Holder
-from .literals import name_call, name_method, name_term
+from .literals import name_call, name_method, name_term, opened
 from .text import DESERIALIZE, elim, function, ghost, together
 from .types import DEFAULTS, nest
 
@@ -105,14 +105,14 @@ class TaggedWriter(EnumWriter):
     def back(self, v: Variant, holder: Holder, values: List[str]) -> str:
         row = self.unit(v, holder.back_row(values, self.sees(holder)))
         beside = "(buffering f)" if self.buffered else "f"
-        return (f"λ real f. tagged_back Self.refusal Self.gives{row}\nf {beside} refl (λ fs. refl)\n"
-                f"(λ fs only. {elim([self.read(v, w) for w in self.item.variants])})")
+        return (f"λ real f. tagged_back Self.refusal Self.gives{row}\nf {beside} refl ({opened('λ fs. refl')})\n"
+                f"({opened('λ fs only. ' + elim([self.read(v, w) for w in self.item.variants]))})")
 
     def kept(self, v: Variant, holder: Holder, values: List[str]) -> str:
         row = self.unit(v, holder.kept_row(values, self.sees(holder)))
         inside = "true" if self.buffered else "b"
-        return (f"λ real. tagged_kept Self.refusal Self.gives{row}\n(λ b. {inside}) (λ b fs. refl)\n"
-                f"(λ b fs only. {elim([self.read(v, w) for w in self.item.variants])})")
+        return (f"λ real. tagged_kept Self.refusal Self.gives{row}\n(λ b. {inside}) ({opened('λ b fs. refl')})\n"
+                f"({opened('λ b fs only. ' + elim([self.read(v, w) for w in self.item.variants]))})")
 
     def keeps(self, v: Variant, holder: Holder, values: List[str]) -> str:
         return (f"λ p.\nlet q = (struct_keeps {name_term(self.item.wire)} (by_name_keeps\n"
@@ -124,7 +124,7 @@ class TaggedWriter(EnumWriter):
         """The law that what the fields give without coercion they give with it."""
         words = f"{name_term(self.tag)} {name_term(v.wire)} {self.member('refusal')}"
         if not self.buffered:
-            return f"tag_keeps {words} (λ f. refl){self.unit(v, holder.keeps_row(self.sees(holder)))}"
+            return f"tag_keeps {{own ={holder.refusal_row()}}} {words}\n({opened('λ f. refl')}){self.unit(v, holder.keeps_row(self.sees(holder)))}"
         values = ["z"] if holder.count == 1 else [f"z.{i}" for i in range(holder.count)]
         seen = " × ".join(f.type.seen() for f in holder.fields) or "Unit {0}"
         return f"tag_keeps_buffered {words}\n(λ (z : {seen}).{holder.gives_row(values)})"

@@ -323,12 +323,12 @@ impl<'de> RoundTrip<'de> for Command {
         }
     }
 
-    ghost comes_back = { unfold name index_among in record {
+    ghost comes_back = { record {
       of_value = elim [
         | command.Stop ↦ λ real f. tagged_back Self.refusal Self.gives
             (skipped_back {Y = Unit {0}} (name "kind" ∷ []))
-            f (buffering f) refl (λ fs. refl)
-            (λ fs only. elim [
+            f (buffering f) refl (unfold name index_among in λ fs. refl)
+            (unfold name index_among in λ fs only. elim [
               | command.Stop ↦ λ it. refl
               | command.Move y1 y2 ↦ λ it. other_variant it.0 refl
             ])
@@ -340,8 +340,8 @@ impl<'de> RoundTrip<'de> for Command {
             (⟦<Option<i32> as Deserialize<'de>>⟧.gives) (⟦<Option<i32> as PartialEq>⟧.eq) =
             (option_back i32_back) in law) x2 real (λ (z : ℤ × (Option ℤ)). z.1)
             (skipped_back (name "kind" ∷ name "x" ∷ name "y" ∷ []))))
-            f (buffering f) refl (λ fs. refl)
-            (λ fs only. elim [
+            f (buffering f) refl (unfold name index_among in λ fs. refl)
+            (unfold name index_among in λ fs only. elim [
               | command.Stop ↦ λ it. other_variant it.0 refl
               | command.Move y1 y2 ↦ λ it. let same = only (y1, y2) it.1 in both_hold same.0
                   same.1.0
@@ -349,7 +349,7 @@ impl<'de> RoundTrip<'de> for Command {
       ];
     } };
 
-    ghost keeps = { unfold name index_among in record {
+    ghost keeps = { record {
       of_origin = λ o people. elim [
         | command.Stop ↦ λ p.
             let q = (struct_keeps (name "Command") (by_name_keeps
@@ -375,12 +375,12 @@ impl<'de> RoundTrip<'de> for Command {
 }
 
 impl<'de> CborRoundTrip<'de> for Command {
-    ghost kept = { unfold name index_among in record {
+    ghost kept = { record {
       of_value = elim [
         | command.Stop ↦ λ real. tagged_kept Self.refusal Self.gives
             (skipped_kept {Y = Unit {0}} (name "kind" ∷ []))
-            (λ b. true) (λ b fs. refl)
-            (λ b fs only. elim [
+            (λ b. true) (unfold name index_among in λ b fs. refl)
+            (unfold name index_among in λ b fs only. elim [
               | command.Stop ↦ λ it. refl
               | command.Move y1 y2 ↦ λ it. other_variant it.0 refl
             ])
@@ -393,8 +393,8 @@ impl<'de> CborRoundTrip<'de> for Command {
             (option_kept (number_not_null kind.i32) i32_kept) in law) x2 real
             (λ (z : ℤ × (Option ℤ)). z.1)
             (skipped_kept (name "kind" ∷ name "x" ∷ name "y" ∷ []))))
-            (λ b. true) (λ b fs. refl)
-            (λ b fs only. elim [
+            (λ b. true) (unfold name index_among in λ b fs. refl)
+            (unfold name index_among in λ b fs only. elim [
               | command.Stop ↦ λ it. other_variant it.0 refl
               | command.Move y1 y2 ↦ λ it. let same = only (y1, y2) it.1 in both_hold same.0
                   same.1.0

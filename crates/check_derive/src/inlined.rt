@@ -631,7 +631,7 @@ impl<'de> RoundTrip<'de> for Change {
         }
     }
 
-    ghost comes_back = { unfold name index_among in record {
+    ghost comes_back = { record {
       of_value = elim [
         | change.Add x1 ↦ λ real f. tagged_back Self.refusal Self.gives
             (named_back (name "count") i32_back x1.count tt
@@ -644,15 +644,15 @@ impl<'de> RoundTrip<'de> for Change {
             = (option_back text_back) in law) x1.unit real
             (λ (z : ℤ × (Option (String Global))). z.1)
             (skipped_back (name "op" ∷ name "count" ∷ name "unit" ∷ []))))
-            f (buffering f) refl (λ fs. refl)
-            (λ fs only. elim [
+            f (buffering f) refl (unfold name index_among in λ fs. refl)
+            (unfold name index_among in λ fs only. elim [
               | change.Add y1 ↦ λ it. let same = only (y1.count, y1.unit) it.1 in both_hold same.0
                   same.1.0
             ])
       ];
     } };
 
-    ghost keeps = { unfold name index_among in record {
+    ghost keeps = { record {
       of_origin = λ o people. elim [
         | change.Add x1 ↦ λ p.
             let q = (struct_keeps (name "Change") (by_name_keeps
@@ -670,7 +670,7 @@ impl<'de> RoundTrip<'de> for Change {
 }
 
 impl<'de> CborRoundTrip<'de> for Change {
-    ghost kept = { unfold name index_among in record {
+    ghost kept = { record {
       of_value = elim [
         | change.Add x1 ↦ λ real. tagged_kept Self.refusal Self.gives
             (named_kept (name "count") i32_kept x1.count tt
@@ -683,8 +683,8 @@ impl<'de> CborRoundTrip<'de> for Change {
             = (option_kept text_not_null text_kept) in law) x1.unit real
             (λ (z : ℤ × (Option (String Global))). z.1)
             (skipped_kept (name "op" ∷ name "count" ∷ name "unit" ∷ []))))
-            (λ b. true) (λ b fs. refl)
-            (λ b fs only. elim [
+            (λ b. true) (unfold name index_among in λ b fs. refl)
+            (unfold name index_among in λ b fs only. elim [
               | change.Add y1 ↦ λ it. let same = only (y1.count, y1.unit) it.1 in both_hold same.0
                   same.1.0
             ])

@@ -533,39 +533,44 @@ impl<'de> Deserialize<'de> for Message {
 impl<'de> RoundTrip<'de> for Message {
     fn known(&self) {}
 
-    ghost comes_back = { unfold name index_among in record {
+    ghost comes_back = { record {
       of_value = elim [
         | message.Ping ↦ λ real f. tagged_back Self.refusal Self.gives
             (skipped_back {Y = Unit {0}} (name "t" ∷ []))
-            f f refl (λ fs. refl)
-            (λ fs only. elim [
+            f f refl (unfold name index_among in λ fs. refl)
+            (unfold name index_among in λ fs only. elim [
               | message.Ping ↦ λ it. refl
               | message.Text y1 ↦ λ it. other_variant it.0 refl
             ])
         | message.Text x1 ↦ λ real f. tagged_back Self.refusal Self.gives
             (named_back (name "c") text_back x1 tt (λ (z : (String Global)). z)
             (skipped_back (name "t" ∷ name "c" ∷ [])))
-            f f refl (λ fs. refl)
-            (λ fs only. elim [
+            f f refl (unfold name index_among in λ fs. refl)
+            (unfold name index_among in λ fs only. elim [
               | message.Ping ↦ λ it. other_variant it.0 refl
               | message.Text y1 ↦ λ it. let same = only y1 it.1 in same.0
             ])
       ];
     } };
 
-    ghost keeps = { unfold name index_among in record {
+    ghost keeps = { record {
       of_origin = λ o people. elim [
         | message.Ping ↦ λ p.
             let q = (struct_keeps (name "Message") (by_name_keeps
-            (tag_keeps (name "t") (name "Ping") ⟦<Message as TaggedVariants<'de>>⟧.refusal
-            (λ f. refl)
+            (tag_keeps {own =
+            (others_skipped (name "t" ∷ []))} (name "t") (name "Ping")
+            ⟦<Message as TaggedVariants<'de>>⟧.refusal
+            (unfold name index_among in λ f. refl)
             (skipped_keeps {Y = Unit {0}} (name "t" ∷ []))))).of_origin o people tt
             (record { free = p.free; given = p.given }) in
             record { free = q.free; given = q.given }
         | message.Text x1 ↦ λ p.
             let q = (struct_keeps (name "Message") (by_name_keeps
-            (tag_keeps (name "t") (name "Text") ⟦<Message as TaggedVariants<'de>>⟧.refusal
-            (λ f. refl)
+            (tag_keeps {own =
+            (named_then (name "c") (⟦<String as Deserialize<'de>>⟧.refusal)
+            (others_skipped (name "t" ∷ name "c" ∷ [])))} (name "t") (name "Text")
+            ⟦<Message as TaggedVariants<'de>>⟧.refusal
+            (unfold name index_among in λ f. refl)
             (named_keeps (name "c") (λ (z : (String Global)). z)
             (heedless_keeps (λ o. refusal_of (text_from o))
             (λ o (x : String Global). IsTaken (text_from o) (HasContent (string_bytes x))))
@@ -577,20 +582,20 @@ impl<'de> RoundTrip<'de> for Message {
 }
 
 impl<'de> CborRoundTrip<'de> for Message {
-    ghost kept = { unfold name index_among in record {
+    ghost kept = { record {
       of_value = elim [
         | message.Ping ↦ λ real. tagged_kept Self.refusal Self.gives
             (skipped_kept {Y = Unit {0}} (name "t" ∷ []))
-            (λ b. b) (λ b fs. refl)
-            (λ b fs only. elim [
+            (λ b. b) (unfold name index_among in λ b fs. refl)
+            (unfold name index_among in λ b fs only. elim [
               | message.Ping ↦ λ it. refl
               | message.Text y1 ↦ λ it. other_variant it.0 refl
             ])
         | message.Text x1 ↦ λ real. tagged_kept Self.refusal Self.gives
             (named_kept (name "c") text_kept x1 tt (λ (z : (String Global)). z)
             (skipped_kept (name "t" ∷ name "c" ∷ [])))
-            (λ b. b) (λ b fs. refl)
-            (λ b fs only. elim [
+            (λ b. b) (unfold name index_among in λ b fs. refl)
+            (unfold name index_among in λ b fs only. elim [
               | message.Ping ↦ λ it. other_variant it.0 refl
               | message.Text y1 ↦ λ it. let same = only y1 it.1 in same.0
             ])

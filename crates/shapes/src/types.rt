@@ -429,11 +429,11 @@ impl<'de> RoundTrip<'de> for Step {
         }
     }
 
-    ghost comes_back = { unfold name index_among in record {
+    ghost comes_back = { record {
       of_value = elim [
         | step.Open ↦ λ real f. variant_back Self.refusal Self.gives unit_variant_back
-            f (λ d. refl)
-            (λ d only. elim [
+            f (unfold name index_among in λ d. refl)
+            (unfold name index_among in λ d only. elim [
               | step.Open ↦ λ it. refl
               | step.Weighed y1 ↦ λ it. other_variant it.0 refl
               | step.Moved y1 y2 ↦ λ it. other_variant it.0 refl
@@ -441,8 +441,8 @@ impl<'de> RoundTrip<'de> for Step {
             ])
         | step.Weighed x1 ↦ λ real f. variant_back Self.refusal Self.gives
             (newtype_variant_back u32_back x1 tt)
-            f (λ d. refl)
-            (λ d only. elim [
+            f (unfold name index_among in λ d. refl)
+            (unfold name index_among in λ d only. elim [
               | step.Open ↦ λ it. other_variant it.0 refl
               | step.Weighed y1 ↦ λ it. only y1 it.1
               | step.Moved y1 y2 ↦ λ it. other_variant it.0 refl
@@ -453,8 +453,8 @@ impl<'de> RoundTrip<'de> for Step {
             (tuple_field_back i32_back x1 tt (λ (z : ℤ × ℤ). z.0) 2 0
             (tuple_field_back i32_back x2 tt (λ (z : ℤ × ℤ). z.1) 2 1
             (parts_end 2))))
-            f (λ d. refl)
-            (λ d only. elim [
+            f (unfold name index_among in λ d. refl)
+            (unfold name index_among in λ d only. elim [
               | step.Open ↦ λ it. other_variant it.0 refl
               | step.Weighed y1 ↦ λ it. other_variant it.0 refl
               | step.Moved y1 y2 ↦ λ it. let same = only (y1, y2) it.1 in both_hold same.0
@@ -467,8 +467,8 @@ impl<'de> RoundTrip<'de> for Step {
             (named_back (name "at") place_round_trip.comes_back-law x2 real
             (λ (z : (String Global) × Place). z.1)
             (skipped_back (name "with" ∷ name "at" ∷ []))))))
-            f (λ d. refl)
-            (λ d only. elim [
+            f (unfold name index_among in λ d. refl)
+            (unfold name index_among in λ d only. elim [
               | step.Open ↦ λ it. other_variant it.0 refl
               | step.Weighed y1 ↦ λ it. other_variant it.0 refl
               | step.Moved y1 y2 ↦ λ it. other_variant it.0 refl
@@ -477,17 +477,18 @@ impl<'de> RoundTrip<'de> for Step {
       ];
     } };
 
-    ghost keeps = { unfold name index_among in record {
+    ghost keeps = { record {
       of_origin = λ o people. elim [
         | step.Open ↦ λ p.
             let q = variant_kept {own = unit_variant_refusal} (name "Step") (name "open")
-            ⟦<Step as Variants<'de>>⟧.refusal (λ v. refl) unit_variant_keeps
+            ⟦<Step as Variants<'de>>⟧.refusal (unfold name index_among in λ v. refl)
+            unit_variant_keeps
             o people tt p.free p.given in
             record { free = q.0; given = q.1 }
         | step.Weighed x1 ↦ λ p.
             let q = variant_kept {own = (newtype_variant_refusal
             (⟦<u32 as Deserialize<'de>>⟧.refusal))} (name "Step") (name "weighed")
-            ⟦<Step as Variants<'de>>⟧.refusal (λ v. refl)
+            ⟦<Step as Variants<'de>>⟧.refusal (unfold name index_among in λ v. refl)
             (newtype_variant_keeps (natural_keeps kind.u32))
             o people x1 p.free p.given in
             record { free = q.0; given = q.1 }
@@ -496,7 +497,8 @@ impl<'de> RoundTrip<'de> for Step {
             (part_then 2 0 (⟦<i32 as Deserialize<'de>>⟧.refusal)
             (part_then 2 1 (⟦<i32 as Deserialize<'de>>⟧.refusal)
             (end_of_parts 2))))} (name "Step") (name "moved-by")
-            ⟦<Step as Variants<'de>>⟧.refusal (λ v. refl) (tuple_variant_keeps
+            ⟦<Step as Variants<'de>>⟧.refusal (unfold name index_among in λ v. refl)
+            (tuple_variant_keeps
             (part_keeps (λ (z : ℤ × ℤ). z.0) 2 0 (integer_keeps kind.i32)
             (part_keeps (λ (z : ℤ × ℤ). z.1) 2 1 (integer_keeps kind.i32)
             (parts_end_keeps 2))))
@@ -507,7 +509,8 @@ impl<'de> RoundTrip<'de> for Step {
             (named_then (name "with") (⟦<String as Deserialize<'de>>⟧.refusal)
             (named_then (name "at") (⟦<Place as Deserialize<'de>>⟧.refusal)
             (others_skipped (name "with" ∷ name "at" ∷ []))))))} (name "Step") (name "left")
-            ⟦<Step as Variants<'de>>⟧.refusal (λ v. refl) (struct_variant_keeps (by_name_keeps
+            ⟦<Step as Variants<'de>>⟧.refusal (unfold name index_among in λ v. refl)
+            (struct_variant_keeps (by_name_keeps
             (named_keeps (name "with") (λ (z : (String Global) × Place). z.0)
             (heedless_keeps (λ o. refusal_of (text_from o))
             (λ o (x : String Global). IsTaken (text_from o) (HasContent (string_bytes x))))
