@@ -3,7 +3,7 @@
 # checks/derive/matrix.py: COUNT of them, drawn by SEED, or all. It prints each type that is not proved, with the first goal
 # that fails, and the seconds of each crate of eight types. It works in a scratch repository on copies of the libraries with
 # their kept proofs, so build these first (`rt all check` here); all types take hours. Its status is 1 where one is not proved.
-# With CBOR=1 the types are written with `--cbor`.
+# With CBOR=1 the types are written with `--cbor`; JOBS=1 checks with one job in place of two.
 set -eu
 top=$(cd "$(dirname "$0")/.." && pwd)
 room=$(mktemp -d)

@@ -1,5 +1,6 @@
 """Writes types of matrix.py into crates of a scratch repository, checks these, and prints what is not
 proved: proofs.py TOP ROOM COUNT SEED [--cbor], by checks/derive_proofs.sh."""
+import os
 import random
 import re
 import resource
@@ -65,7 +66,7 @@ def failing(name: str, module: str, log: str) -> str:
 def check(room: Path, name: str, modules: List[str]) -> int:
     """Checks a crate, prints what is not proved of it and its seconds, and gives how many those are."""
     before = resource.getrusage(resource.RUSAGE_CHILDREN).ru_utime
-    done = subprocess.run(["rt", "check", "--jobs", "2"], cwd=room / "crates" / name, capture_output=True, text=True)
+    done = subprocess.run(["rt", "check", "--jobs", os.environ.get("JOBS", "2")], cwd=room / "crates" / name, capture_output=True, text=True)
     seconds = resource.getrusage(resource.RUSAGE_CHILDREN).ru_utime - before
     log, count = done.stdout + done.stderr, 0
     for module in modules:
