@@ -1,6 +1,6 @@
 #!/usr/bin/env bash
-# checks/derive_proofs.sh [COUNT [SEED]]: whether `rt check` proves what tools/derive writes, for the types of
-# checks/derive/matrix.py: COUNT of them, drawn by SEED, or all. It prints each type that is not proved, with the first goal
+# checks/derive_proofs.sh [COUNT [SEED] | NAME ..]: whether `rt check` proves what tools/derive writes, for the types of
+# checks/derive/matrix.py: COUNT of them, drawn by SEED, those of these names, or all. It prints each type that is not proved, with the first goal
 # that fails, and the seconds of each crate of eight types. It works in a scratch repository on copies of the libraries with
 # their kept proofs, so build these first (`rt all check` here); all types take hours. Its status is 1 where one is not proved.
 # With CBOR=1 the types are written with `--cbor`; JOBS=1 checks with one job in place of two.
@@ -8,4 +8,4 @@ set -eu
 top=$(cd "$(dirname "$0")/.." && pwd)
 room=$(mktemp -d)
 trap 'rm -rf "$room"' EXIT
-python3 "$top/checks/derive/proofs.py" "$top" "$room" "${1:-0}" "${2:-0}" ${CBOR:+--cbor}
+python3 "$top/checks/derive/proofs.py" "$top" "$room" ${CBOR:+--cbor} "$@"

@@ -1,5 +1,5 @@
 """Writes types of matrix.py into crates of a scratch repository, checks these, and prints what is not
-proved: proofs.py TOP ROOM COUNT SEED [--cbor], by checks/derive_proofs.sh."""
+proved: proofs.py TOP ROOM [--cbor] [WHICH ..], by checks/derive_proofs.sh."""
 import os
 import random
 import re
@@ -16,10 +16,13 @@ LIBRARIES = ["content_tree", "content_ser", "content_build", "content_de", "serd
 TOGETHER = 8
 
 
-def drawn(count: int, seed: int) -> Dict[str, str]:
-    """So many types of the matrix, or all."""
+def drawn(which: List[str]) -> Dict[str, str]:
+    """The types of the matrix with these names, as many as a count says, drawn by a seed, or all."""
     every = matrix()
-    names = random.Random(seed).sample(sorted(every), count) if count else sorted(every)
+    names = which or sorted(every)
+    if which and which[0].isdigit():
+        count, seed = (list(map(int, which)) + [0])[:2]
+        names = random.Random(seed).sample(sorted(every), count)
     return {name: every[name] for name in names}
 
 
@@ -80,7 +83,8 @@ def check(room: Path, name: str, modules: List[str]) -> int:
 
 def main() -> int:
     top, room = Path(sys.argv[1]), Path(sys.argv[2])
-    types, flags = drawn(int(sys.argv[3]), int(sys.argv[4])), sys.argv[5:]
+    flags = [word for word in sys.argv[3:] if word.startswith("-")]
+    types = drawn([word for word in sys.argv[3:] if word not in flags])
     (room / "crates").mkdir()
     repository(top, room)
     names, failed = list(types), 0

@@ -150,31 +150,30 @@ enum Search { There(i8) }
 #[derive(Serialize, Deserialize, PartialEq, Eq)]
 enum There { There(i8) }
 
-// + let result_field = named_field(
+// + let ReadField(result_field, row, _) = row;
+// + let ReadField(row_field, row, _) = row;
+// + let ReadField(send_row_field, row, _) = row;
 #[derive(Serialize, Deserialize, PartialEq, Eq)]
-struct A { result: i8, alloc: u8, fields: u8, serializer: u8, named_field: u8, read_two: u8, field_or: u8, alloc_field: Option<u8> }
+struct A { result: i8, alloc: u8, fields: u8, serializer: u8, row: u8, send_row: u8, alloc_field: Option<u8> }
 #[derive(Serialize, Deserialize, PartialEq, Eq)]
 enum B { X { result: i8, result_field: u8 } }
 
 // + fn read_order_placed<
 // + fn read_order_placed_variant<
-// + fn send_order_placed_variant<
 #[derive(Serialize, Deserialize)]
 enum Order { Placed { a: u8, b: u8, c: u8 }, OrderPlaced(u8) }
 #[derive(Serialize, Deserialize)]
 struct OrderPlaced { a: u8, b: u8, c: u8 }
 
-// + fn read_one_type<
-// + fn read_two_type<
-// + fn send_eight_type<
+// + fn read_tagged_type<
+// + struct FieldsOfTaggedType;
+// + type Field1OfAType = ReadField<FieldsOfAType, 0, u8, OthersSkipped<FieldsOfAType>>;
 #[derive(Serialize, Deserialize)]
-struct One { a: u8 }
+struct Tagged { a: u8 }
 #[derive(Serialize, Deserialize)]
-struct Two { a: u8, b: u8, c: u8 }
+struct A { a: u8 }
 #[derive(Serialize, Deserialize)]
-struct Eight { a: u8, b: u8, c: u8, d: u8, e: u8, f: u8, g: u8, h: u8, i: u8 }
-#[derive(Serialize, Deserialize)]
-struct Read_two { a: u8 }
+struct FieldsOfA { a: u8 }
 
 // + as the_status;
 #[derive(Serialize, Deserialize, PartialEq, Eq)]
@@ -213,7 +212,7 @@ struct A { #[serde(flatten)] b: B, b_c: u8 }
 #[derive(Serialize, Deserialize)]
 struct B { c: u8 }
 
-// + { Upper: upper_field_field, Global: global_field, low, read_a_from_3: read_a_from_3_field, upper_field }
+// + { Upper: upper_field_field, Global: global_field, low, read_a_from_3, upper_field }
 #[derive(Deserialize)]
 struct A { Upper: u8, Global: u8, low: u8, read_a_from_3: u8, upper_field: Upper }
 #[derive(Deserialize)]

@@ -8,8 +8,8 @@ from .types import SIGNED, Type
 from .words import NO_PLACES
 
 
-# paths, and names that may be those of a type or of a function of the module
-NO_PLACE = re.compile(r".*\.|[A-Z]|(?:read|send)_.*_from_\d+$")
+# paths, and names that may be those of a type
+NO_PLACE = re.compile(r".*\.|[A-Z]")
 MENTIONED = re.compile(r"(?:`\w+`: )?(?:(?:field|variant) `([\w.]+)`: )?")
 
 

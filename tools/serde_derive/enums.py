@@ -48,9 +48,8 @@ class EnumWriter:
     def functions(self) -> List[str]:
         """Those that the impls call."""
         return [text for v, holder in self.variants
-                for text in self.maker(v) * self.reads + holder.send_function() * self.sends
-                + self.whole_sender(v, holder) * self.sends + (holder.names_lists() + self.reader(v, holder)) * self.reads
-                ] + self.names_list() * self.reads
+                for text in self.maker(v) * self.reads + holder.names_list() + self.whole_sender(v, holder) * self.sends
+                + (holder.row_types() + self.reader(v, holder)) * self.reads] + self.names_list()
 
     def whole_sender(self, v: Variant, holder: Holder) -> List[str]:
         """The function that sends a variant of several values by the script of the enum: its proof
@@ -65,38 +64,38 @@ class EnumWriter:
                 + clause("requires", f"whole.now ≡ {value}")
                 + clause("ensures", "Sends S.step S.refuses (S.seen serializer.old)\n"
                          f"(⟦<{self.item.name} as Serialize>⟧.script whole.now)\nresult (S.seen serializer.new)")
-                + f"{{\n{self.send_values(v, holder)}\n}}\n"]
+                + "{\n" + "\n".join(self.send_values(v, holder)) + "\n}\n"]
 
     def is_apart(self, v: Variant, holder: Holder) -> bool:
         """Whether a variant is sent by a function of its own."""
         return holder.count > holder.most
 
-    def send_values(self, v: Variant, holder: Holder) -> str:
-        """The call that sends its values."""
+    def send_values(self, v: Variant, holder: Holder) -> List[str]:
+        """The statements that send its values."""
         return holder.send(self.sent(v))
 
     def whole_name(self, v: Variant) -> str:
         return f"send_whole_{v.owner}"
 
-    def send_variant(self, v: Variant, holder: Holder) -> str:
-        """The code that sends a variant."""
-        if holder.count <= holder.most:
-            return holder.send(self.sent(v))
-        return f"{self.whole_name(v)}({', '.join(['alloc', 'serializer', 'self'] + v.data.places())})"
+    def send_variant(self, v: Variant, holder: Holder) -> List[str]:
+        """The statements that send a variant."""
+        if not self.is_apart(v, holder):
+            return self.send_values(v, holder)
+        return [f"{self.whole_name(v)}({', '.join(['alloc', 'serializer', 'self'] + v.data.places())})"]
 
     def names_list(self) -> List[str]:
-        """The type that stands for the names of the variants."""
-        return [list_impl(self.list, "The names of its variants.", [v.wire for v in self.item.variants])]
+        """The type that stands for the names of the variants, where it is used."""
+        return [list_impl(self.list, "The names of its variants.", [v.wire for v in self.item.variants])] * self.reads
 
     def reader(self, v: Variant, holder: Holder) -> List[str]:
         """The function that reads a variant's fields, all values as one."""
         if v.beside:
             held = v.beside.name
-            return holder.read_functions(holder.data.made(held, holder.data.places()), held,
-                                         [f"z.{in_term(f.name)}" for f in holder.fields])
+            return holder.read_function(holder.data.made(held, holder.data.places()), held,
+                                        [f"z.{in_term(f.name)}" for f in holder.fields])
         types = [f.type.rust() for f in v.data.fields]
         values = [f"z.{i}" for i in range(len(types))] if len(types) > 1 else ["z"]
-        return holder.read_functions(together(v.data.places()), together(types), values)
+        return holder.read_function(together(v.data.places()), together(types), values)
 
     def maker(self, v: Variant) -> List[str]:
         """The function that makes a variant of signed numbers."""
@@ -116,7 +115,7 @@ class EnumWriter:
         return ["match self {"] + arms + ["}"]
 
     def serialize(self) -> List[str]:
-        sent = [arm(self.made(v, v.data.places()), [self.send_variant(v, h)]) for v, h in self.variants]
+        sent = [arm(self.made(v, v.data.places()), self.send_variant(v, h)) for v, h in self.variants]
         return [ghost("script", self.each(lambda v, holder, x: holder.script(x))),
                 ghost("lawful", self.each(lambda v, holder, x: f"λ readable. {holder.lawful(x)}")),
                 function(SERIALIZE, *self.match(sent))]

@@ -3,21 +3,18 @@ from typing import Callable, List, NamedTuple, Optional, Tuple
 
 from .cases import pascal
 from .declarations import Data, Field
-from .literals import SEALED, list_impl, list_term, name_call, name_term, opened_names
-from .text import clause, fields_reader, together
+from .literals import list_impl, list_term, name_call, name_term
+from .text import fields_reader, function, ghost, together
 from .types import READ, TRIP, nest, snake
-from .words import READERS, SENDERS
 
 
-def sending(head: str, pairs: List[Tuple[str, str]]) -> str:
-    """The call that sends a compound: what opens it, and each value after the call that announces it."""
-    arguments = ["alloc", "serializer", head] + [part for pair in pairs for part in pair]
-    return f"{SENDERS[len(pairs) - 1]}({', '.join(arguments)})"
+LONGEST_ROW = 8  # types of longer rows take the checker's memory
 
 
-def handed_on(head: str, pairs: List[Tuple[str, str]]) -> str:
-    """The parts of the first values, which a further function sends before others."""
-    return head + "".join(f".with({call}, {value})" for call, value in pairs)
+def sending(opens: str, values: List[str]) -> List[str]:
+    """The statements that send a compound: what opens it, and each value as a row has it."""
+    rows = [f"let row = {value};" for value in reversed(values)]
+    return ["let row = SendEnd;", *rows, f"let row = SendOpen({opens}, row);", "send_row(alloc, serializer, &row)"]
 
 
 class Row(NamedTuple):
@@ -71,48 +68,99 @@ class Holder:
         written = [str(n) if isinstance(n, int) else name_call(n) for n in names + [self.count] * self.many]
         self.call = f"Call::{self.camel}({', '.join(written)})"
         self.of_variant = sort == "Variant"
-        self.sender, self.reader = f"send_{owner}", f"read_{owner}"
-        self.list = f"FieldsOf{pascal(owner)}"
+        self.reader, self.owner = f"read_{owner}", pascal(owner)
+        self.list = f"FieldsOf{self.owner}"
         self.names_known = [f.wire for f in data.fields]
-        self.before: List[Tuple[str, str]] = []
+        self.before: List[str] = []
         self.head = "" if self.of_variant else " " + self.names
         self.name = "" if self.of_variant else written[0]
 
-    def names_lists(self) -> List[str]:
-        """The types that stand for the names of its fields: all, and those that are read together."""
-        if not self.data.named or not self.names_known:
+    def names_list(self) -> List[str]:
+        """The type that stands for the names of its fields."""
+        known = self.data.named and self.names_known
+        return [list_impl(self.list, "The names of its fields.", self.names_known)] if known else []
+
+    def row_type(self, place: int) -> str:
+        """What the value at a place and those after it are read as; after the last, the end."""
+        if place == self.count and not self.data.named:
+            return f"PartsEnd<{self.count}>"
+        if place == self.count:
+            return f"Others{'Refused' if self.data.closed else 'Skipped'}<{self.list}>"
+        return f"{'Field' if self.data.named else 'Part'}{place + 1}Of{self.owner}"
+
+    def after(self, place: int) -> str:
+        """What those before a place have as their rest: where a row would be too long, a struct."""
+        return self.run(place) if place % LONGEST_ROW == 0 and place < self.count else self.row_type(place)
+
+    def run(self, start: int) -> str:
+        """The struct that values from a place on are read as."""
+        return f"From{start + 1}Of{self.owner}"
+
+    def starts(self) -> List[int]:
+        """The places at which such structs begin."""
+        return list(range(LONGEST_ROW, self.count, LONGEST_ROW))
+
+    def row_types(self) -> List[str]:
+        """The declarations of what its values are read as."""
+        if not self.many or not self.fields:
             return []
-        groups = [(start, end) for start, end in self.groups() if self.names_in(start, end) != self.names_known]
-        return [list_impl(self.list, "The names of its fields.", self.names_known)] + [
-            list_impl(self.group_list(start, end), "Those that are read together.", self.names_in(start, end))
-            for start, end in groups]
+        parts = [f"ReadPart<{self.count}, {place}" if not self.data.named else
+                 f"ReadField{'Or' * bool(f.missing)}<{self.list}, {self.index(f)}" for place, f in enumerate(self.fields)]
+        rows = "".join(f"type {self.row_type(place)} = {part}, {f.type.rust()}, {self.after(place + 1)}>;\n"
+                       for place, (part, f) in enumerate(zip(parts, self.fields)))
+        return [rows] + [self.run_read(start) for start in self.starts()]
 
-    def names_in(self, start: int, end: int) -> List[str]:
-        return [f.wire for f in self.fields[start:end]]
+    def run_read(self, start: int) -> str:
+        """A struct of values from a place on, and how it is read."""
+        fields, rest = self.fields[start:start + LONGEST_ROW], start + LONGEST_ROW
+        trait, source = ("ReadFields", "fields: FieldsByName") if self.data.named else ("ReadParts", "parts: serde_content::de::Seq")
+        refusals = [f"({f.type.member(READ, 'refusal')})" for f in fields]
+        gives = [f"({f.type.member(READ, 'gives')}) z.{i}" for i, f in enumerate(fields)]
+        more = [self.run(rest)] if rest < self.count else []
+        inside = [f"(⟦<{one} as {trait}<'de>>⟧.{{}})" for one in more]
+        refusal = self.row("refusal", refusals, start=start, rest="".join(inside).format("refusal"))
+        given = self.row("gives", gives, start=start, rest="".join(inside).format(f"gives z.{LONGEST_ROW}"))
+        places = [f"x{i + 1}" for i in range(len(fields))]
+        read = function(f"fn read<'n: 'de>(alloc: Global, {source}<'de, 'n>) -> Result<Self>",
+                        *self.taken(trait, source.split(":")[0], places, start),
+                        f"Ok({self.run(start)}({', '.join(places + ['row'] * len(more))}))")
+        members = "\n\n".join([ghost("refusal", refusal), ghost("gives", f"λ z. {given}"), read])
+        return (f"/// Values from place {start + 1} on.\n#[derive(Drop)]\nstruct {self.run(start)}("
+                f"{', '.join([f.type.rust() for f in fields] + more)});\n\n"
+                f"impl<'de> {trait}<'de> for {self.run(start)} {{\n{members}\n}}\n")
 
-    def groups(self) -> List[Tuple[int, int]]:
-        """The fields that are read in one call: the last, up to six."""
-        start = 0
-        while self.count - start > len(READERS):
-            start += 2
-        return [(start, self.count)] * (start < self.count)
+    def index(self, f: Field) -> int:
+        """The index of a field's name among all."""
+        return self.names_known.index(f.wire)
 
-    def group_list(self, start: int, end: int) -> str:
-        """The type that stands for the names of some fields."""
-        return self.list if self.names_in(start, end) == self.names_known else f"{self.list}{start + 1}To{end}"
+    def taken(self, trait: str, source: str, places: List[str], start: int = 0) -> List[str]:
+        """The statements that read values as a row, from a place on, and take it apart."""
+        lines = [f"let row: {self.row_type(start)} = {trait}::read(alloc, {source})?;"]
+        for f, place in zip(self.fields[start:start + LONGEST_ROW], places):
+            sort = f"ReadField{'Or' * bool(f.missing)}" if self.data.named else "ReadPart"
+            rest = "_" if f is self.fields[-1] else "row"
+            lines.append(f"let {sort}({place}, {rest}{', _' * self.data.named}) = row;")
+        return lines
 
-    def row(self, member: str, inners: List[str], sees: Optional[List[str]] = None, start: int = 0) -> str:
-        """All its values in a member of the impls, or the one, after a blank or a line's end; or
-        those from a place on."""
+    def all_taken(self, trait: str, source: str, places: List[str]) -> List[str]:
+        """The statements that read all values, and take them apart."""
+        runs = [(start, places[start:start + LONGEST_ROW]) for start in self.starts()]
+        return self.taken(trait, source, places) + [
+            f"let {self.run(start)}({', '.join(some + ['row'] * (start + LONGEST_ROW < self.count))}) = row;"
+            for start, some in runs]
+
+    def row(self, member: str, inners: List[str], sees: Optional[List[str]] = None, start: int = 0, rest: str = "") -> str:
+        """All its values in a member of the impls, or the one, after a blank or a line's end; or some
+        from a place on, before the rest."""
         if not self.many:
             return "".join(f" {inner}" for inner in inners)
         part, end = getattr(self.by_key if self.data.named else BY_PLACE, member)
         parts = [part.format(
-            inner=inner, see=see, place=place, count=self.count, name=name_term(f.wire),
+            inner=inner, see=see, place=start + place, count=self.count, name=name_term(f.wire),
             or_="_or" * bool(f.missing), Or="Or" * bool(f.missing), missing=f.absent())
             for place, (f, inner, see) in enumerate(zip(self.fields[start:], inners, sees or inners))]
         words = ("no_others", "closed") if self.data.closed else ("others_skipped", "skipped")
-        return nest(parts, end.format(known=list_term(self.names_known), left=words[0], end=words[1], count=self.count))
+        return nest(parts, rest or end.format(known=list_term(self.names_known), left=words[0], end=words[1], count=self.count))
 
     def by_name(self, word: str, row: str) -> str:
         """A row of fields, which is read by name."""
@@ -129,58 +177,15 @@ class Holder:
         laws = [f"({f.type.lawful(v)})" for f, v in zip(self.fields, values)]
         return f"{self.word}_lawful{self.row('lawful', laws)}"
 
-    def send(self, values: List[str]) -> str:
-        """The code that makes them: of more than two values, in a function of its own."""
-        if self.count > self.most:
-            return f"{self.sender}(alloc, serializer, {', '.join(values)})"
-        return self.chain(values)
-
-    def pairs(self, values: List[str], start: int = 0) -> List[Tuple[str, str]]:
-        """The values from a place on, each after the call that announces it."""
-        return [pair for f, value in zip(self.fields[start:], values) for pair in self.announced(f.wire, value)]
-
-    def announced(self, name: str, value: str) -> List[Tuple[str, str]]:
-        return [(f"Call::Field({name_call(name)})" if self.data.named else "Call::TupleField", value)]
-
-    def chain(self, values: List[str]) -> str:
-        """The calls, one after another."""
-        if not self.fields and not self.before:
-            return f"{self.call}.send(serializer)"
+    def send(self, values: List[str]) -> List[str]:
+        """The statements that make them."""
         if not self.many:
-            return f"{self.call}.around({values[0]}, alloc, serializer)"
-        return sending(self.call, self.before + self.pairs(values))
+            return [f"{self.call}.around({values[0]}, alloc, serializer)" if values else f"{self.call}.send(serializer)"]
+        return sending(self.call, self.before + [self.sent(f, value) for f, value in zip(self.fields, values)])
 
-    def send_function(self) -> List[str]:
-        """The function that sends more than two values; its proof sees none of their types. Of more
-        than eight it hands on all but the last eight to a further one, and names stand there as letters."""
-        if self.count <= self.most:
-            return []
-        texts, start, head, before = [], 0, self.call, self.before
-        while True:
-            places = range(start + 1, self.count + 1)
-            values, pairs = [f"x{i}" for i in places], before + self.pairs([f"x{i}" for i in places], start)
-            inner = [f"(T{i}.script x{i}.now)" for i in places]
-            script = f"P.first parts{self.row('script', inner, start=start)}" if start else self.script(
-                [f"{v}.now" for v in values], [f"T{i}.script" for i in places])
-            calls = len(self.announced("", ""))
-            later = self.count if len(pairs) <= len(SENDERS) else max(start + 1, self.count - len(SENDERS) // calls)
-            body = sending(head, pairs) if later == self.count else (
-                f"let parts = {handed_on(head, pairs[:len(before) + (later - start) * calls])};\n"
-                f"{self.sender_at(later)}(alloc, serializer, parts, {', '.join(values[later - start:])})")
-            types = ", ".join(["S: Serializer"] + ["P: Parts"] * bool(start) + [f"T{i}: Serialize" for i in places])
-            given = ", ".join(["alloc: Global", "serializer: &mut S"] + ["parts: P"] * bool(start)
-                              + [f"x{i}: &T{i}" for i in places])
-            about = "Sends values of any types after those parts." if start else (
-                "Sends values of any types, so that its proof looks into none.")
-            texts.insert(0, f"/// {about}\nfn {self.sender_at(start)}<{types}>({given}) -> Result<()>\n"
-                         + clause("ensures", f"Sends S.step S.refuses (S.seen serializer.old)\n({script})\n"
-                                  "result (S.seen serializer.new)") + f"{{\n{body}\n}}\n")
-            if later == self.count:
-                return texts if not start else [opened_names(text) for text in texts]
-            start, head, before = later, "parts", []
-
-    def sender_at(self, start: int) -> str:
-        return f"{self.sender}_from_{start + 1}" if start else self.sender
+    def sent(self, f: Field, value: str) -> str:
+        """A value as a row has it, before those after it."""
+        return f"SendField({self.list}, {self.index(f)}, {value}, row)" if self.data.named else f"SendPart({value}, row)"
 
     def refusal_row(self) -> str:
         return self.row("refusal", [f"({f.type.member(READ, 'refusal')})" for f in self.fields])
@@ -209,58 +214,19 @@ class Holder:
             if not self.of_variant:
                 return lines + [f"{self.reader}(alloc, fields)"]
             return lines + [f"let {together(places)} = {self.reader}(alloc, fields)?;", f"Ok({make(places)})"]
-        if self.many and self.count == 2:
-            return [f"let parts = {start};", f"let {together(places)} = two_parts(alloc, parts)?;", f"Ok({make(places)})"]
         if self.many:
-            return [f"let mut parts = {start};"] + [
-                f"let {p} = next_part(alloc, &mut parts, {self.count}, {i})?;"
-                for i, p in enumerate(places)] + [f"finish_parts(alloc, parts, {self.count})?;", f"Ok({make(places)})"]
+            return [f"let parts = {start};", *self.all_taken("ReadParts", "parts", places), f"Ok({make(places)})"]
         if self.of_variant:
             return [f"Ok({make([start])})"]
         return [f"let inside = {start};", f"Ok({make(['inside.deserialize(alloc)?'])})"]
 
-    def read_functions(self, made: str, result: str, values: List[str]) -> List[str]:
-        """The functions that read fields by name: the first makes a value of this type, of which
-        contracts see these values. Where there are more than six it reads two, and the rest is
-        read by a further function, which makes a tuple."""
-        texts, start = [], 0
-        while self.data.named and start < self.count:
-            rest, places = self.fields[start:], self.data.places()[start:]
-            if start:
-                made, result = together(places), together([f.type.rust() for f in rest])
-                values = [f"z.{i}" for i in range(len(rest))] if len(rest) > 1 else ["z"]
-            if len(rest) > len(READERS):
-                lines = [self.taking(f, p) for f, p in list(zip(rest, places))[:2]]
-                lines.append(f"let {together(places[2:])} = {self.reader_at(start + 2)}(alloc, fields)?;")
-            else:
-                lines = [f"let {together(places)} = {self.taken(rest)}?;"]
-            lines = [self.taken(rest)] if made == together(places) and len(lines) == 1 else lines + [f"Ok({made})"]
-            refusals = [f"({f.type.member(READ, 'refusal')})" for f in rest]
-            gives = [f"({f.type.member(READ, 'gives')}) {v}" for f, v in zip(rest, values)]
-            texts.insert(0, fields_reader(
-                "Fields, wherever they stand.", self.reader_at(start), result,
-                self.row("refusal", refusals, start=start),
-                f"λ z. {self.row('gives', gives, start=start)}\n(fields_left fields.entry)", lines,
-                SEALED if len(rest) > len(READERS) else ""))
-            start += 2 if len(rest) > len(READERS) else len(rest)
-        return texts
-
-    @staticmethod
-    def taking(f: Field, place: str) -> str:
-        """The statement that reads one field."""
-        reader, missing = ("field_or", f", {f.missing[0]}") if f.missing else ("named_field", "")
-        return f'let {place} = {reader}(alloc, &mut fields, "{f.wire}"{missing})?;'
-
-    def taken(self, fields: List[Field]) -> str:
-        """The call that reads all fields, up to six, and what is left over."""
-        start = self.fields.index(fields[0])
-        names = self.group_list(start, start + len(fields))
-        each = "".join(f"{f'Some({f.missing[0]})' if f.missing else 'None'}, " for f in fields)
-        closed = "true" if self.data.closed else "false"
-        return f"{READERS[len(fields) - 1]}(alloc, fields, &{names}, {each}&{self.list}, {closed})"
-
-    def reader_at(self, start: int) -> str:
-        return f"{self.reader}_from_{start + 1}" if start else self.reader
+    def read_function(self, made: str, result: str, values: List[str]) -> List[str]:
+        """The function that reads fields by name, and makes a value of this type, of which contracts
+        see these values."""
+        if not self.data.named or not self.fields:
+            return []
+        lines = self.all_taken("ReadFields", "fields", self.data.places()) + [f"Ok({made})"]
+        return [fields_reader(self.reader, result, self.refusal_row(), self.gives_row(values), lines)]
 
     def trip_row(self, member: str, laws: List[str], values: List[str], sees: List[str]) -> str:
         """All its values in a law of what comes back, each with the fact that it exists."""

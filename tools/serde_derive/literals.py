@@ -28,12 +28,6 @@ def list_term(names: List[str]) -> str:
     return "(" + " ∷ ".join([name_term(name)[1:-1] for name in names] + ["[]"]) + ")"
 
 
-def opened_names(function: str) -> str:
-    """A function, after its one line of comment, with its names as letters."""
-    about, code = function.split("\n", 1)
-    return f"{about}\n{SEALED}\n" + CALL.sub(lambda found: f'"{found.group(1)}"', code)
-
-
 def opened(term: str) -> str:
     """A term that looks into names."""
     return f"unfold name index_among in {term}"
@@ -42,7 +36,7 @@ def opened(term: str) -> str:
 def list_impl(owner: str, about: str, names: List[str]) -> str:
     """The type that stands for a list of names, which hands it out."""
     shown = ", ".join(f'"{name}"' for name in names)
-    return (f"/// {about}\nstruct {owner};\n\nimpl Names for {owner} {{\n"
+    return (f"/// {about}\n#[derive(Drop)]\nstruct {owner};\n\nimpl Names for {owner} {{\n"
             + ghost("names", list_term(names)[1:-1])
             + f"\n\n{SEALED}\nfn names() -> &'static [&'static str] {{\n&[{shown}]\n}}\n}}\n")
 

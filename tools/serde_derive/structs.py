@@ -1,9 +1,8 @@
 """The impls of a struct."""
-from typing import Callable, Iterator, List, Optional, Tuple
+from typing import Callable, Iterator, List, Optional
 
-from .declarations import Data, Item
+from .declarations import Data, Field, Item
 from .holder import FLATTENED, Holder
-from .literals import name_call
 from .text import DESERIALIZE, KNOWN, SERIALIZE, all_hold, facts, function, ghost
 from .types import in_term
 
@@ -21,8 +20,8 @@ class FlattenedHolder(Holder):
         members = members or [f.type.member("Serialize", "script") for f in self.fields]
         return "flattened_script" + self.row("script", [f"({m} {v})" for m, v in zip(members, values)])
 
-    def announced(self, name: str, value: str) -> List[Tuple[str, str]]:
-        return [("Call::Key", f"&{name_call(name)}"), ("Call::Value", value)]
+    def sent(self, f: Field, value: str) -> str:
+        return f"SendEntry({self.list}, {self.index(f)}, {value}, row)"
 
     def read(self, make: Callable[[List[str]], str]) -> List[str]:
         return ["let fields = from.deserialize_map(alloc)?.by_name();", f"{self.reader}(alloc, fields)"]
@@ -51,15 +50,15 @@ class StructWriter:
 
     def functions(self) -> List[str]:
         """Those that the impls call."""
-        read = self.holder.read_functions(
+        read = self.holder.read_function(
             self.item.data.made(self.item.name, self.holder.data.places()), self.item.name,
             [f"z.{in_term(f.name)}" for f in self.fields])
-        return self.holder.send_function() * self.sends + (self.holder.names_lists() + read) * self.reads
+        return self.holder.names_list() + (self.holder.row_types() + read) * self.reads
 
     def serialize(self) -> List[str]:
         return [ghost("script", f"λ p. {self.holder.script(self.values)}"),
                 ghost("lawful", f"λ p readable. {self.holder.lawful(self.values)}"),
-                function(SERIALIZE, self.holder.send([f"&self.{f.name}" for f in self.fields]))]
+                function(SERIALIZE, *self.holder.send([f"&self.{f.name}" for f in self.fields]))]
 
     def deserialize(self) -> List[str]:
         made = self.holder.read(lambda places: self.item.data.made(self.item.name, places))

@@ -3,10 +3,11 @@ one other hold its values."""
 import re
 from typing import List, Optional
 
+from .cases import pascal
 from .declarations import Data, Field, Item, Refused, Variant
 from .enums import EnumWriter
 from .holder import Holder
-from .literals import name_call, name_method, name_term, opened
+from .literals import list_impl, name_call, name_method, name_term, opened
 from .text import DESERIALIZE, elim, function, ghost, together
 from .types import DEFAULTS, nest
 
@@ -22,7 +23,7 @@ class TaggedHolder(Holder):
         self.names_known = [tag] + self.names_known
         self.tag, self.variant = tag, v.wire
         self.call = f"Call::Struct({name_call(name)}, {self.count + 1})"
-        self.before = self.announced(tag, f"&{name_call(v.wire)}")
+        self.before = [f"SendTag({self.list}, NamesOf{pascal(item.owner)}, {item.variants.index(v)}, row)"]
 
     def script(self, values: List[str], members: Optional[List[str]] = None) -> str:
         members = members or [f.type.member("Serialize", "script") for f in self.fields]
@@ -58,6 +59,9 @@ class TaggedWriter(EnumWriter):
         return [Field("x1", f.line, [], {}, self.content, f.type, missing=DEFAULTS["Option"] if f.type.name == "Option" else None)
                 for f in v.data.fields]
 
+    def names_list(self) -> List[str]:
+        return [list_impl(self.list, "The names of its variants.", [v.wire for v in self.item.variants])]
+
     def alone(self, v: Variant) -> bool:
         return False
 
@@ -69,9 +73,8 @@ class TaggedWriter(EnumWriter):
 
     def arm_lines(self, v: Variant, holder: Holder) -> List[str]:
         places = v.data.places()
-        end = "end" if v.data.closed else "skip"
         read = f"let {together(places)} = {holder.reader}(alloc, fields)?;" if places else (
-            f"{end}_fields(alloc, fields, &[{name_call(self.tag)}])?;")
+            f"let _: {holder.row_type(0)} = ReadFields::read(alloc, fields)?;")
         return [read, f"Ok({self.making(v)(places)})"]
 
     @property

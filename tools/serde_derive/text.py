@@ -43,14 +43,12 @@ def function(signature: str, *lines: str) -> str:
     return f"{signature if 'alloc' in body else signature.replace('alloc', '_alloc')} {{\n{body}\n}}"
 
 
-def fields_reader(about: str, name: str, result: str, refusal: str, gives: str, lines: List[str], marked: str) -> str:
+def fields_reader(name: str, result: str, refusal: str, gives: str, lines: List[str]) -> str:
     """A function that reads fields by name, under a contract of what it refuses and may give."""
+    signature = f"fn {name}<'de, 'n: 'de>(alloc: Global, fields: FieldsByName<'de, 'n>) -> Result<{result}>"
+    reads = clause("ensures", f"Reads ({refusal}\n(fields_left fields.entry))\n(λ z. {gives}\n(fields_left fields.entry)) result")
     body = "\n".join(lines)
-    fields = "mut fields" if "&mut fields" in body else "fields"
-    signature = f"fn {name}<'de, 'n: 'de>(alloc: Global, {fields}: FieldsByName<'de, 'n>) -> Result<{result}>"
-    reads = clause("ensures", f"Reads ({refusal}\n(fields_left fields.entry))\n({gives}) result")
-    about = "\n".join(filter(None, [f"/// {about}", marked]))
-    return f"{about}\n{signature}\n{reads}{{\n{body}\n}}\n"
+    return f"/// Reads the fields, in any order.\n{signature}\n{reads}{{\n{body}\n}}\n"
 
 
 def arm(pattern: str, lines: List[str]) -> str:

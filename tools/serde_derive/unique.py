@@ -2,6 +2,7 @@
 import re
 from typing import Callable, List, Set
 
+from .cases import pascal
 from .declarations import Item
 from .text import alias
 from .types import snake
@@ -20,14 +21,14 @@ def fresh(name: str, more: str, clashes: Callable[[str], bool]) -> str:
 
 def name_functions(items: List[Item]) -> None:
     """Names what the functions of items and variants are called after; those of items come first."""
-    firsts = {snake(item.name) for item in items}
     taken: Set[str] = set()
-    forbidden = FUNCTIONS | set(WORDS) | {item.name.lower() for item in items}
+    declared = {item.name.lower() for item in items}
+    forbidden = FUNCTIONS | set(WORDS) | declared
+    rows = {found.group(1) for found in map(re.compile(r"(?:fields|names|(?:field|part|from)\d+)of(.+)").fullmatch, declared) if found}
 
     def clashes(name: str) -> bool:
-        part = re.fullmatch(r"(.*)_from_\d+", name)
-        return (name in taken or bool(part and part.group(1) in firsts)
-                or any(f"{verb}_{name}" in forbidden for verb in ("send", "read", "make")))
+        return (name in taken or pascal(name).lower() in rows
+                or any(f"{verb}_{name}" in forbidden for verb in ("send_whole", "read", "make")))
 
     for more, named in ("_type", [(item, item.name) for item in items]), (
             "_variant", [(v, item.name + v.name) for item in items for v in item.variants]):

@@ -4,7 +4,7 @@ from typing import List
 from .declarations import Item, Refused, Variant
 from .enums import EnumWriter
 from .holder import Holder, sending
-from .text import DESERIALIZE, SERIALIZE, all_hold, arm, bracketed, clause, codes, elim, facts, function, ghost
+from .text import DESERIALIZE, SERIALIZE, all_hold, arm, codes, elim, facts, function, ghost
 from .text import together
 from .types import READ, nest
 from .words import CHOICES, PLACES
@@ -23,27 +23,13 @@ class UntaggedWriter(EnumWriter):
 
     def functions(self) -> List[str]:
         return [text for v, holder in self.variants
-                for text in self.maker(v) * self.reads + (self.sender(v, holder) + self.whole_sender(v, holder)) * self.sends]
-
-    def sender(self, v: Variant, holder: Holder) -> List[str]:
-        """The function that sends the values of a variant as a tuple."""
-        count = len(v.data.fields)
-        if count == 1:
-            return []
-        types = "".join(f", T{i + 1}: Serialize" for i in range(count))
-        given = "".join(f", x{i + 1}: &T{i + 1}" for i in range(count))
-        script = self.tuple_script([f"T{i + 1}.script x{i + 1}.now" for i in range(count)])
-        return ["/// Sends values of any types, so that its proof looks into none.\n"
-                f"fn {holder.sender}<S: Serializer{types}>(alloc: Global, serializer: &mut S{given}) -> Result<()>\n"
-                + clause("ensures", f"Sends S.step S.refuses (S.seen serializer.old)\n({script})\n"
-                         "result (S.seen serializer.new)")
-                + f"{{\n{sending(f'Call::Tuple({count})', [('Call::Element', p) for p in v.data.places()])}\n}}\n"]
+                for text in self.maker(v) * self.reads + self.whole_sender(v, holder) * self.sends]
 
     def is_apart(self, v: Variant, holder: Holder) -> bool:
         return len(v.data.fields) > 1
 
-    def send_values(self, v: Variant, holder: Holder) -> str:
-        return f"{holder.sender}(alloc, serializer, {', '.join(v.data.places())})"
+    def send_values(self, v: Variant, holder: Holder) -> List[str]:
+        return sending(f"Call::Tuple({len(v.data.fields)})", [f"SendElement({p}, row)" for p in v.data.places()])
 
     def serialize(self) -> List[str]:
         return [ghost("script", self.each(lambda v, holder, x: self.script(v, x))),

@@ -90,22 +90,21 @@ std.specs.declared.vec.Vec Vec
 std.specs.declared.boxed.Box Box
 std.specs.declared.collections.BTreeMap BTreeMap
 """)
-COUNTS = "one two three four five six seven eight".split()
-SENDERS, READERS = [f"send_{count}" for count in COUNTS], [f"read_{count}_of" for count in COUNTS[:6]]
 PLACES = "First Second Third Fourth".split()
-CHOICES = [(f"first_of_{count}", f"OneOf{count.title()}") for count in COUNTS[1:len(PLACES)]]
+CHOICES = [(f"first_of_{count}", f"OneOf{count.title()}") for count in ("two", "three", "four")]
 USES = {
     "content_cbor": "CborRoundTrip NotNull",
     "serde_content": "CowStr Deserializer Error Result RoundTrip",
-    "serde_content::de": f"Deserialize FieldsByName Names {' '.join(sorted(one for _, one in CHOICES))} TaggedVariants"
-                         f" VariantAccess Variants attempt end_fields field_or finish_parts {' '.join(sorted(first for first, _ in CHOICES))}"
-                         f" named_field next_part no_such_variant read_adjacent read_enum {' '.join(sorted(READERS))} read_tagged"
-                         f" skip_fields two_parts variant_index",
-    "serde_content::ser": f"Call Parts Serialize Serializer {' '.join(sorted(SENDERS))}",
+    "serde_content::de": "Deserialize FieldsByName VariantAccess attempt",
+    "serde_content::derive_support":
+        f"Names {' '.join(sorted(one for _, one in CHOICES))} OthersRefused OthersSkipped PartsEnd ReadField ReadFieldOr ReadFields"
+        f" ReadPart ReadParts SendElement SendEnd SendEntry SendField SendOpen SendPart SendTag TaggedVariants Variants"
+        f" {' '.join(sorted(first for first, _ in CHOICES))} no_such_variant read_adjacent read_enum read_tagged send_row variant_index",
+    "serde_content::ser": "Call Parts Serialize Serializer",
     "std::alloc": "Global",
     "std::collections": "BTreeMap",
 }
-NO_PLACES = RESERVED | {"alloc", "fields", "serializer", "result"} | {
+NO_PLACES = RESERVED | {"alloc", "fields", "serializer", "result", "row"} | {
     name for names in USES.values() for name in names.split() if name.islower()}
 IN_TEXT = {"[]": r"\[\]", "form": r"\(form t\)", "custom": r"\(custom ", "Some": r"\(Some \(", "None": "≡ None",
            "true": r"(?:fits|λ b\.) true", "false": "≡ false", "name": 'name "', "variants": r"variants \( \(name"}

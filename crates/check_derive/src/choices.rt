@@ -51,11 +51,13 @@ ghost use Rattle.check_derive.specs.declared.choices.Steps.TheVariants as steps;
 ghost use Rattle.check_derive.specs.declared.choices.Color.TheVariants as color;
 
 use content_cbor::{CborRoundTrip, NotNull};
-use serde_content::de::{
-    Deserialize, FieldsByName, Names, OneOfFour, OneOfTwo, TaggedVariants, first_of_four,
-    first_of_two, no_such_variant, read_tagged, read_two_of, skip_fields, variant_index,
+use serde_content::de::{Deserialize, FieldsByName};
+use serde_content::derive_support::{
+    Names, OneOfFour, OneOfTwo, OthersSkipped, ReadField, ReadFieldOr, ReadFields, SendElement,
+    SendEnd, SendField, SendOpen, SendTag, TaggedVariants, first_of_four, first_of_two,
+    no_such_variant, read_tagged, send_row, variant_index,
 };
-use serde_content::ser::{Call, Serialize, Serializer, send_four, send_one, send_three, send_two};
+use serde_content::ser::{Call, Serialize, Serializer};
 use serde_content::{Deserializer, Result, RoundTrip};
 use std::alloc::Global;
 
@@ -74,6 +76,7 @@ pub enum Command {
 }
 
 /// The names of its fields.
+#[derive(Drop)]
 struct FieldsOfCommandStop;
 
 impl Names for FieldsOfCommandStop {
@@ -92,31 +95,17 @@ fn make_command_move(x: i32, y: Option<i32>) -> Command
     Command::Move { x, y }
 }
 
-/// Sends values of any types, so that its proof looks into none.
-fn send_command_move<S: Serializer, T1: Serialize, T2: Serialize>(
-    alloc: Global,
-    serializer: &mut S,
-    x1: &T1,
-    x2: &T2,
-) -> Result<()>
-    ensures { Sends S.step S.refuses (S.seen serializer.old)
-        (tagged_script (name "Command") 3 (name "kind") (name "move")
-        (field_first (name "x") (T1.script x1.now)
-        (field_first (name "y") (T2.script x2.now)
-        end_script)))
-        result (S.seen serializer.new) }
-{
-    send_three(
-        alloc,
-        serializer,
-        Call::Struct(name_command(), 3),
-        Call::Field(name_kind()),
-        &name_move(),
-        Call::Field(name_x()),
-        x1,
-        Call::Field(name_y()),
-        x2,
-    )
+/// The names of its fields.
+#[derive(Drop)]
+struct FieldsOfCommandMove;
+
+impl Names for FieldsOfCommandMove {
+    ghost names = { name "kind" ∷ name "x" ∷ name "y" ∷ [] };
+
+    #[tactic(auto, unfolding(serde_content::specs::Literals::name))]
+    fn names() -> &'static [&'static str] {
+        &["kind", "x", "y"]
+    }
 }
 
 /// Sends that variant.
@@ -132,34 +121,24 @@ fn send_whole_command_move<S: Serializer>(
         (⟦<Command as Serialize>⟧.script whole.now)
         result (S.seen serializer.new) }
 {
-    send_command_move(alloc, serializer, x, y)
+    let row = SendEnd;
+    let row = SendField(FieldsOfCommandMove, 2, y, row);
+    let row = SendField(FieldsOfCommandMove, 1, x, row);
+    let row = SendTag(FieldsOfCommandMove, NamesOfCommand, 1, row);
+    let row = SendOpen(Call::Struct(name_command(), 3), row);
+    send_row(alloc, serializer, &row)
 }
 
-/// The names of its fields.
-struct FieldsOfCommandMove;
+type Field1OfCommandMove = ReadField<FieldsOfCommandMove, 1, i32, Field2OfCommandMove>;
 
-impl Names for FieldsOfCommandMove {
-    ghost names = { name "kind" ∷ name "x" ∷ name "y" ∷ [] };
+type Field2OfCommandMove = ReadFieldOr<
+    FieldsOfCommandMove,
+    2,
+    Option<i32>,
+    OthersSkipped<FieldsOfCommandMove>,
+>;
 
-    #[tactic(auto, unfolding(serde_content::specs::Literals::name))]
-    fn names() -> &'static [&'static str] {
-        &["kind", "x", "y"]
-    }
-}
-
-/// Those that are read together.
-struct FieldsOfCommandMove1To2;
-
-impl Names for FieldsOfCommandMove1To2 {
-    ghost names = { name "x" ∷ name "y" ∷ [] };
-
-    #[tactic(auto, unfolding(serde_content::specs::Literals::name))]
-    fn names() -> &'static [&'static str] {
-        &["x", "y"]
-    }
-}
-
-/// Fields, wherever they stand.
+/// Reads the fields, in any order.
 fn read_command_move<'de, 'n: 'de>(
     alloc: Global,
     fields: FieldsByName<'de, 'n>,
@@ -176,18 +155,14 @@ fn read_command_move<'de, 'n: 'de>(
         NoOthers))
         (fields_left fields.entry)) result }
 {
-    read_two_of(
-        alloc,
-        fields,
-        &FieldsOfCommandMove1To2,
-        None,
-        Some(None),
-        &FieldsOfCommandMove,
-        false,
-    )
+    let row: Field1OfCommandMove = ReadFields::read(alloc, fields)?;
+    let ReadField(x, row, _) = row;
+    let ReadFieldOr(y, _, _) = row;
+    Ok((x, y))
 }
 
 /// The names of its variants.
+#[derive(Drop)]
 struct NamesOfCommand;
 
 impl Names for NamesOfCommand {
@@ -223,13 +198,10 @@ impl Serialize for Command {
     fn serialize<S: Serializer>(&self, alloc: Global, serializer: &mut S) -> Result<()> {
         match self {
             Command::Stop => {
-                send_one(
-                    alloc,
-                    serializer,
-                    Call::Struct(name_command(), 1),
-                    Call::Field(name_kind()),
-                    &name_stop(),
-                )
+                let row = SendEnd;
+                let row = SendTag(FieldsOfCommandStop, NamesOfCommand, 0, row);
+                let row = SendOpen(Call::Struct(name_command(), 1), row);
+                send_row(alloc, serializer, &row)
             }
             Command::Move { x, y } => send_whole_command_move(alloc, serializer, self, x, y),
         }
@@ -281,7 +253,7 @@ impl<'de> TaggedVariants<'de> for Command {
     ) -> Result<Command> {
         match variant_index(tag, &NamesOfCommand) {
             Some(0) => {
-                skip_fields(alloc, fields, &[name_kind()])?;
+                let _: OthersSkipped<FieldsOfCommandStop> = ReadFields::read(alloc, fields)?;
                 Ok(Command::Stop)
             }
             Some(1) => {
@@ -427,31 +399,6 @@ fn make_setting_level(x1: i32) -> Setting
     Setting::Level(x1)
 }
 
-/// Sends values of any types, so that its proof looks into none.
-fn send_setting_range<S: Serializer, T1: Serialize, T2: Serialize>(
-    alloc: Global,
-    serializer: &mut S,
-    x1: &T1,
-    x2: &T2,
-) -> Result<()>
-    ensures { Sends S.step S.refuses (S.seen serializer.old)
-        (tuple_script 2
-        (element_first (T1.script x1.now)
-        (element_first (T2.script x2.now)
-        end_script)))
-        result (S.seen serializer.new) }
-{
-    send_two(
-        alloc,
-        serializer,
-        Call::Tuple(2),
-        Call::Element,
-        x1,
-        Call::Element,
-        x2,
-    )
-}
-
 /// Sends that variant.
 fn send_whole_setting_range<S: Serializer>(
     alloc: Global,
@@ -465,7 +412,11 @@ fn send_whole_setting_range<S: Serializer>(
         (⟦<Setting as Serialize>⟧.script whole.now)
         result (S.seen serializer.new) }
 {
-    send_setting_range(alloc, serializer, x1, x2)
+    let row = SendEnd;
+    let row = SendElement(x2, row);
+    let row = SendElement(x1, row);
+    let row = SendOpen(Call::Tuple(2), row);
+    send_row(alloc, serializer, &row)
 }
 
 impl Serialize for Setting {
@@ -692,31 +643,6 @@ pub enum Steps {
     List(Vec<u8>),
 }
 
-/// Sends values of any types, so that its proof looks into none.
-fn send_steps_pair<S: Serializer, T1: Serialize, T2: Serialize>(
-    alloc: Global,
-    serializer: &mut S,
-    x1: &T1,
-    x2: &T2,
-) -> Result<()>
-    ensures { Sends S.step S.refuses (S.seen serializer.old)
-        (tuple_script 2
-        (element_first (T1.script x1.now)
-        (element_first (T2.script x2.now)
-        end_script)))
-        result (S.seen serializer.new) }
-{
-    send_two(
-        alloc,
-        serializer,
-        Call::Tuple(2),
-        Call::Element,
-        x1,
-        Call::Element,
-        x2,
-    )
-}
-
 /// Sends that variant.
 fn send_whole_steps_pair<S: Serializer>(
     alloc: Global,
@@ -730,7 +656,11 @@ fn send_whole_steps_pair<S: Serializer>(
         (⟦<Steps as Serialize>⟧.script whole.now)
         result (S.seen serializer.new) }
 {
-    send_steps_pair(alloc, serializer, x1, x2)
+    let row = SendEnd;
+    let row = SendElement(x2, row);
+    let row = SendElement(x1, row);
+    let row = SendOpen(Call::Tuple(2), row);
+    send_row(alloc, serializer, &row)
 }
 
 impl Serialize for Steps {
@@ -794,35 +724,6 @@ pub enum Color {
     Rgba(u8, u8, u8, u8),
 }
 
-/// Sends values of any types, so that its proof looks into none.
-fn send_color_rgb<S: Serializer, T1: Serialize, T2: Serialize, T3: Serialize>(
-    alloc: Global,
-    serializer: &mut S,
-    x1: &T1,
-    x2: &T2,
-    x3: &T3,
-) -> Result<()>
-    ensures { Sends S.step S.refuses (S.seen serializer.old)
-        (tuple_script 3
-        (element_first (T1.script x1.now)
-        (element_first (T2.script x2.now)
-        (element_first (T3.script x3.now)
-        end_script))))
-        result (S.seen serializer.new) }
-{
-    send_three(
-        alloc,
-        serializer,
-        Call::Tuple(3),
-        Call::Element,
-        x1,
-        Call::Element,
-        x2,
-        Call::Element,
-        x3,
-    )
-}
-
 /// Sends that variant.
 fn send_whole_color_rgb<S: Serializer>(
     alloc: Global,
@@ -837,40 +738,12 @@ fn send_whole_color_rgb<S: Serializer>(
         (⟦<Color as Serialize>⟧.script whole.now)
         result (S.seen serializer.new) }
 {
-    send_color_rgb(alloc, serializer, x1, x2, x3)
-}
-
-/// Sends values of any types, so that its proof looks into none.
-fn send_color_rgba<S: Serializer, T1: Serialize, T2: Serialize, T3: Serialize, T4: Serialize>(
-    alloc: Global,
-    serializer: &mut S,
-    x1: &T1,
-    x2: &T2,
-    x3: &T3,
-    x4: &T4,
-) -> Result<()>
-    ensures { Sends S.step S.refuses (S.seen serializer.old)
-        (tuple_script 4
-        (element_first (T1.script x1.now)
-        (element_first (T2.script x2.now)
-        (element_first (T3.script x3.now)
-        (element_first (T4.script x4.now)
-        end_script)))))
-        result (S.seen serializer.new) }
-{
-    send_four(
-        alloc,
-        serializer,
-        Call::Tuple(4),
-        Call::Element,
-        x1,
-        Call::Element,
-        x2,
-        Call::Element,
-        x3,
-        Call::Element,
-        x4,
-    )
+    let row = SendEnd;
+    let row = SendElement(x3, row);
+    let row = SendElement(x2, row);
+    let row = SendElement(x1, row);
+    let row = SendOpen(Call::Tuple(3), row);
+    send_row(alloc, serializer, &row)
 }
 
 /// Sends that variant.
@@ -888,7 +761,13 @@ fn send_whole_color_rgba<S: Serializer>(
         (⟦<Color as Serialize>⟧.script whole.now)
         result (S.seen serializer.new) }
 {
-    send_color_rgba(alloc, serializer, x1, x2, x3, x4)
+    let row = SendEnd;
+    let row = SendElement(x4, row);
+    let row = SendElement(x3, row);
+    let row = SendElement(x2, row);
+    let row = SendElement(x1, row);
+    let row = SendOpen(Call::Tuple(4), row);
+    send_row(alloc, serializer, &row)
 }
 
 impl Serialize for Color {
@@ -1061,44 +940,4 @@ fn name_command() -> &'static str
     ensures { result.now ≡ name "Command" }
 {
     "Command"
-}
-
-/// The name `kind`.
-#[tactic(auto, unfolding(serde_content::specs::Literals::name))]
-fn name_kind() -> &'static str
-    ensures { result.now ≡ name "kind" }
-{
-    "kind"
-}
-
-/// The name `move`.
-#[tactic(auto, unfolding(serde_content::specs::Literals::name))]
-fn name_move() -> &'static str
-    ensures { result.now ≡ name "move" }
-{
-    "move"
-}
-
-/// The name `x`.
-#[tactic(auto, unfolding(serde_content::specs::Literals::name))]
-fn name_x() -> &'static str
-    ensures { result.now ≡ name "x" }
-{
-    "x"
-}
-
-/// The name `y`.
-#[tactic(auto, unfolding(serde_content::specs::Literals::name))]
-fn name_y() -> &'static str
-    ensures { result.now ≡ name "y" }
-{
-    "y"
-}
-
-/// The name `stop`.
-#[tactic(auto, unfolding(serde_content::specs::Literals::name))]
-fn name_stop() -> &'static str
-    ensures { result.now ≡ name "stop" }
-{
-    "stop"
 }

@@ -51,11 +51,12 @@ ghost use Rattle.content_tree.specs.Values.Ranges as kind;
 ghost use Rattle.check_derive.specs.declared.inlined.Change.TheVariants as change;
 
 use content_cbor::{CborRoundTrip, NotNull};
-use serde_content::de::{
-    Deserialize, FieldsByName, Names, TaggedVariants, no_such_variant, read_four_of, read_tagged,
-    read_two_of, variant_index,
+use serde_content::de::{Deserialize, FieldsByName};
+use serde_content::derive_support::{
+    Names, OthersSkipped, ReadField, ReadFieldOr, ReadFields, SendEnd, SendEntry, SendField,
+    SendOpen, SendTag, TaggedVariants, no_such_variant, read_tagged, send_row, variant_index,
 };
-use serde_content::ser::{Call, Serialize, Serializer, send_eight, send_three, send_two};
+use serde_content::ser::{Call, Serialize, Serializer};
 use serde_content::{Deserializer, Result, RoundTrip};
 use std::alloc::Global;
 
@@ -69,6 +70,7 @@ pub struct Amount {
 }
 
 /// The names of its fields.
+#[derive(Drop)]
 struct FieldsOfAmount;
 
 impl Names for FieldsOfAmount {
@@ -80,7 +82,11 @@ impl Names for FieldsOfAmount {
     }
 }
 
-/// Fields, wherever they stand.
+type Field1OfAmount = ReadField<FieldsOfAmount, 0, i32, Field2OfAmount>;
+
+type Field2OfAmount = ReadFieldOr<FieldsOfAmount, 1, Option<String>, OthersSkipped<FieldsOfAmount>>;
+
+/// Reads the fields, in any order.
 fn read_amount<'de, 'n: 'de>(alloc: Global, fields: FieldsByName<'de, 'n>) -> Result<Amount>
     ensures { Reads (
         (named_then (name "count") (⟦<i32 as Deserialize<'de>>⟧.refusal)
@@ -94,15 +100,9 @@ fn read_amount<'de, 'n: 'de>(alloc: Global, fields: FieldsByName<'de, 'n>) -> Re
         NoOthers))
         (fields_left fields.entry)) result }
 {
-    let (count, unit) = read_two_of(
-        alloc,
-        fields,
-        &FieldsOfAmount,
-        None,
-        Some(None),
-        &FieldsOfAmount,
-        false,
-    )?;
+    let row: Field1OfAmount = ReadFields::read(alloc, fields)?;
+    let ReadField(count, row, _) = row;
+    let ReadFieldOr(unit, _, _) = row;
     Ok(Amount { count, unit })
 }
 
@@ -118,15 +118,11 @@ impl Serialize for Amount {
         struct_end_fits)) };
 
     fn serialize<S: Serializer>(&self, alloc: Global, serializer: &mut S) -> Result<()> {
-        send_two(
-            alloc,
-            serializer,
-            Call::Struct(name_amount(), 2),
-            Call::Field(name_count()),
-            &self.count,
-            Call::Field(name_unit()),
-            &self.unit,
-        )
+        let row = SendEnd;
+        let row = SendField(FieldsOfAmount, 1, &self.unit, row);
+        let row = SendField(FieldsOfAmount, 0, &self.count, row);
+        let row = SendOpen(Call::Struct(name_amount(), 2), row);
+        send_row(alloc, serializer, &row)
     }
 }
 
@@ -212,48 +208,8 @@ pub struct Line {
     pub price: u64,
 }
 
-/// Sends values of any types, so that its proof looks into none.
-fn send_line<S: Serializer, T1: Serialize, T2: Serialize, T3: Serialize, T4: Serialize>(
-    alloc: Global,
-    serializer: &mut S,
-    x1: &T1,
-    x2: &T2,
-    x3: &T3,
-    x4: &T4,
-) -> Result<()>
-    ensures { Sends S.step S.refuses (S.seen serializer.old)
-        (flattened_script
-        (flattened_first (name "goods") (T1.script x1.now)
-        (flattened_first (name "count") (T2.script x2.now)
-        (flattened_first (name "unit") (T3.script x3.now)
-        (flattened_first (name "price") (T4.script x4.now)
-        end_script)))))
-        result (S.seen serializer.new) }
-{
-    send_eight(
-        alloc,
-        serializer,
-        Call::Map(None),
-        Call::Key,
-        &name_goods(),
-        Call::Value,
-        x1,
-        Call::Key,
-        &name_count(),
-        Call::Value,
-        x2,
-        Call::Key,
-        &name_unit(),
-        Call::Value,
-        x3,
-        Call::Key,
-        &name_price(),
-        Call::Value,
-        x4,
-    )
-}
-
 /// The names of its fields.
+#[derive(Drop)]
 struct FieldsOfLine;
 
 impl Names for FieldsOfLine {
@@ -265,7 +221,15 @@ impl Names for FieldsOfLine {
     }
 }
 
-/// Fields, wherever they stand.
+type Field1OfLine = ReadField<FieldsOfLine, 0, String, Field2OfLine>;
+
+type Field2OfLine = ReadField<FieldsOfLine, 1, i32, Field3OfLine>;
+
+type Field3OfLine = ReadFieldOr<FieldsOfLine, 2, Option<String>, Field4OfLine>;
+
+type Field4OfLine = ReadField<FieldsOfLine, 3, u64, OthersSkipped<FieldsOfLine>>;
+
+/// Reads the fields, in any order.
 fn read_line<'de, 'n: 'de>(alloc: Global, fields: FieldsByName<'de, 'n>) -> Result<Line>
     ensures { Reads (
         (named_then (name "goods") (⟦<String as Deserialize<'de>>⟧.refusal)
@@ -283,17 +247,11 @@ fn read_line<'de, 'n: 'de>(alloc: Global, fields: FieldsByName<'de, 'n>) -> Resu
         NoOthers))))
         (fields_left fields.entry)) result }
 {
-    let (goods, amount_count, amount_unit, price) = read_four_of(
-        alloc,
-        fields,
-        &FieldsOfLine,
-        None,
-        None,
-        Some(None),
-        None,
-        &FieldsOfLine,
-        false,
-    )?;
+    let row: Field1OfLine = ReadFields::read(alloc, fields)?;
+    let ReadField(goods, row, _) = row;
+    let ReadField(amount_count, row, _) = row;
+    let ReadFieldOr(amount_unit, row, _) = row;
+    let ReadField(price, _, _) = row;
     Ok(Line {
         goods,
         amount: Amount {
@@ -321,14 +279,13 @@ impl Serialize for Line {
         flattened_end_fits)))) };
 
     fn serialize<S: Serializer>(&self, alloc: Global, serializer: &mut S) -> Result<()> {
-        send_line(
-            alloc,
-            serializer,
-            &self.goods,
-            &self.amount.count,
-            &self.amount.unit,
-            &self.price,
-        )
+        let row = SendEnd;
+        let row = SendEntry(FieldsOfLine, 3, &self.price, row);
+        let row = SendEntry(FieldsOfLine, 2, &self.amount.unit, row);
+        let row = SendEntry(FieldsOfLine, 1, &self.amount.count, row);
+        let row = SendEntry(FieldsOfLine, 0, &self.goods, row);
+        let row = SendOpen(Call::Map(None), row);
+        send_row(alloc, serializer, &row)
     }
 }
 
@@ -426,31 +383,17 @@ pub enum Change {
     Add(Amount),
 }
 
-/// Sends values of any types, so that its proof looks into none.
-fn send_change_add<S: Serializer, T1: Serialize, T2: Serialize>(
-    alloc: Global,
-    serializer: &mut S,
-    x1: &T1,
-    x2: &T2,
-) -> Result<()>
-    ensures { Sends S.step S.refuses (S.seen serializer.old)
-        (tagged_script (name "Amount") 3 (name "op") (name "add")
-        (field_first (name "count") (T1.script x1.now)
-        (field_first (name "unit") (T2.script x2.now)
-        end_script)))
-        result (S.seen serializer.new) }
-{
-    send_three(
-        alloc,
-        serializer,
-        Call::Struct(name_amount(), 3),
-        Call::Field(name_op()),
-        &name_add(),
-        Call::Field(name_count()),
-        x1,
-        Call::Field(name_unit()),
-        x2,
-    )
+/// The names of its fields.
+#[derive(Drop)]
+struct FieldsOfChangeAdd;
+
+impl Names for FieldsOfChangeAdd {
+    ghost names = { name "op" ∷ name "count" ∷ name "unit" ∷ [] };
+
+    #[tactic(auto, unfolding(serde_content::specs::Literals::name))]
+    fn names() -> &'static [&'static str] {
+        &["op", "count", "unit"]
+    }
 }
 
 /// Sends that variant.
@@ -465,34 +408,24 @@ fn send_whole_change_add<S: Serializer>(
         (⟦<Change as Serialize>⟧.script whole.now)
         result (S.seen serializer.new) }
 {
-    send_change_add(alloc, serializer, &x1.count, &x1.unit)
+    let row = SendEnd;
+    let row = SendField(FieldsOfChangeAdd, 2, &x1.unit, row);
+    let row = SendField(FieldsOfChangeAdd, 1, &x1.count, row);
+    let row = SendTag(FieldsOfChangeAdd, NamesOfChange, 0, row);
+    let row = SendOpen(Call::Struct(name_amount(), 3), row);
+    send_row(alloc, serializer, &row)
 }
 
-/// The names of its fields.
-struct FieldsOfChangeAdd;
+type Field1OfChangeAdd = ReadField<FieldsOfChangeAdd, 1, i32, Field2OfChangeAdd>;
 
-impl Names for FieldsOfChangeAdd {
-    ghost names = { name "op" ∷ name "count" ∷ name "unit" ∷ [] };
+type Field2OfChangeAdd = ReadFieldOr<
+    FieldsOfChangeAdd,
+    2,
+    Option<String>,
+    OthersSkipped<FieldsOfChangeAdd>,
+>;
 
-    #[tactic(auto, unfolding(serde_content::specs::Literals::name))]
-    fn names() -> &'static [&'static str] {
-        &["op", "count", "unit"]
-    }
-}
-
-/// Those that are read together.
-struct FieldsOfChangeAdd1To2;
-
-impl Names for FieldsOfChangeAdd1To2 {
-    ghost names = { name "count" ∷ name "unit" ∷ [] };
-
-    #[tactic(auto, unfolding(serde_content::specs::Literals::name))]
-    fn names() -> &'static [&'static str] {
-        &["count", "unit"]
-    }
-}
-
-/// Fields, wherever they stand.
+/// Reads the fields, in any order.
 fn read_change_add<'de, 'n: 'de>(alloc: Global, fields: FieldsByName<'de, 'n>) -> Result<Amount>
     ensures { Reads (
         (named_then (name "count") (⟦<i32 as Deserialize<'de>>⟧.refusal)
@@ -506,19 +439,14 @@ fn read_change_add<'de, 'n: 'de>(alloc: Global, fields: FieldsByName<'de, 'n>) -
         NoOthers))
         (fields_left fields.entry)) result }
 {
-    let (count, unit) = read_two_of(
-        alloc,
-        fields,
-        &FieldsOfChangeAdd1To2,
-        None,
-        Some(None),
-        &FieldsOfChangeAdd,
-        false,
-    )?;
+    let row: Field1OfChangeAdd = ReadFields::read(alloc, fields)?;
+    let ReadField(count, row, _) = row;
+    let ReadFieldOr(unit, _, _) = row;
     Ok(Amount { count, unit })
 }
 
 /// The names of its variants.
+#[derive(Drop)]
 struct NamesOfChange;
 
 impl Names for NamesOfChange {
@@ -702,52 +630,4 @@ fn name_amount() -> &'static str
     ensures { result.now ≡ name "Amount" }
 {
     "Amount"
-}
-
-/// The name `count`.
-#[tactic(auto, unfolding(serde_content::specs::Literals::name))]
-fn name_count() -> &'static str
-    ensures { result.now ≡ name "count" }
-{
-    "count"
-}
-
-/// The name `unit`.
-#[tactic(auto, unfolding(serde_content::specs::Literals::name))]
-fn name_unit() -> &'static str
-    ensures { result.now ≡ name "unit" }
-{
-    "unit"
-}
-
-/// The name `goods`.
-#[tactic(auto, unfolding(serde_content::specs::Literals::name))]
-fn name_goods() -> &'static str
-    ensures { result.now ≡ name "goods" }
-{
-    "goods"
-}
-
-/// The name `price`.
-#[tactic(auto, unfolding(serde_content::specs::Literals::name))]
-fn name_price() -> &'static str
-    ensures { result.now ≡ name "price" }
-{
-    "price"
-}
-
-/// The name `op`.
-#[tactic(auto, unfolding(serde_content::specs::Literals::name))]
-fn name_op() -> &'static str
-    ensures { result.now ≡ name "op" }
-{
-    "op"
-}
-
-/// The name `add`.
-#[tactic(auto, unfolding(serde_content::specs::Literals::name))]
-fn name_add() -> &'static str
-    ensures { result.now ≡ name "add" }
-{
-    "add"
 }

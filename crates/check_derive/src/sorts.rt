@@ -59,11 +59,13 @@ ghost use Rattle.check_derive.specs.declared.sorts.Message.TheVariants as messag
 
 use crate::types::Place;
 use content_cbor::{CborRoundTrip, NotNull};
-use serde_content::de::{
-    Deserialize, FieldsByName, Names, TaggedVariants, no_such_variant, read_adjacent, read_one_of,
-    skip_fields, two_parts, variant_index,
+use serde_content::de::{Deserialize, FieldsByName};
+use serde_content::derive_support::{
+    Names, OthersSkipped, PartsEnd, ReadField, ReadFields, ReadPart, ReadParts, SendEnd, SendField,
+    SendOpen, SendPart, SendTag, TaggedVariants, no_such_variant, read_adjacent, send_row,
+    variant_index,
 };
-use serde_content::ser::{Call, Parts, Serialize, Serializer, send_one, send_two};
+use serde_content::ser::{Call, Parts, Serialize, Serializer};
 use serde_content::{Deserializer, Result, RoundTrip};
 use std::alloc::Global;
 use std::collections::BTreeMap;
@@ -159,6 +161,10 @@ impl<'de> NotNull<'de> for Code {
 #[derive(Drop, PartialEq, Eq)]
 pub struct Stop(pub i32, pub Option<Place>);
 
+type Part1OfStop = ReadPart<2, 0, i32, Part2OfStop>;
+
+type Part2OfStop = ReadPart<2, 1, Option<Place>, PartsEnd<2>>;
+
 impl Serialize for Stop {
     ghost use Rattle.check_derive.specs.contracts.types.PlaceSerialize.TheImpl.Laws as place_serialize;
 
@@ -174,15 +180,11 @@ impl Serialize for Stop {
         tuple_end_fits)) };
 
     fn serialize<S: Serializer>(&self, alloc: Global, serializer: &mut S) -> Result<()> {
-        send_two(
-            alloc,
-            serializer,
-            Call::TupleStruct(name_stop(), 2),
-            Call::TupleField,
-            &self.0,
-            Call::TupleField,
-            &self.1,
-        )
+        let row = SendEnd;
+        let row = SendPart(&self.1, row);
+        let row = SendPart(&self.0, row);
+        let row = SendOpen(Call::TupleStruct(name_stop(), 2), row);
+        send_row(alloc, serializer, &row)
     }
 }
 
@@ -199,7 +201,9 @@ impl<'de> Deserialize<'de> for Stop {
 
     fn deserialize<'n: 'de>(alloc: Global, from: Deserializer<'de, 'n>) -> Result<Stop> {
         let parts = from.deserialize_tuple_struct(alloc, name_stop(), 2)?;
-        let (x1, x2) = two_parts(alloc, parts)?;
+        let row: Part1OfStop = ReadParts::read(alloc, parts)?;
+        let ReadPart(x1, row) = row;
+        let ReadPart(x2, _) = row;
         Ok(Stop(x1, x2))
     }
 }
@@ -349,6 +353,7 @@ pub enum Message {
 }
 
 /// The names of its fields.
+#[derive(Drop)]
 struct FieldsOfMessagePing;
 
 impl Names for FieldsOfMessagePing {
@@ -361,6 +366,7 @@ impl Names for FieldsOfMessagePing {
 }
 
 /// The names of its fields.
+#[derive(Drop)]
 struct FieldsOfMessageText;
 
 impl Names for FieldsOfMessageText {
@@ -372,19 +378,14 @@ impl Names for FieldsOfMessageText {
     }
 }
 
-/// Those that are read together.
-struct FieldsOfMessageText1To1;
+type Field1OfMessageText = ReadField<
+    FieldsOfMessageText,
+    1,
+    String,
+    OthersSkipped<FieldsOfMessageText>,
+>;
 
-impl Names for FieldsOfMessageText1To1 {
-    ghost names = { name "c" ∷ [] };
-
-    #[tactic(auto, unfolding(serde_content::specs::Literals::name))]
-    fn names() -> &'static [&'static str] {
-        &["c"]
-    }
-}
-
-/// Fields, wherever they stand.
+/// Reads the fields, in any order.
 fn read_message_text<'de, 'n: 'de>(alloc: Global, fields: FieldsByName<'de, 'n>) -> Result<String>
     ensures { Reads (
         (named_then (name "c") (⟦<String as Deserialize<'de>>⟧.refusal)
@@ -395,17 +396,13 @@ fn read_message_text<'de, 'n: 'de>(alloc: Global, fields: FieldsByName<'de, 'n>)
         NoOthers)
         (fields_left fields.entry)) result }
 {
-    read_one_of(
-        alloc,
-        fields,
-        &FieldsOfMessageText1To1,
-        None,
-        &FieldsOfMessageText,
-        false,
-    )
+    let row: Field1OfMessageText = ReadFields::read(alloc, fields)?;
+    let ReadField(x1, _, _) = row;
+    Ok(x1)
 }
 
 /// The names of its variants.
+#[derive(Drop)]
 struct NamesOfMessage;
 
 impl Names for NamesOfMessage {
@@ -439,24 +436,17 @@ impl Serialize for Message {
     fn serialize<S: Serializer>(&self, alloc: Global, serializer: &mut S) -> Result<()> {
         match self {
             Message::Ping => {
-                send_one(
-                    alloc,
-                    serializer,
-                    Call::Struct(name_message(), 1),
-                    Call::Field(name_t()),
-                    &name_ping(),
-                )
+                let row = SendEnd;
+                let row = SendTag(FieldsOfMessagePing, NamesOfMessage, 0, row);
+                let row = SendOpen(Call::Struct(name_message(), 1), row);
+                send_row(alloc, serializer, &row)
             }
             Message::Text(x1) => {
-                send_two(
-                    alloc,
-                    serializer,
-                    Call::Struct(name_message(), 2),
-                    Call::Field(name_t()),
-                    &name_text(),
-                    Call::Field(name_c()),
-                    x1,
-                )
+                let row = SendEnd;
+                let row = SendField(FieldsOfMessageText, 1, x1, row);
+                let row = SendTag(FieldsOfMessageText, NamesOfMessage, 1, row);
+                let row = SendOpen(Call::Struct(name_message(), 2), row);
+                send_row(alloc, serializer, &row)
             }
         }
     }
@@ -504,7 +494,7 @@ impl<'de> TaggedVariants<'de> for Message {
     ) -> Result<Message> {
         match variant_index(tag, &NamesOfMessage) {
             Some(0) => {
-                skip_fields(alloc, fields, &[name_t()])?;
+                let _: OthersSkipped<FieldsOfMessagePing> = ReadFields::read(alloc, fields)?;
                 Ok(Message::Ping)
             }
             Some(1) => {
@@ -645,36 +635,4 @@ fn name_message() -> &'static str
     ensures { result.now ≡ name "Message" }
 {
     "Message"
-}
-
-/// The name `t`.
-#[tactic(auto, unfolding(serde_content::specs::Literals::name))]
-fn name_t() -> &'static str
-    ensures { result.now ≡ name "t" }
-{
-    "t"
-}
-
-/// The name `Ping`.
-#[tactic(auto, unfolding(serde_content::specs::Literals::name))]
-fn name_ping() -> &'static str
-    ensures { result.now ≡ name "Ping" }
-{
-    "Ping"
-}
-
-/// The name `Text`.
-#[tactic(auto, unfolding(serde_content::specs::Literals::name))]
-fn name_text() -> &'static str
-    ensures { result.now ≡ name "Text" }
-{
-    "Text"
-}
-
-/// The name `c`.
-#[tactic(auto, unfolding(serde_content::specs::Literals::name))]
-fn name_c() -> &'static str
-    ensures { result.now ≡ name "c" }
-{
-    "c"
 }

@@ -5,7 +5,6 @@
 ghost use Rattle.std.specs.Prelude.{◌≡◌, ◌∷◌, [], ℕ, ℤ, Option, None, string_bytes, refl, ⊤};
 ghost use Rattle.std.specs.Cmp.Lexicographic.{texts_ties};
 ghost use Rattle.std.specs.String.{string_cmp_total};
-ghost use Rattle.content_ser.specs.Scripts.Sends.{Sends};
 ghost use Rattle.content_ser.specs.Scripts.Own.{field_first, tuple_field_first, end_script};
 ghost use Rattle.content_ser.specs.Scripts.Own.{unit_variant_script, newtype_variant_script};
 ghost use Rattle.content_ser.specs.Scripts.Own.{tuple_variant_script, struct_script};
@@ -76,11 +75,13 @@ ghost use Rattle.check_derive.specs.declared.types.Step.{Step};
 ghost use Rattle.check_derive.specs.declared.types.Step.TheVariants as step;
 
 use content_cbor::{CborRoundTrip, NotNull};
-use serde_content::de::{
-    Deserialize, FieldsByName, Names, VariantAccess, Variants, no_such_variant, read_enum,
-    read_six_of, read_two_of, two_parts, variant_index,
+use serde_content::de::{Deserialize, FieldsByName, VariantAccess};
+use serde_content::derive_support::{
+    Names, OthersRefused, OthersSkipped, PartsEnd, ReadField, ReadFieldOr, ReadFields, ReadPart,
+    ReadParts, SendEnd, SendField, SendOpen, SendPart, Variants, no_such_variant, read_enum,
+    send_row, variant_index,
 };
-use serde_content::ser::{Call, Parts, Serialize, Serializer, send_six, send_two};
+use serde_content::ser::{Call, Parts, Serialize, Serializer};
 use serde_content::{Deserializer, Result, RoundTrip};
 use std::alloc::Global;
 use std::collections::BTreeMap;
@@ -95,6 +96,7 @@ pub struct Place {
 }
 
 /// The names of its fields.
+#[derive(Drop)]
 struct FieldsOfPlace;
 
 impl Names for FieldsOfPlace {
@@ -106,7 +108,11 @@ impl Names for FieldsOfPlace {
     }
 }
 
-/// Fields, wherever they stand.
+type Field1OfPlace = ReadField<FieldsOfPlace, 0, String, Field2OfPlace>;
+
+type Field2OfPlace = ReadFieldOr<FieldsOfPlace, 1, Option<u8>, OthersRefused<FieldsOfPlace>>;
+
+/// Reads the fields, in any order.
 fn read_place<'de, 'n: 'de>(alloc: Global, fields: FieldsByName<'de, 'n>) -> Result<Place>
     ensures { Reads (
         (named_then (name "streetName") (⟦<String as Deserialize<'de>>⟧.refusal)
@@ -120,15 +126,9 @@ fn read_place<'de, 'n: 'de>(alloc: Global, fields: FieldsByName<'de, 'n>) -> Res
         NoOthers))
         (fields_left fields.entry)) result }
 {
-    let (street_name, floor) = read_two_of(
-        alloc,
-        fields,
-        &FieldsOfPlace,
-        None,
-        Some(None),
-        &FieldsOfPlace,
-        true,
-    )?;
+    let row: Field1OfPlace = ReadFields::read(alloc, fields)?;
+    let ReadField(street_name, row, _) = row;
+    let ReadFieldOr(floor, _, _) = row;
     Ok(Place { street_name, floor })
 }
 
@@ -144,15 +144,11 @@ impl Serialize for Place {
         struct_end_fits)) };
 
     fn serialize<S: Serializer>(&self, alloc: Global, serializer: &mut S) -> Result<()> {
-        send_two(
-            alloc,
-            serializer,
-            Call::Struct(name_place(), 2),
-            Call::Field(name_street_name()),
-            &self.street_name,
-            Call::Field(name_floor()),
-            &self.floor,
-        )
+        let row = SendEnd;
+        let row = SendField(FieldsOfPlace, 1, &self.floor, row);
+        let row = SendField(FieldsOfPlace, 0, &self.street_name, row);
+        let row = SendOpen(Call::Struct(name_place(), 2), row);
+        send_row(alloc, serializer, &row)
     }
 }
 
@@ -249,7 +245,12 @@ fn make_step_moved(x1: i32, x2: i32) -> Step
     Step::Moved(x1, x2)
 }
 
+type Part1OfStepMoved = ReadPart<2, 0, i32, Part2OfStepMoved>;
+
+type Part2OfStepMoved = ReadPart<2, 1, i32, PartsEnd<2>>;
+
 /// The names of its fields.
+#[derive(Drop)]
 struct FieldsOfStepLeft;
 
 impl Names for FieldsOfStepLeft {
@@ -261,7 +262,11 @@ impl Names for FieldsOfStepLeft {
     }
 }
 
-/// Fields, wherever they stand.
+type Field1OfStepLeft = ReadField<FieldsOfStepLeft, 0, String, Field2OfStepLeft>;
+
+type Field2OfStepLeft = ReadField<FieldsOfStepLeft, 1, Place, OthersSkipped<FieldsOfStepLeft>>;
+
+/// Reads the fields, in any order.
 fn read_step_left<'de, 'n: 'de>(
     alloc: Global,
     fields: FieldsByName<'de, 'n>,
@@ -277,18 +282,14 @@ fn read_step_left<'de, 'n: 'de>(
         NoOthers))
         (fields_left fields.entry)) result }
 {
-    read_two_of(
-        alloc,
-        fields,
-        &FieldsOfStepLeft,
-        None,
-        None,
-        &FieldsOfStepLeft,
-        false,
-    )
+    let row: Field1OfStepLeft = ReadFields::read(alloc, fields)?;
+    let ReadField(with, row, _) = row;
+    let ReadField(place, _, _) = row;
+    Ok((with, place))
 }
 
 /// The names of its variants.
+#[derive(Drop)]
 struct NamesOfStep;
 
 impl Names for NamesOfStep {
@@ -337,26 +338,18 @@ impl Serialize for Step {
                 Call::NewtypeVariant(name_step(), 1, name_weighed()).around(x1, alloc, serializer)
             }
             Step::Moved(x1, x2) => {
-                send_two(
-                    alloc,
-                    serializer,
-                    Call::TupleVariant(name_step(), 2, name_moved_by(), 2),
-                    Call::TupleField,
-                    x1,
-                    Call::TupleField,
-                    x2,
-                )
+                let row = SendEnd;
+                let row = SendPart(x2, row);
+                let row = SendPart(x1, row);
+                let row = SendOpen(Call::TupleVariant(name_step(), 2, name_moved_by(), 2), row);
+                send_row(alloc, serializer, &row)
             }
             Step::Left { with, place } => {
-                send_two(
-                    alloc,
-                    serializer,
-                    Call::StructVariant(name_step(), 3, name_left(), 2),
-                    Call::Field(name_with()),
-                    with,
-                    Call::Field(name_at()),
-                    place,
-                )
+                let row = SendEnd;
+                let row = SendField(FieldsOfStepLeft, 1, place, row);
+                let row = SendField(FieldsOfStepLeft, 0, with, row);
+                let row = SendOpen(Call::StructVariant(name_step(), 3, name_left(), 2), row);
+                send_row(alloc, serializer, &row)
             }
         }
     }
@@ -426,7 +419,9 @@ impl<'de> Variants<'de> for Step {
             Some(1) => Ok(Step::Weighed(variant.newtype_variant(alloc)?)),
             Some(2) => {
                 let parts = variant.tuple_variant(alloc, 2)?;
-                let (x1, x2) = two_parts(alloc, parts)?;
+                let row: Part1OfStepMoved = ReadParts::read(alloc, parts)?;
+                let ReadPart(x1, row) = row;
+                let ReadPart(x2, _) = row;
                 Ok(make_step_moved(x1, x2))
             }
             Some(3) => {
@@ -656,56 +651,8 @@ pub struct Order {
     pub note: Option<Box<String>>,
 }
 
-/// Sends values of any types, so that its proof looks into none.
-fn send_order<
-    S: Serializer,
-    T1: Serialize,
-    T2: Serialize,
-    T3: Serialize,
-    T4: Serialize,
-    T5: Serialize,
-    T6: Serialize,
->(
-    alloc: Global,
-    serializer: &mut S,
-    x1: &T1,
-    x2: &T2,
-    x3: &T3,
-    x4: &T4,
-    x5: &T5,
-    x6: &T6,
-) -> Result<()>
-    ensures { Sends S.step S.refuses (S.seen serializer.old)
-        (struct_script (name "Order") 6
-        (field_first (name "order-id") (T1.script x1.now)
-        (field_first (name "to") (T2.script x2.now)
-        (field_first (name "steps") (T3.script x3.now)
-        (field_first (name "goods") (T4.script x4.now)
-        (field_first (name "size") (T5.script x5.now)
-        (field_first (name "note") (T6.script x6.now)
-        end_script)))))))
-        result (S.seen serializer.new) }
-{
-    send_six(
-        alloc,
-        serializer,
-        Call::Struct(name_order(), 6),
-        Call::Field(name_order_id()),
-        x1,
-        Call::Field(name_to()),
-        x2,
-        Call::Field(name_steps()),
-        x3,
-        Call::Field(name_goods()),
-        x4,
-        Call::Field(name_size()),
-        x5,
-        Call::Field(name_note()),
-        x6,
-    )
-}
-
 /// The names of its fields.
+#[derive(Drop)]
 struct FieldsOfOrder;
 
 impl Names for FieldsOfOrder {
@@ -718,7 +665,24 @@ impl Names for FieldsOfOrder {
     }
 }
 
-/// Fields, wherever they stand.
+type Field1OfOrder = ReadField<FieldsOfOrder, 0, u64, Field2OfOrder>;
+
+type Field2OfOrder = ReadField<FieldsOfOrder, 1, Place, Field3OfOrder>;
+
+type Field3OfOrder = ReadFieldOr<FieldsOfOrder, 2, Vec<Step>, Field4OfOrder>;
+
+type Field4OfOrder = ReadField<FieldsOfOrder, 3, BTreeMap<String, u32>, Field5OfOrder>;
+
+type Field5OfOrder = ReadField<FieldsOfOrder, 4, (u16, u16, u16), Field6OfOrder>;
+
+type Field6OfOrder = ReadFieldOr<
+    FieldsOfOrder,
+    5,
+    Option<Box<String>>,
+    OthersSkipped<FieldsOfOrder>,
+>;
+
+/// Reads the fields, in any order.
 fn read_order<'de, 'n: 'de>(alloc: Global, fields: FieldsByName<'de, 'n>) -> Result<Order>
     ensures { Reads (
         (named_then (name "order-id") (⟦<u64 as Deserialize<'de>>⟧.refusal)
@@ -743,19 +707,13 @@ fn read_order<'de, 'n: 'de>(alloc: Global, fields: FieldsByName<'de, 'n>) -> Res
         NoOthers))))))
         (fields_left fields.entry)) result }
 {
-    let (id, to, steps, goods, size, note) = read_six_of(
-        alloc,
-        fields,
-        &FieldsOfOrder,
-        None,
-        None,
-        Some(Vec::new(alloc)),
-        None,
-        None,
-        Some(None),
-        &FieldsOfOrder,
-        false,
-    )?;
+    let row: Field1OfOrder = ReadFields::read(alloc, fields)?;
+    let ReadField(id, row, _) = row;
+    let ReadField(to, row, _) = row;
+    let ReadFieldOr(steps, row, _) = row;
+    let ReadField(goods, row, _) = row;
+    let ReadField(size, row, _) = row;
+    let ReadFieldOr(note, _, _) = row;
     Ok(Order {
         id,
         to,
@@ -795,16 +753,15 @@ impl Serialize for Order {
         struct_end_fits)))))) };
 
     fn serialize<S: Serializer>(&self, alloc: Global, serializer: &mut S) -> Result<()> {
-        send_order(
-            alloc,
-            serializer,
-            &self.id,
-            &self.to,
-            &self.steps,
-            &self.goods,
-            &self.size,
-            &self.note,
-        )
+        let row = SendEnd;
+        let row = SendField(FieldsOfOrder, 5, &self.note, row);
+        let row = SendField(FieldsOfOrder, 4, &self.size, row);
+        let row = SendField(FieldsOfOrder, 3, &self.goods, row);
+        let row = SendField(FieldsOfOrder, 2, &self.steps, row);
+        let row = SendField(FieldsOfOrder, 1, &self.to, row);
+        let row = SendField(FieldsOfOrder, 0, &self.id, row);
+        let row = SendOpen(Call::Struct(name_order(), 6), row);
+        send_row(alloc, serializer, &row)
     }
 }
 
@@ -1001,22 +958,6 @@ fn name_place() -> &'static str
     "Place"
 }
 
-/// The name `streetName`.
-#[tactic(auto, unfolding(serde_content::specs::Literals::name))]
-fn name_street_name() -> &'static str
-    ensures { result.now ≡ name "streetName" }
-{
-    "streetName"
-}
-
-/// The name `floor`.
-#[tactic(auto, unfolding(serde_content::specs::Literals::name))]
-fn name_floor() -> &'static str
-    ensures { result.now ≡ name "floor" }
-{
-    "floor"
-}
-
 /// The name `Step`.
 #[tactic(auto, unfolding(serde_content::specs::Literals::name))]
 fn name_step() -> &'static str
@@ -1057,74 +998,10 @@ fn name_left() -> &'static str
     "left"
 }
 
-/// The name `with`.
-#[tactic(auto, unfolding(serde_content::specs::Literals::name))]
-fn name_with() -> &'static str
-    ensures { result.now ≡ name "with" }
-{
-    "with"
-}
-
-/// The name `at`.
-#[tactic(auto, unfolding(serde_content::specs::Literals::name))]
-fn name_at() -> &'static str
-    ensures { result.now ≡ name "at" }
-{
-    "at"
-}
-
 /// The name `Order`.
 #[tactic(auto, unfolding(serde_content::specs::Literals::name))]
 fn name_order() -> &'static str
     ensures { result.now ≡ name "Order" }
 {
     "Order"
-}
-
-/// The name `order-id`.
-#[tactic(auto, unfolding(serde_content::specs::Literals::name))]
-fn name_order_id() -> &'static str
-    ensures { result.now ≡ name "order-id" }
-{
-    "order-id"
-}
-
-/// The name `to`.
-#[tactic(auto, unfolding(serde_content::specs::Literals::name))]
-fn name_to() -> &'static str
-    ensures { result.now ≡ name "to" }
-{
-    "to"
-}
-
-/// The name `steps`.
-#[tactic(auto, unfolding(serde_content::specs::Literals::name))]
-fn name_steps() -> &'static str
-    ensures { result.now ≡ name "steps" }
-{
-    "steps"
-}
-
-/// The name `goods`.
-#[tactic(auto, unfolding(serde_content::specs::Literals::name))]
-fn name_goods() -> &'static str
-    ensures { result.now ≡ name "goods" }
-{
-    "goods"
-}
-
-/// The name `size`.
-#[tactic(auto, unfolding(serde_content::specs::Literals::name))]
-fn name_size() -> &'static str
-    ensures { result.now ≡ name "size" }
-{
-    "size"
-}
-
-/// The name `note`.
-#[tactic(auto, unfolding(serde_content::specs::Literals::name))]
-fn name_note() -> &'static str
-    ensures { result.now ≡ name "note" }
-{
-    "note"
 }

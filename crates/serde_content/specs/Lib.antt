@@ -1,7 +1,6 @@
 pub mod RoundTrip
 pub mod Laws
 pub mod Names
-pub mod Named
 pub mod Choices
 pub mod Literals
 pub mod Variants

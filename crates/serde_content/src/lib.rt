@@ -14,15 +14,17 @@ pub use content_tree::{
 pub use round::{RoundTrip, round_trip};
 pub use values::{from_value, to_value};
 
+mod absent;
 mod choosing;
 pub mod de;
+pub mod derive_support;
+mod fields_read;
+mod fields_sent;
 pub mod laws;
 mod literals;
 mod name_lists;
 mod round;
 pub mod samples;
-mod sending;
 pub mod ser;
-mod taking;
 mod values;
 mod variants;

@@ -1,8 +1,5 @@
 //! Serialising: calls, what takes them, and what makes them.
 
-pub use crate::sending::{
-    send_eight, send_five, send_four, send_one, send_seven, send_six, send_three, send_two,
-};
 pub use content_build::{
     Builder, CallsError, Recorder, from_calls, from_calls_prefix, from_calls_within,
 };

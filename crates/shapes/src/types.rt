@@ -50,11 +50,13 @@ ghost use Rattle.content_tree.specs.Values.Ranges as kind;
 ghost use Rattle.shapes.specs.declared.types.Place.{Place};
 ghost use Rattle.shapes.specs.declared.types.Step.TheVariants as step;
 
-use serde_content::de::{
-    Deserialize, FieldsByName, Names, VariantAccess, Variants, no_such_variant, read_enum,
-    read_two_of, two_parts, variant_index,
+use serde_content::de::{Deserialize, FieldsByName, VariantAccess};
+use serde_content::derive_support::{
+    Names, OthersRefused, OthersSkipped, PartsEnd, ReadField, ReadFieldOr, ReadFields, ReadPart,
+    ReadParts, SendEnd, SendField, SendOpen, SendPart, Variants, no_such_variant, read_enum,
+    send_row, variant_index,
 };
-use serde_content::ser::{Call, Parts, Serialize, Serializer, send_two};
+use serde_content::ser::{Call, Parts, Serialize, Serializer};
 use serde_content::{Deserializer, Result, RoundTrip};
 use std::alloc::Global;
 
@@ -68,6 +70,7 @@ pub struct Place {
 }
 
 /// The names of its fields.
+#[derive(Drop)]
 struct FieldsOfPlace;
 
 impl Names for FieldsOfPlace {
@@ -79,7 +82,11 @@ impl Names for FieldsOfPlace {
     }
 }
 
-/// Fields, wherever they stand.
+type Field1OfPlace = ReadField<FieldsOfPlace, 0, String, Field2OfPlace>;
+
+type Field2OfPlace = ReadFieldOr<FieldsOfPlace, 1, Option<u8>, OthersRefused<FieldsOfPlace>>;
+
+/// Reads the fields, in any order.
 fn read_place<'de, 'n: 'de>(alloc: Global, fields: FieldsByName<'de, 'n>) -> Result<Place>
     ensures { Reads (
         (named_then (name "streetName") (⟦<String as Deserialize<'de>>⟧.refusal)
@@ -93,15 +100,9 @@ fn read_place<'de, 'n: 'de>(alloc: Global, fields: FieldsByName<'de, 'n>) -> Res
         NoOthers))
         (fields_left fields.entry)) result }
 {
-    let (street_name, floor) = read_two_of(
-        alloc,
-        fields,
-        &FieldsOfPlace,
-        None,
-        Some(None),
-        &FieldsOfPlace,
-        true,
-    )?;
+    let row: Field1OfPlace = ReadFields::read(alloc, fields)?;
+    let ReadField(street_name, row, _) = row;
+    let ReadFieldOr(floor, _, _) = row;
     Ok(Place { street_name, floor })
 }
 
@@ -117,15 +118,11 @@ impl Serialize for Place {
         struct_end_fits)) };
 
     fn serialize<S: Serializer>(&self, alloc: Global, serializer: &mut S) -> Result<()> {
-        send_two(
-            alloc,
-            serializer,
-            Call::Struct(name_place(), 2),
-            Call::Field(name_street_name()),
-            &self.street_name,
-            Call::Field(name_floor()),
-            &self.floor,
-        )
+        let row = SendEnd;
+        let row = SendField(FieldsOfPlace, 1, &self.floor, row);
+        let row = SendField(FieldsOfPlace, 0, &self.street_name, row);
+        let row = SendOpen(Call::Struct(name_place(), 2), row);
+        send_row(alloc, serializer, &row)
     }
 }
 
@@ -204,7 +201,12 @@ fn make_step_moved(x1: i32, x2: i32) -> Step
     Step::Moved(x1, x2)
 }
 
+type Part1OfStepMoved = ReadPart<2, 0, i32, Part2OfStepMoved>;
+
+type Part2OfStepMoved = ReadPart<2, 1, i32, PartsEnd<2>>;
+
 /// The names of its fields.
+#[derive(Drop)]
 struct FieldsOfStepLeft;
 
 impl Names for FieldsOfStepLeft {
@@ -216,7 +218,11 @@ impl Names for FieldsOfStepLeft {
     }
 }
 
-/// Fields, wherever they stand.
+type Field1OfStepLeft = ReadField<FieldsOfStepLeft, 0, String, Field2OfStepLeft>;
+
+type Field2OfStepLeft = ReadField<FieldsOfStepLeft, 1, Place, OthersSkipped<FieldsOfStepLeft>>;
+
+/// Reads the fields, in any order.
 fn read_step_left<'de, 'n: 'de>(
     alloc: Global,
     fields: FieldsByName<'de, 'n>,
@@ -232,18 +238,14 @@ fn read_step_left<'de, 'n: 'de>(
         NoOthers))
         (fields_left fields.entry)) result }
 {
-    read_two_of(
-        alloc,
-        fields,
-        &FieldsOfStepLeft,
-        None,
-        None,
-        &FieldsOfStepLeft,
-        false,
-    )
+    let row: Field1OfStepLeft = ReadFields::read(alloc, fields)?;
+    let ReadField(with, row, _) = row;
+    let ReadField(place, _, _) = row;
+    Ok((with, place))
 }
 
 /// The names of its variants.
+#[derive(Drop)]
 struct NamesOfStep;
 
 impl Names for NamesOfStep {
@@ -292,26 +294,18 @@ impl Serialize for Step {
                 Call::NewtypeVariant(name_step(), 1, name_weighed()).around(x1, alloc, serializer)
             }
             Step::Moved(x1, x2) => {
-                send_two(
-                    alloc,
-                    serializer,
-                    Call::TupleVariant(name_step(), 2, name_moved_by(), 2),
-                    Call::TupleField,
-                    x1,
-                    Call::TupleField,
-                    x2,
-                )
+                let row = SendEnd;
+                let row = SendPart(x2, row);
+                let row = SendPart(x1, row);
+                let row = SendOpen(Call::TupleVariant(name_step(), 2, name_moved_by(), 2), row);
+                send_row(alloc, serializer, &row)
             }
             Step::Left { with, place } => {
-                send_two(
-                    alloc,
-                    serializer,
-                    Call::StructVariant(name_step(), 3, name_left(), 2),
-                    Call::Field(name_with()),
-                    with,
-                    Call::Field(name_at()),
-                    place,
-                )
+                let row = SendEnd;
+                let row = SendField(FieldsOfStepLeft, 1, place, row);
+                let row = SendField(FieldsOfStepLeft, 0, with, row);
+                let row = SendOpen(Call::StructVariant(name_step(), 3, name_left(), 2), row);
+                send_row(alloc, serializer, &row)
             }
         }
     }
@@ -381,7 +375,9 @@ impl<'de> Variants<'de> for Step {
             Some(1) => Ok(Step::Weighed(variant.newtype_variant(alloc)?)),
             Some(2) => {
                 let parts = variant.tuple_variant(alloc, 2)?;
-                let (x1, x2) = two_parts(alloc, parts)?;
+                let row: Part1OfStepMoved = ReadParts::read(alloc, parts)?;
+                let ReadPart(x1, row) = row;
+                let ReadPart(x2, _) = row;
                 Ok(make_step_moved(x1, x2))
             }
             Some(3) => {
@@ -531,22 +527,6 @@ fn name_place() -> &'static str
     "Place"
 }
 
-/// The name `streetName`.
-#[tactic(auto, unfolding(serde_content::specs::Literals::name))]
-fn name_street_name() -> &'static str
-    ensures { result.now ≡ name "streetName" }
-{
-    "streetName"
-}
-
-/// The name `floor`.
-#[tactic(auto, unfolding(serde_content::specs::Literals::name))]
-fn name_floor() -> &'static str
-    ensures { result.now ≡ name "floor" }
-{
-    "floor"
-}
-
 /// The name `Step`.
 #[tactic(auto, unfolding(serde_content::specs::Literals::name))]
 fn name_step() -> &'static str
@@ -585,20 +565,4 @@ fn name_left() -> &'static str
     ensures { result.now ≡ name "left" }
 {
     "left"
-}
-
-/// The name `with`.
-#[tactic(auto, unfolding(serde_content::specs::Literals::name))]
-fn name_with() -> &'static str
-    ensures { result.now ≡ name "with" }
-{
-    "with"
-}
-
-/// The name `at`.
-#[tactic(auto, unfolding(serde_content::specs::Literals::name))]
-fn name_at() -> &'static str
-    ensures { result.now ≡ name "at" }
-{
-    "at"
 }

@@ -1,4 +1,0 @@
-use Rattle.serde_content.proofs.sending.send_four.Goals as goal
-
-pub returns : goal.returns
-returns g c = simp c.with.ensures at c.send_three.ensures

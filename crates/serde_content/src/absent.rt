@@ -1,0 +1,152 @@
+//! What is read where a field is missing.
+
+ghost use Rattle.std.specs.Prelude.{◌≡◌, [], None, false, pos, string_bytes};
+
+use std::alloc::Global;
+use std::collections::BTreeMap;
+
+/// A type with a value that is read where a field is missing: the one that its `Default` has.
+pub trait Absent: Sized {
+    /// This is that value.
+    ghost is_absent: { Self → Type 0 };
+
+    /// That value. It takes no memory.
+    fn absent(alloc: Global) -> Self
+        ensures { is_absent result };
+}
+
+impl Absent for bool {
+    ghost is_absent = { λ x. x ≡ false };
+
+    fn absent(_alloc: Global) -> bool {
+        false
+    }
+}
+
+impl Absent for String {
+    ghost is_absent = { λ x. string_bytes x ≡ [] };
+
+    fn absent(alloc: Global) -> String {
+        String::new(alloc)
+    }
+}
+
+impl<T> Absent for Option<T> {
+    ghost is_absent = { λ x. x ≡ None };
+
+    fn absent(_alloc: Global) -> Option<T> {
+        None
+    }
+}
+
+impl<T> Absent for Vec<T> {
+    ghost is_absent = { λ x. x.items ≡ [] };
+
+    fn absent(alloc: Global) -> Vec<T> {
+        Vec::new(alloc)
+    }
+}
+
+impl<K: Ord, V> Absent for BTreeMap<K, V> {
+    ghost is_absent = { λ x. x.entries ≡ [] };
+
+    fn absent(alloc: Global) -> BTreeMap<K, V> {
+        BTreeMap::new(alloc)
+    }
+}
+
+impl Absent for u8 {
+    ghost is_absent = { λ x. x ≡ 0 };
+
+    fn absent(_alloc: Global) -> u8 {
+        0
+    }
+}
+
+impl Absent for u16 {
+    ghost is_absent = { λ x. x ≡ 0 };
+
+    fn absent(_alloc: Global) -> u16 {
+        0
+    }
+}
+
+impl Absent for u32 {
+    ghost is_absent = { λ x. x ≡ 0 };
+
+    fn absent(_alloc: Global) -> u32 {
+        0
+    }
+}
+
+impl Absent for u64 {
+    ghost is_absent = { λ x. x ≡ 0 };
+
+    fn absent(_alloc: Global) -> u64 {
+        0
+    }
+}
+
+impl Absent for u128 {
+    ghost is_absent = { λ x. x ≡ 0 };
+
+    fn absent(_alloc: Global) -> u128 {
+        0
+    }
+}
+
+impl Absent for usize {
+    ghost is_absent = { λ x. x ≡ 0 };
+
+    fn absent(_alloc: Global) -> usize {
+        0
+    }
+}
+
+impl Absent for i8 {
+    ghost is_absent = { λ x. x ≡ pos 0 };
+
+    fn absent(_alloc: Global) -> i8 {
+        0
+    }
+}
+
+impl Absent for i16 {
+    ghost is_absent = { λ x. x ≡ pos 0 };
+
+    fn absent(_alloc: Global) -> i16 {
+        0
+    }
+}
+
+impl Absent for i32 {
+    ghost is_absent = { λ x. x ≡ pos 0 };
+
+    fn absent(_alloc: Global) -> i32 {
+        0
+    }
+}
+
+impl Absent for i64 {
+    ghost is_absent = { λ x. x ≡ pos 0 };
+
+    fn absent(_alloc: Global) -> i64 {
+        0
+    }
+}
+
+impl Absent for i128 {
+    ghost is_absent = { λ x. x ≡ pos 0 };
+
+    fn absent(_alloc: Global) -> i128 {
+        0
+    }
+}
+
+impl Absent for isize {
+    ghost is_absent = { λ x. x ≡ pos 0 };
+
+    fn absent(_alloc: Global) -> isize {
+        0
+    }
+}

@@ -1,0 +1,187 @@
+//! Fields and parts that are read one after another, each by its type: a row of them is itself a
+//! type, such as `ReadField<FieldsOfPoint, 0, i32, ReadField<FieldsOfPoint, 1, i32,
+//! OthersSkipped<FieldsOfPoint>>>`, so that one proof serves rows of every length.
+
+ghost use Rattle.std.specs.Prelude.{◌≡◌, ℕ, [], Option, None, Some, slice_index_or};
+ghost use Rattle.content_tree.specs.Errors.Cause.{Cause};
+ghost use Rattle.content_de.specs.Accesses.ByName.{FieldsLeft, field_named, fields_left};
+ghost use Rattle.content_de.specs.Accesses.ByName.{without_field};
+ghost use Rattle.content_de.specs.Accesses.Seq.{SeqLeft, seq_view};
+ghost use Rattle.content_de.specs.Reads.Read.{Reads};
+ghost use Rattle.content_de.specs.Reads.ByName.{found_refusal, FoundGives, missing_field};
+ghost use Rattle.content_de.specs.Reads.ByName.{named_then, named_or_then, NamedThen};
+ghost use Rattle.content_de.specs.Reads.ByName.{NamedOrThen, NoOthers, no_others, others_skipped};
+ghost use Rattle.content_de.specs.Reads.Tuples.{end_of_parts, NoPart, part_then, PartThen};
+
+use crate::absent::Absent;
+use crate::name_lists::{Names, name_at};
+use content_de::{
+    Deserialize, FieldsByName, Seq, end_fields, field_or, finish_parts, named_field, next_part,
+    skip_fields,
+};
+use content_tree::Result;
+use std::alloc::Global;
+use std::marker::PhantomData;
+
+/// The field whose name has this index among the names `K`, wherever it is.
+#[inline(always)]
+fn field_at<'de, 'n: 'de, K: Names, T: Deserialize<'de>>(
+    alloc: Global,
+    fields: &mut FieldsByName<'de, 'n>,
+    index: usize,
+) -> Result<T>
+    ensures value { Reads
+        (found_refusal (Some (missing_field (slice_index_or K.names index []))) T.refusal
+        (field_named (slice_index_or K.names index []) (fields_left fields.old)))
+        (FoundGives (λ a. ⊥) T.gives
+        (field_named (slice_index_or K.names index []) (fields_left fields.old))) result }
+    ensures rest { fields_left fields.new
+        ≡ without_field (slice_index_or K.names index []) (fields_left fields.old) }
+{
+    named_field(alloc, fields, name_at::<K>(index))
+}
+
+/// The same where it may be missing.
+#[inline(always)]
+fn field_at_or<'de, 'n: 'de, K: Names, T: Deserialize<'de> + Absent>(
+    alloc: Global,
+    fields: &mut FieldsByName<'de, 'n>,
+    index: usize,
+) -> Result<T>
+    ensures value { Reads
+        (found_refusal None T.refusal
+        (field_named (slice_index_or K.names index []) (fields_left fields.old)))
+        (FoundGives T.is_absent T.gives
+        (field_named (slice_index_or K.names index []) (fields_left fields.old))) result }
+    ensures rest { fields_left fields.new
+        ≡ without_field (slice_index_or K.names index []) (fields_left fields.old) }
+{
+    field_or(alloc, fields, name_at::<K>(index), T::absent(alloc))
+}
+
+/// Fields that are read by name, in this order, and what is left over.
+pub trait ReadFields<'de>: Sized {
+    /// What is refused of them.
+    ghost refusal: { FieldsLeft → Option Cause };
+    /// What they give.
+    ghost gives: { Self → FieldsLeft → Type 0 };
+
+    /// Reads them. The error is the first refusal, or out of memory in its place.
+    fn read<'n: 'de>(alloc: Global, fields: FieldsByName<'de, 'n>) -> Result<Self>
+        ensures { Reads (refusal (fields_left fields.entry))
+            (λ row. gives row (fields_left fields.entry)) result };
+}
+
+/// The field whose name has the index `I` among the names `K`, and those after it.
+#[derive(Drop)]
+pub struct ReadField<K, const I: usize, T, R>(pub T, pub R, pub PhantomData<K>);
+
+impl<'de, K: Names, const I: usize, T: Deserialize<'de>, R: ReadFields<'de>> ReadFields<'de>
+    for ReadField<K, I, T, R> {
+    ghost refusal = { named_then (slice_index_or K.names I []) T.refusal R.refusal };
+
+    ghost gives = { λ row. NamedThen (slice_index_or K.names I []) T.gives row.0 (R.gives row.1) };
+
+    #[inline(always)]
+    fn read<'n: 'de>(alloc: Global, mut fields: FieldsByName<'de, 'n>) -> Result<Self> {
+        let value = field_at::<K, T>(alloc, &mut fields, I)?;
+        Ok(ReadField(value, R::read(alloc, fields)?, PhantomData))
+    }
+}
+
+/// The same, where the field may be missing: a value that is [`Absent`] is read then.
+#[derive(Drop)]
+pub struct ReadFieldOr<K, const I: usize, T, R>(pub T, pub R, pub PhantomData<K>);
+
+impl<'de, K: Names, const I: usize, T: Deserialize<'de> + Absent, R: ReadFields<'de>> ReadFields<
+    'de,
+> for ReadFieldOr<K, I, T, R> {
+    ghost refusal = { named_or_then (slice_index_or K.names I []) T.refusal R.refusal };
+
+    ghost gives = { λ row. NamedOrThen (slice_index_or K.names I []) T.is_absent T.gives row.0
+        (R.gives row.1) };
+
+    #[inline(always)]
+    fn read<'n: 'de>(alloc: Global, mut fields: FieldsByName<'de, 'n>) -> Result<Self> {
+        let value = field_at_or::<K, T>(alloc, &mut fields, I)?;
+        Ok(ReadFieldOr(value, R::read(alloc, fields)?, PhantomData))
+    }
+}
+
+/// The end of the fields with the names `K`: others are skipped, and none of these comes again.
+#[derive(Drop)]
+pub struct OthersSkipped<K>(PhantomData<K>);
+
+impl<'de, K: Names> ReadFields<'de> for OthersSkipped<K> {
+    ghost refusal = { others_skipped K.names };
+
+    ghost gives = { λ row. NoOthers };
+
+    #[inline(always)]
+    fn read<'n: 'de>(alloc: Global, fields: FieldsByName<'de, 'n>) -> Result<Self> {
+        skip_fields(alloc, fields, K::names())?;
+        Ok(OthersSkipped(PhantomData))
+    }
+}
+
+/// The end of the fields with the names `K`, where others are refused.
+#[derive(Drop)]
+pub struct OthersRefused<K>(PhantomData<K>);
+
+impl<'de, K: Names> ReadFields<'de> for OthersRefused<K> {
+    ghost refusal = { no_others K.names };
+
+    ghost gives = { λ row. NoOthers };
+
+    #[inline(always)]
+    fn read<'n: 'de>(alloc: Global, fields: FieldsByName<'de, 'n>) -> Result<Self> {
+        end_fields(alloc, fields, K::names())?;
+        Ok(OthersRefused(PhantomData))
+    }
+}
+
+/// Parts that are read by place, one after another, and the end.
+pub trait ReadParts<'de>: Sized {
+    /// What is refused of them.
+    ghost refusal: { SeqLeft → Option Cause };
+    /// What they give.
+    ghost gives: { Self → SeqLeft → Type 0 };
+
+    /// Reads them. The error is the first refusal, or out of memory in its place.
+    fn read<'n: 'de>(alloc: Global, parts: Seq<'de, 'n>) -> Result<Self>
+        ensures { Reads (refusal (seq_view parts.entry))
+            (λ row. gives row (seq_view parts.entry)) result };
+}
+
+/// The part at the place `I` of `N`, and those after it.
+#[derive(Drop)]
+pub struct ReadPart<const N: usize, const I: usize, T, R>(pub T, pub R);
+
+impl<'de, const N: usize, const I: usize, T: Deserialize<'de>, R: ReadParts<'de>> ReadParts<'de>
+    for ReadPart<N, I, T, R> {
+    ghost refusal = { part_then N I T.refusal R.refusal };
+
+    ghost gives = { λ row. PartThen T.gives row.0 (R.gives row.1) };
+
+    #[inline(always)]
+    fn read<'n: 'de>(alloc: Global, mut parts: Seq<'de, 'n>) -> Result<Self> {
+        let value = next_part(alloc, &mut parts, N, I)?;
+        Ok(ReadPart(value, R::read(alloc, parts)?))
+    }
+}
+
+/// The end of `N` parts.
+#[derive(Drop)]
+pub struct PartsEnd<const N: usize>;
+
+impl<'de, const N: usize> ReadParts<'de> for PartsEnd<N> {
+    ghost refusal = { end_of_parts N };
+
+    ghost gives = { λ row. NoPart };
+
+    #[inline(always)]
+    fn read<'n: 'de>(alloc: Global, parts: Seq<'de, 'n>) -> Result<Self> {
+        finish_parts(alloc, parts, N)?;
+        Ok(PartsEnd)
+    }
+}
