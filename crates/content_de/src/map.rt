@@ -27,11 +27,11 @@ pub(crate) enum Entries<'de, 'n> {
     Fields(Fields<'de, 'n>),
 }
 
-/// The entries of a map, a struct or a variant that are left: each a key and a value. They are
-/// moved out one by one, each in constant time and without memory.
+/// Gives out the entries of a map, a struct or a variant, each a key and a value. They are moved
+/// out one by one, each in constant time and without memory.
 ///
-/// The key of a pair is the value that stands there. The key of a field is its name, which as a
-/// number is the field's place.
+/// The key of a pair is any value. The key of a field is its name, which as a number is the field's
+/// place.
 #[derive(Drop)]
 pub struct Map<'de, 'n> {
     pub(crate) entries: Entries<'de, 'n>,

@@ -1,4 +1,4 @@
-//! What any source is.
+//! What `deserialize_any` finds.
 
 use crate::deserializer::Deserializer;
 use crate::enum_access::EnumAccess;
@@ -6,8 +6,8 @@ use crate::map::Map;
 use crate::seq::Seq;
 use content_tree::{CowBytes, CowStr, Number};
 
-/// What a source is, whatever is expected: a datum, or what stands inside, under the flags of the
-/// source. (`serde-content` calls one method of a visitor for each.)
+/// What [`deserialize_any`](Deserializer::deserialize_any) finds: a datum, or its parts under the
+/// same flags. (`serde-content` calls one method of a visitor for each.)
 #[derive(Drop)]
 pub enum Node<'de, 'n> {
     /// The unit, or a unit struct.

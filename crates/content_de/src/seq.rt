@@ -11,8 +11,8 @@ use crate::source::Flags;
 use content_tree::NamedValue;
 use std::collections::VecDeque;
 
-/// The items of a sequence, a tuple or a tuple struct that are left. They are moved out one by
-/// one, each in constant time and without memory.
+/// Gives out the items of a sequence, a tuple or a tuple struct, one by one, each in constant time
+/// and without memory.
 #[derive(Drop)]
 pub struct Seq<'de, 'n> {
     items: VecDeque<NamedValue<'de, 'n>>,

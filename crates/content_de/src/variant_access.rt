@@ -26,7 +26,7 @@ use crate::source::Flags;
 use content_tree::{DataType, Error, Expected, Found, NamedEnum, NamedValue, Result};
 use std::alloc::Global;
 
-/// What stands behind a tag.
+/// What comes after a tag.
 #[derive(Drop)]
 pub(crate) enum Held<'de, 'n> {
     /// A variant itself.
@@ -37,7 +37,8 @@ pub(crate) enum Held<'de, 'n> {
     Value(NamedValue<'de, 'n>),
 }
 
-/// What a variant of an enum holds. Where that fits what is asked for, no call takes memory.
+/// Gives out what a variant of an enum holds. Where that fits what is asked for, no call takes
+/// memory.
 #[derive(Drop)]
 pub struct VariantAccess<'de, 'n> {
     requested: Requested<'n>,
@@ -50,7 +51,7 @@ pub struct VariantAccess<'de, 'n> {
 /// `Unexpected`, with what the variant holds (the unit, where the tag was a text) and with the
 /// sort of variant that was expected; out of memory in its place.
 impl<'de, 'n> VariantAccess<'de, 'n> {
-    /// What stands behind a tag.
+    /// What comes after a tag.
     pub(crate) fn new(
         requested: Requested<'n>,
         held: Held<'de, 'n>,

@@ -17,7 +17,7 @@ use content_tree::{DataType, Expected, NamedValue, Result};
 use std::alloc::Global;
 
 /// Names of structs are never compared: they are for errors alone. Where what is found fits, none
-/// of these takes memory. What stands inside is read under the same flags.
+/// of these takes memory. The parts are read under the same flags.
 ///
 /// # Errors
 ///
@@ -41,7 +41,7 @@ impl<'de, 'n> Deserializer<'de, 'n> {
         }
     }
 
-    /// What a newtype struct holds. Any other tree stands for what it would hold; the name of a
+    /// What a newtype struct holds. Any other tree is read as what it would hold; the name of a
     /// field or a variant is refused.
     pub fn deserialize_newtype_struct(
         self,

@@ -1,5 +1,5 @@
 //! Requests for numbers: a pair for each kind, as no trait leads from a type to its case of
-//! `Number` and a macro can't write methods.
+//! `Number`, and methods that a macro writes have no contracts.
 
 #![tactic(auto, using(crate::proofs::Values::values))]
 
@@ -40,8 +40,8 @@ impl<'de, 'n> Deserializer<'de, 'n> {
         }
     }
 
-    /// The same for what isn't plainly of that kind. It stands apart, so that no error lies in
-    /// the frame of a request for what is.
+    /// The same for what isn't plainly of that kind. It isn't inlined, so that no error lies in the
+    /// frame of a request for what is.
     #[inline(never)]
     fn coerced_i8(self, alloc: Global) -> Result<i8>
         ensures { Answers (λ z. z) (number_from i8 (subject self.entry)) result }
@@ -69,8 +69,8 @@ impl<'de, 'n> Deserializer<'de, 'n> {
         }
     }
 
-    /// The same for what isn't plainly of that kind. It stands apart, so that no error lies in
-    /// the frame of a request for what is.
+    /// The same for what isn't plainly of that kind. It isn't inlined, so that no error lies in the
+    /// frame of a request for what is.
     #[inline(never)]
     fn coerced_u8(self, alloc: Global) -> Result<u8>
         ensures { Answers pos (number_from u8 (subject self.entry)) result }
@@ -98,8 +98,8 @@ impl<'de, 'n> Deserializer<'de, 'n> {
         }
     }
 
-    /// The same for what isn't plainly of that kind. It stands apart, so that no error lies in
-    /// the frame of a request for what is.
+    /// The same for what isn't plainly of that kind. It isn't inlined, so that no error lies in the
+    /// frame of a request for what is.
     #[inline(never)]
     fn coerced_i16(self, alloc: Global) -> Result<i16>
         ensures { Answers (λ z. z) (number_from i16 (subject self.entry)) result }
@@ -127,8 +127,8 @@ impl<'de, 'n> Deserializer<'de, 'n> {
         }
     }
 
-    /// The same for what isn't plainly of that kind. It stands apart, so that no error lies in
-    /// the frame of a request for what is.
+    /// The same for what isn't plainly of that kind. It isn't inlined, so that no error lies in the
+    /// frame of a request for what is.
     #[inline(never)]
     fn coerced_u16(self, alloc: Global) -> Result<u16>
         ensures { Answers pos (number_from u16 (subject self.entry)) result }
@@ -156,8 +156,8 @@ impl<'de, 'n> Deserializer<'de, 'n> {
         }
     }
 
-    /// The same for what isn't plainly of that kind. It stands apart, so that no error lies in
-    /// the frame of a request for what is.
+    /// The same for what isn't plainly of that kind. It isn't inlined, so that no error lies in the
+    /// frame of a request for what is.
     #[inline(never)]
     fn coerced_i32(self, alloc: Global) -> Result<i32>
         ensures { Answers (λ z. z) (number_from i32 (subject self.entry)) result }
@@ -185,8 +185,8 @@ impl<'de, 'n> Deserializer<'de, 'n> {
         }
     }
 
-    /// The same for what isn't plainly of that kind. It stands apart, so that no error lies in
-    /// the frame of a request for what is.
+    /// The same for what isn't plainly of that kind. It isn't inlined, so that no error lies in the
+    /// frame of a request for what is.
     #[inline(never)]
     fn coerced_u32(self, alloc: Global) -> Result<u32>
         ensures { Answers pos (number_from u32 (subject self.entry)) result }
@@ -214,8 +214,8 @@ impl<'de, 'n> Deserializer<'de, 'n> {
         }
     }
 
-    /// The same for what isn't plainly of that kind. It stands apart, so that no error lies in
-    /// the frame of a request for what is.
+    /// The same for what isn't plainly of that kind. It isn't inlined, so that no error lies in the
+    /// frame of a request for what is.
     #[inline(never)]
     fn coerced_i64(self, alloc: Global) -> Result<i64>
         ensures { Answers (λ z. z) (number_from i64 (subject self.entry)) result }
@@ -244,8 +244,8 @@ impl<'de, 'n> Deserializer<'de, 'n> {
         }
     }
 
-    /// The same for what isn't plainly of that kind. It stands apart, so that no error lies in
-    /// the frame of a request for what is.
+    /// The same for what isn't plainly of that kind. It isn't inlined, so that no error lies in the
+    /// frame of a request for what is.
     #[inline(never)]
     fn coerced_u64(self, alloc: Global) -> Result<u64>
         ensures { Answers pos (number_from u64 (subject self.entry)) result }
@@ -275,8 +275,8 @@ impl<'de, 'n> Deserializer<'de, 'n> {
         }
     }
 
-    /// The same for what isn't plainly of that kind. It stands apart, so that no error lies in
-    /// the frame of a request for what is.
+    /// The same for what isn't plainly of that kind. It isn't inlined, so that no error lies in the
+    /// frame of a request for what is.
     #[inline(never)]
     fn coerced_i128(self, alloc: Global) -> Result<i128>
         ensures { Answers (λ z. z) (number_from i128 (subject self.entry)) result }
@@ -306,8 +306,8 @@ impl<'de, 'n> Deserializer<'de, 'n> {
         }
     }
 
-    /// The same for what isn't plainly of that kind. It stands apart, so that no error lies in
-    /// the frame of a request for what is.
+    /// The same for what isn't plainly of that kind. It isn't inlined, so that no error lies in the
+    /// frame of a request for what is.
     #[inline(never)]
     fn coerced_u128(self, alloc: Global) -> Result<u128>
         ensures { Answers pos (number_from u128 (subject self.entry)) result }

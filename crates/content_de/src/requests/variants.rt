@@ -68,7 +68,7 @@ fn single<'de, 'n>(
     Err(pairs)
 }
 
-/// The variant that a map of one entry stands for.
+/// The variant that a map of one entry is read as.
 #[tactic(auto, using(crate::proofs::Values::values, crate::proofs::Singles::not_single))]
 fn enum_of_pairs<'de, 'n>(
     alloc: Global,
