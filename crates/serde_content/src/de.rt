@@ -1,4 +1,4 @@
-//! Reading: what a value is read by, and what can be read.
+//! What reading needs: types that can be read, the parts of values, fields by name, variants.
 
 pub use crate::choosing::{
     OneOfFour, OneOfThree, OneOfTwo, first_of_four, first_of_three, first_of_two,

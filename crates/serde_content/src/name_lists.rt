@@ -45,8 +45,8 @@ fn position_of(tag: &str, names: &[&str]) -> Option<usize>
     names.iter().position(|name| tag == *name)
 }
 
-/// The index of the tag among the names of an enum's variants, which differ; none where it is none
-/// of them. It takes no memory.
+/// Finds the index of the tag among the names of an enum's variants, which differ; none where it is
+/// none of them. It takes no memory.
 ///
 /// ```rust
 /// match variant_index(tag, &VariantsOfShape) {
@@ -61,14 +61,15 @@ pub fn variant_index<K: Names>(tag: &str, _names: &K) -> Option<usize>
     position_of(tag, K::names())
 }
 
-/// The error of a tag that is none of these names, as [`unknown_variant`] makes it.
+/// Makes the error of a tag that is none of these names, as [`unknown_variant`] does.
 pub fn no_such_variant<K: Names>(alloc: Global, tag: &str, _names: &K) -> Error
     ensures { cause result ≢ out_of_memory → cause result ≡ unknown_variant tag.now K.names }
 {
     unknown_variant(alloc, tag, K::names())
 }
 
-/// The field of this name, as [`read_one`](crate::de::read_one) reads it; `known` are the names of all.
+/// Reads the field of this name, as [`read_one`](crate::de::read_one) does; `known` are the names
+/// of all.
 pub fn read_one_of<'de, 'n: 'de, K: Names, A: Names, T1: Deserialize<'de>>(
     alloc: Global,
     from: FieldsByName<'de, 'n>,
@@ -89,7 +90,8 @@ pub fn read_one_of<'de, 'n: 'de, K: Names, A: Names, T1: Deserialize<'de>>(
     read_one(alloc, from, name_at(names, 0), missing1, A::names(), closed)
 }
 
-/// The two fields of these names, as [`read_two`](crate::de::read_two) reads them; `known` are the names of all.
+/// Reads the two fields of these names, as [`read_two`](crate::de::read_two) does; `known` are the
+/// names of all.
 pub fn read_two_of<'de, 'n: 'de, K: Names, A: Names, T1: Deserialize<'de>, T2: Deserialize<'de>>(
     alloc: Global,
     from: FieldsByName<'de, 'n>,
@@ -122,7 +124,8 @@ pub fn read_two_of<'de, 'n: 'de, K: Names, A: Names, T1: Deserialize<'de>, T2: D
     )
 }
 
-/// The three fields of these names, as [`read_three`](crate::de::read_three) reads them; `known` are the names of all.
+/// Reads the three fields of these names, as [`read_three`](crate::de::read_three) does; `known`
+/// are the names of all.
 pub fn read_three_of<
     'de,
     'n: 'de,
@@ -168,7 +171,8 @@ pub fn read_three_of<
     )
 }
 
-/// The four fields of these names, as [`read_four`](crate::de::read_four) reads them; `known` are the names of all.
+/// Reads the four fields of these names, as [`read_four`](crate::de::read_four) does; `known` are
+/// the names of all.
 pub fn read_four_of<
     'de,
     'n: 'de,
@@ -220,7 +224,8 @@ pub fn read_four_of<
     )
 }
 
-/// The five fields of these names, as [`read_five`](crate::de::read_five) reads them; `known` are the names of all.
+/// Reads the five fields of these names, as [`read_five`](crate::de::read_five) does; `known` are
+/// the names of all.
 pub fn read_five_of<
     'de,
     'n: 'de,
@@ -278,7 +283,8 @@ pub fn read_five_of<
     )
 }
 
-/// The six fields of these names, as [`read_six`](crate::de::read_six) reads them; `known` are the names of all.
+/// Reads the six fields of these names, as [`read_six`](crate::de::read_six) does; `known` are the
+/// names of all.
 pub fn read_six_of<
     'de,
     'n: 'de,

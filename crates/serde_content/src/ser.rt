@@ -1,4 +1,4 @@
-//! Serialising: calls, what takes them, and what makes them.
+//! What sends and takes calls: serialisers, types that can be sent, calls as data.
 
 pub use crate::sending::{
     send_eight, send_five, send_four, send_one, send_seven, send_six, send_three, send_two,

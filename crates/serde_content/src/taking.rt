@@ -1,5 +1,5 @@
-//! Fields read by name in one call, each wherever it stands, and what is left over: one function for
-//! each count of fields, since a function has a fixed number of types.
+//! Fields read by name in one call, in any order, and what is left over: one function for each
+//! count of fields, since a function has a fixed number of types.
 
 ghost use Rattle.std.specs.Prelude.{◌≡◌, map, ⊤};
 ghost use Rattle.content_de.specs.Accesses.ByName.{fields_left, field_named, without_field};
@@ -12,7 +12,7 @@ use content_de::{Deserialize, FieldsByName, end_fields, field_or, named_field, s
 use content_tree::Result;
 use std::alloc::Global;
 
-/// The field of this name, or what may stand for it.
+/// The field of this name, or what may take its place.
 #[inline(always)]
 fn next_named<'de, 'n: 'de, T: Deserialize<'de>>(
     alloc: Global,
@@ -33,7 +33,7 @@ fn next_named<'de, 'n: 'de, T: Deserialize<'de>>(
     }
 }
 
-/// The end, where others are refused or skipped.
+/// The end, where others are refused or ignored.
 #[inline(always)]
 fn read_none<'de, 'n: 'de>(
     alloc: Global,
@@ -51,8 +51,8 @@ fn read_none<'de, 'n: 'de>(
     }
 }
 
-/// The field of this name, wherever it stands, and the end of fields, of which `known` are the
-/// names. Where it is missing, the value beside its name stands for it.
+/// Reads the field of this name and the end of fields, of which `known` are the names. Where it is
+/// missing, the value after its name takes its place.
 ///
 /// # Errors
 ///
@@ -80,8 +80,8 @@ pub fn read_one<'de, 'n: 'de, T1: Deserialize<'de>>(
     Ok(value1)
 }
 
-/// The two fields of these names, in this order, wherever they stand, and the end of fields, of
-/// which `known` are the names. Where one is missing, the value beside its name stands for it.
+/// Reads the two fields of these names, in this order, wherever they are, and the end of fields, of
+/// which `known` are the names. Where one is missing, the value after its name takes its place.
 ///
 /// # Errors
 ///
@@ -113,8 +113,8 @@ pub fn read_two<'de, 'n: 'de, T1: Deserialize<'de>, T2: Deserialize<'de>>(
     Ok((value1, value2))
 }
 
-/// The three fields of these names, in this order, wherever they stand, and the end of fields, of
-/// which `known` are the names. Where one is missing, the value beside its name stands for it.
+/// Reads the three fields of these names, in this order, wherever they are, and the end of fields,
+/// of which `known` are the names. Where one is missing, the value after its name takes its place.
 ///
 /// # Errors
 ///
@@ -150,8 +150,8 @@ pub fn read_three<'de, 'n: 'de, T1: Deserialize<'de>, T2: Deserialize<'de>, T3: 
     Ok((value1, value2, value3))
 }
 
-/// The four fields of these names, in this order, wherever they stand, and the end of fields, of
-/// which `known` are the names. Where one is missing, the value beside its name stands for it.
+/// Reads the four fields of these names, in this order, wherever they are, and the end of fields,
+/// of which `known` are the names. Where one is missing, the value after its name takes its place.
 ///
 /// # Errors
 ///
@@ -200,8 +200,8 @@ pub fn read_four<
     Ok((value1, value2, value3, value4))
 }
 
-/// The five fields of these names, in this order, wherever they stand, and the end of fields, of
-/// which `known` are the names. Where one is missing, the value beside its name stands for it.
+/// Reads the five fields of these names, in this order, wherever they are, and the end of fields,
+/// of which `known` are the names. Where one is missing, the value after its name takes its place.
 ///
 /// # Errors
 ///
@@ -256,8 +256,8 @@ pub fn read_five<
     Ok((value1, value2, value3, value4, value5))
 }
 
-/// The six fields of these names, in this order, wherever they stand, and the end of fields, of
-/// which `known` are the names. Where one is missing, the value beside its name stands for it.
+/// Reads the six fields of these names, in this order, wherever they are, and the end of fields, of
+/// which `known` are the names. Where one is missing, the value after its name takes its place.
 ///
 /// # Errors
 ///
