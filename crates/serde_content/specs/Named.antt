@@ -1,4 +1,4 @@
--- Fields that are read by name, one after another, each with what may stand for it.
+-- Fields that are read by name, one after another, each with what may take its place.
 use Rattle.std.specs.Prelude.{ℕ, Bool, true, false, List, Option, Some, None, ◌≡◌}
 use Rattle.content_tree.specs.Errors.Cause.{Cause}
 use Rattle.content_de.specs.Accesses.ByName.{FieldsLeft, field_named, without_field}
@@ -6,7 +6,7 @@ use Rattle.content_de.specs.Reads.Read.{Refusal, Gives, first_of}
 use Rattle.content_de.specs.Reads.ByName.{found_refusal, FoundGives, missing_field, no_others}
 use Rattle.content_de.specs.Reads.ByName.{others_skipped}
 
--- the refusal where there is no field of this name, unless a value may stand for it
+-- the refusal where there is no field of this name, unless a value may take its place
 abbrev pub absent_refusal : {A : Type 0} → List ℕ → Option A → Option Cause
 absent_refusal name None = Some (missing_field name)
 absent_refusal name (Some a) = None
