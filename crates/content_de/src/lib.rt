@@ -3,9 +3,6 @@
 //! ```rust
 //! let point: Point = Deserializer::new(value).deserialize(alloc)?;
 //! assert!(rt; point == Point { x: 1, y: 2 });
-//!
-//! // A value of another kind is refused: the error says what was found and what was expected.
-//! let number: serde_content::Result<u8> = Deserializer::new(Value::Bool(true)).deserialize(alloc);
 //! ```
 //!
 //! | To | Use |
