@@ -46,7 +46,7 @@ pub struct Builder<'v> {
 }
 
 impl<'v> Builder<'v> {
-    /// A builder to which no call was made, which takes no memory. The flag is what
+    /// Makes a builder to which no call was made; it takes no memory. The flag is what
     /// [`is_human_readable`](Serializer::is_human_readable) answers; nothing else depends on it.
     pub fn new(alloc: Global, human_readable: bool) -> Builder<'v>
         ensures value { seen_of result
@@ -56,8 +56,8 @@ impl<'v> Builder<'v> {
         Builder::within(alloc, human_readable, None)
     }
 
-    /// A builder to which no call was made, within a limit on how deep trees nest, which is at
-    /// least 1. It takes no memory. Not in `serde-content`.
+    /// Makes a builder to which no call was made, within a limit on how deep trees nest, at least
+    /// 1. It takes no memory. Not in `serde-content`.
     ///
     /// The tree of the whole list has depth 1, and a tree inside another that one's depth plus 1;
     /// the trees of values that are dropped count too. A call that would pass the limit answers

@@ -125,8 +125,8 @@ impl<'de, 'n> Left<'de, 'n> {
 }
 
 impl<'de, 'n> Map<'de, 'n> {
-    /// The entries that are left, to be taken by name: a pair whose key is a text has that name. It
-    /// takes no memory.
+    /// Gives the entries that are left, to be taken by name: a pair whose key is a text has that
+    /// name. It takes no memory.
     #[inline(always)]
     pub fn by_name(self) -> FieldsByName<'de, 'n>
         ensures { fields_left result ≡ by_name (map_view self.entry) }
@@ -200,8 +200,8 @@ impl<'de, 'n> FieldsByName<'de, 'n> {
         self.keyless.is_none() && self.left.is_empty()
     }
 
-    /// The value of the first entry of this name, which is taken away, or none; the others stay in
-    /// order. It takes no memory, and constant time where the entry is the first.
+    /// Gives the value of the first entry of this name, which is taken away, or none; the others
+    /// stay in order. It takes no memory, and constant time where the entry is the first.
     #[inline(always)]
     pub fn take_named(&mut self, name: &str) -> Option<Deserializer<'de, 'n>>
         ensures value { option_map subject result ≡ field_named name.now (fields_left self.old) }
@@ -213,8 +213,8 @@ impl<'de, 'n> FieldsByName<'de, 'n> {
         }
     }
 
-    /// What is left, to be read as a map: a field's name is a text there. It takes memory only
-    /// where fields of a struct or a variant are left.
+    /// Gives what is left, to be read as a map: a field's name is a text there. It takes memory
+    /// only where fields of a struct or a variant are left.
     ///
     /// # Errors
     ///

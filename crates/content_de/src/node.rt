@@ -18,9 +18,9 @@ pub enum Node<'de, 'n> {
     Number(Number),
     /// A character.
     Char(char),
-    /// A text, in its case.
+    /// A text, borrowed or owned as it was.
     Str(CowStr<'de>),
-    /// Bytes, in their case.
+    /// Bytes, borrowed or owned as they were.
     Bytes(CowBytes<'de>),
     /// An absent optional value.
     NoneNode,

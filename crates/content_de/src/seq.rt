@@ -45,8 +45,8 @@ impl<'de, 'n> Seq<'de, 'n> {
         Some(self.items.len())
     }
 
-    /// The next item, to be read under the flags of the sequence, or none at the end. It takes no
-    /// memory.
+    /// Gives the next item, to be read under the flags of the sequence, or none at the end. It
+    /// takes no memory.
     pub fn next_deserializer(&mut self) -> Option<Deserializer<'de, 'n>>
         ensures value { option_map subject result ≡ first_item (seq_view self.old) }
         ensures rest { seq_view self.new ≡ after_item (seq_view self.old) }

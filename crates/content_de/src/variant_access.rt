@@ -70,7 +70,7 @@ impl<'de, 'n> VariantAccess<'de, 'n> {
         }
     }
 
-    /// No data: that of a unit variant, or of a tag that is a text.
+    /// Reads no data: that of a unit variant, or of a tag that is a text.
     pub fn unit_variant(self, alloc: Global) -> Result<()>
         ensures { Answers (λ u. u) (unit_variant_of (variant_view self.entry)) result }
     {
@@ -80,7 +80,7 @@ impl<'de, 'n> VariantAccess<'de, 'n> {
         Err(self.refuse(alloc, DataType::Unit))
     }
 
-    /// The one value of a newtype variant, or whatever a map's entry holds.
+    /// Gives the one value of a newtype variant, or whatever a map's entry holds.
     pub fn newtype_deserializer(self, alloc: Global) -> Result<Deserializer<'de, 'n>>
         ensures { Answers subject (newtype_variant_of (variant_view self.entry)) result }
     {
@@ -98,7 +98,7 @@ impl<'de, 'n> VariantAccess<'de, 'n> {
         }
     }
 
-    /// The items of a tuple variant, or of a sequence that a map's entry holds. How many were
+    /// Gives the items of a tuple variant, or of a sequence that a map's entry holds. How many were
     /// expected isn't compared.
     pub fn tuple_variant(self, alloc: Global, _len: usize) -> Result<Seq<'de, 'n>>
         ensures { Answers seq_view (tuple_variant_of (variant_view self.entry)) result }
@@ -117,8 +117,8 @@ impl<'de, 'n> VariantAccess<'de, 'n> {
         }
     }
 
-    /// The entries of an object-like variant, or of a map that a map's entry holds. Which fields
-    /// were expected isn't compared.
+    /// Gives the entries of an object-like variant, or of a map that a map's entry holds. Which
+    /// fields were expected isn't compared.
     pub fn struct_variant(self, alloc: Global, _fields: &[&str]) -> Result<Map<'de, 'n>>
         ensures { Answers map_view (struct_variant_of (variant_view self.entry)) result }
     {

@@ -54,8 +54,8 @@ pub trait Parts: Sized + Drop {
         put_aside(self.send_parts(alloc, serializer), error)
     }
 
-    /// These calls, then a call that announces a value, as `Call::Field("x")` or
-    /// `Call::TupleField`, and then the value. It sends nothing yet and takes no memory.
+    /// Adds a call that announces a value, such as `Call::Field("x")` or `Call::TupleField`, and
+    /// the value. It sends nothing yet and takes no memory.
     #[inline(always)]
     final fn with<'a, M: Parts, T: Serialize>(
         self,

@@ -332,7 +332,7 @@ pub trait Serializer {
         self.call(Call::End)
     }
 
-    /// The text that the value prints, as [`serialize_str`](Serializer::serialize_str) takes it.
+    /// Sends the text that the value prints, as [`serialize_str`](Serializer::serialize_str) does.
     ///
     /// It prints first: where an allocation for that fails it makes no call, answers `OutOfMemory`
     /// and changes nothing, whatever the state.

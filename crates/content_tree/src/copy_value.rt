@@ -1,4 +1,4 @@
-//! Copies of values: the same tree, each text and name in the same case.
+//! Copies of values: the same tree, each text and name borrowed or owned as before.
 //!
 //! Inside, a copy answers `AllocError` alone, and what holds parts is copied by a function of its
 //! own, so that a level of a deep value takes little stack.

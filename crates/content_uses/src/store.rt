@@ -45,7 +45,7 @@ impl<'v, 'n: 'v> Store<'v, 'n> {
     ghost use Rattle.content_cbor.specs.Form.{CodesForm, EachFits};
     ghost use Rattle.content_cbor.specs.Item.{item};
 
-    /// No records. It takes no memory.
+    /// A store of no records. It takes no memory.
     pub fn new(alloc: Global) -> Store<'v, 'n>
         ensures { records_of result ≡ [] }
     {

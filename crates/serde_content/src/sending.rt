@@ -19,8 +19,8 @@ fn send_none<S: Serializer, P: Parts>(alloc: Global, serializer: &mut S, parts: 
     parts.end(alloc, serializer)
 }
 
-/// Makes the calls of these parts, of one value, after the call that announces it, and the end.
-/// Errors and memory are as for [`end`](Parts::end).
+/// Sends a compound of one value: the calls of these parts, the value after the call that announces
+/// it, and the end. Errors and memory are as for [`end`](Parts::end).
 #[inline(always)]
 pub fn send_one<S: Serializer, P: Parts, M1: Parts, T1: Serialize>(
     alloc: Global,
@@ -38,8 +38,8 @@ pub fn send_one<S: Serializer, P: Parts, M1: Parts, T1: Serialize>(
     send_none(alloc, serializer, parts.with(call1, value1))
 }
 
-/// Makes the calls of these parts, of two values, each after the call that announces it, and the
-/// end. Errors and memory are as for [`end`](Parts::end).
+/// Sends a compound of two values: the calls of these parts, each value after the call that
+/// announces it, and the end. Errors and memory are as for [`end`](Parts::end).
 #[inline(always)]
 pub fn send_two<S: Serializer, P: Parts, M1: Parts, T1: Serialize, M2: Parts, T2: Serialize>(
     alloc: Global,
@@ -60,8 +60,8 @@ pub fn send_two<S: Serializer, P: Parts, M1: Parts, T1: Serialize, M2: Parts, T2
     send_one(alloc, serializer, parts.with(call1, value1), call2, value2)
 }
 
-/// Makes the calls of these parts, of three values, each after the call that announces it, and the
-/// end. Errors and memory are as for [`end`](Parts::end).
+/// Sends a compound of three values: the calls of these parts, each value after the call that
+/// announces it, and the end. Errors and memory are as for [`end`](Parts::end).
 #[inline(always)]
 pub fn send_three<
     S: Serializer,
@@ -102,8 +102,8 @@ pub fn send_three<
     )
 }
 
-/// Makes the calls of these parts, of four values, each after the call that announces it, and the
-/// end. Errors and memory are as for [`end`](Parts::end).
+/// Sends a compound of four values: the calls of these parts, each value after the call that
+/// announces it, and the end. Errors and memory are as for [`end`](Parts::end).
 #[inline(always)]
 pub fn send_four<
     S: Serializer,
@@ -151,8 +151,8 @@ pub fn send_four<
     )
 }
 
-/// Makes the calls of these parts, of five values, each after the call that announces it, and the
-/// end. Errors and memory are as for [`end`](Parts::end).
+/// Sends a compound of five values: the calls of these parts, each value after the call that
+/// announces it, and the end. Errors and memory are as for [`end`](Parts::end).
 #[inline(always)]
 pub fn send_five<
     S: Serializer,
@@ -207,8 +207,8 @@ pub fn send_five<
     )
 }
 
-/// Makes the calls of these parts, of six values, each after the call that announces it, and the
-/// end. Errors and memory are as for [`end`](Parts::end).
+/// Sends a compound of six values: the calls of these parts, each value after the call that
+/// announces it, and the end. Errors and memory are as for [`end`](Parts::end).
 #[inline(always)]
 pub fn send_six<
     S: Serializer,
@@ -270,8 +270,8 @@ pub fn send_six<
     )
 }
 
-/// Makes the calls of these parts, of seven values, each after the call that announces it, and the
-/// end. Errors and memory are as for [`end`](Parts::end).
+/// Sends a compound of seven values: the calls of these parts, each value after the call that
+/// announces it, and the end. Errors and memory are as for [`end`](Parts::end).
 #[inline(always)]
 pub fn send_seven<
     S: Serializer,
@@ -340,8 +340,8 @@ pub fn send_seven<
     )
 }
 
-/// Makes the calls of these parts, of eight values, each after the call that announces it, and the
-/// end. Errors and memory are as for [`end`](Parts::end).
+/// Sends a compound of eight values: the calls of these parts, each value after the call that
+/// announces it, and the end. Errors and memory are as for [`end`](Parts::end).
 #[inline(always)]
 pub fn send_eight<
     S: Serializer,

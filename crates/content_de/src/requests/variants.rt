@@ -20,9 +20,9 @@ use std::alloc::Global;
 type Pair<'de, 'n> = (NamedValue<'de, 'n>, NamedValue<'de, 'n>);
 
 impl<'de, 'n> Deserializer<'de, 'n> {
-    /// A variant of an enum: its own node, a text, or a map of exactly one entry. The name of the
-    /// enum is for errors alone, and the variants that were expected aren't compared. Where what
-    /// is found fits it takes no memory.
+    /// Gives a variant of an enum: its own node, a text, or a map of exactly one entry. The name of
+    /// the enum is for errors alone, and the variants that were expected aren't compared. Where
+    /// what is found fits it takes no memory.
     ///
     /// # Errors
     ///
