@@ -5,13 +5,13 @@ use content_cbor::{DecodeError, decode, encode};
 use content_tree::Value;
 use std::alloc::{AllocError, Global};
 
-/// How deep items may stand in one another.
+/// How deep items may nest.
 const DEPTH_LIMIT: usize = 128;
 
-/// The value as it prints and, behind a tab, the bytes that are written of it.
+/// The value as it prints and, after a tab, the bytes that are written of it.
 pub fn written(alloc: Global, value: &Value<'_>) -> Result<String, AllocError> {
     let mut text = format!(in alloc; "{}\t", value.display())?;
-    // Only out of memory keeps them back.
+    // Encoding fails only when memory runs out.
     let bytes = encode(alloc, value).ok().ok_or(AllocError)?;
     write_digits(&mut text, bytes.as_slice())?;
     Ok(text)

@@ -1,7 +1,7 @@
-//! Prints what CBOR codes and what codes it. Of each line of hexadecimal digits: the value that
-//! its bytes code and, behind a tab, the bytes that are written of it; or why they are refused.
-//! Lines that spell serialiser calls, as `content_cli` reads them, are taken together where nothing
-//! stands between them: each tree that they spell, one after another, is answered so.
+//! Prints what CBOR codes and what codes it. Of each line of hexadecimal digits: the value that its
+//! bytes code and, after a tab, the bytes that are written of it; or why they are refused. Lines
+//! that spell serialiser calls, as `content_cli` reads them, are taken together where nothing comes
+//! between them: each tree that they spell, one after another, is answered so.
 #![tactic(auto)]
 
 mod answer;

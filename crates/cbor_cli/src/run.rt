@@ -4,7 +4,7 @@ use crate::answer::answer;
 use crate::calls::{call_of, print_trees};
 use std::io;
 
-/// Prints the answers to calls that stand together, and that to each other line.
+/// Prints the answers to calls that come together, and that to each other line.
 fn answer_lines<R: Input + Print + AllocGlobal>(rt: &R) -> io::Result<()> {
     let alloc = rt.alloc();
     let input = io::read_to_string(alloc, rt.reader())?;

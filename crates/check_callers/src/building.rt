@@ -32,9 +32,8 @@ pub fn two_bytes<'v>(alloc: Global, first: u8, second: u8) -> Result<Value<'v>, 
     from_calls(alloc, &calls)
 }
 
-/// A unit where a sequence waits for an element: the second call is refused, which stands at the
-/// place 1. That nothing can follow is shown by hand; the place and the cause are the clause
-/// `misplaced`.
+/// A unit where a sequence waits for an element: the second call, at the place 1, is refused. That
+/// nothing can follow is shown by hand; the place and the cause are the clause `misplaced`.
 pub fn unit_in_a_sequence<'v>(alloc: Global) -> Result<Value<'v>, CallsError>
     ensures { IfRefused result Misplaced 1 }
 {
@@ -42,7 +41,7 @@ pub fn unit_in_a_sequence<'v>(alloc: Global) -> Result<Value<'v>, CallsError>
     from_calls(alloc, &calls)
 }
 
-/// A value and a copy of it: both stand for one tree, texts in their case.
+/// A value and a copy of it: both have one tree, each text borrowed or owned as it was.
 pub fn copied<'a>(alloc: Global, value: Value<'a>) -> serde_content::Result<(Value<'a>, Value<'a>)>
     ensures same { IfOk result (λ pair. tree_of pair.1 ≡ tree_of pair.0) }
     ensures kept { IfOk result (λ pair. tree_of pair.0 ≡ tree_of value.entry) }

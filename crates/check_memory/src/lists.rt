@@ -17,7 +17,8 @@ fn ran_out(refusal: &CallsError, end: usize) -> bool {
     matches!(refusal.error.kind(), OutOfMemory) && refusal.at < end
 }
 
-/// Whether a list is taken of which so many calls spell a tree: memory may run out at its end too.
+/// Whether a list is taken of which this many calls spell a tree: memory may run out at its end
+/// too.
 fn taken<T: Drop>(answer: Result<T, CallsError>, length: usize) -> Made<bool> {
     match answer {
         Ok(_) => Ok(true),

@@ -13,7 +13,7 @@ pub fn run(tally: &mut Tally, alloc: Global) -> Made<()> {
     held(tally, alloc)
 }
 
-/// The tag of a value that stands for a variant, and what stands behind it.
+/// The tag of a value that is read as a variant, and what the variant holds.
 fn open(alloc: Global, value: Value<'static>) -> Result<(Reader, VariantAccess<'static, 'static>)> {
     let variant = reads(value).deserialize_enum(alloc, "E", &[])?;
     variant.variant_deserializer(alloc)

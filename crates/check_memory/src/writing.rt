@@ -94,7 +94,7 @@ fn short(error: &Error, is_right: bool) -> Made<bool> {
     }
 }
 
-/// Whether a recorder has just so many of these calls.
+/// Whether a recorder has exactly this many of these calls.
 fn has(recorder: &Recorder, calls: &[Call<'static>], count: usize) -> bool {
     recorder.calls().iter().eq(calls.iter().take(count))
 }
@@ -112,7 +112,7 @@ fn records(alloc: Global, calls: &[Call<'static>]) -> Made<bool> {
 }
 
 /// Whether a text that is printed first is out of place: where there is no memory to print, the
-/// builder stands where it stood.
+/// builder is as it was.
 fn prints_misplaced(alloc: Global) -> Made<bool> {
     let mut builder = in_sequence(alloc)?;
     match builder.collect_str(alloc, &7u8) {

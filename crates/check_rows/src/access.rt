@@ -125,7 +125,7 @@ fn variants_of<'de>(
     Ok(variant.zip(variant_of(alloc, from, name)?))
 }
 
-/// What a variant answers when it is asked for another sort than its own. Behind that stands what a
+/// What a variant answers when it is asked for another sort than its own. After that comes what a
 /// newtype variant would hold, if it would.
 fn refusal_of<'de>(
     alloc: Global,

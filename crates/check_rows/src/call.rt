@@ -23,7 +23,7 @@ pub fn read_calls(columns: &mut Cursor<'_, u8>) -> Vec<Call<'static>> {
     calls
 }
 
-/// A call: a word, and behind it what it tells.
+/// A call: a word, and after it what it tells.
 fn read_call(words: &mut Cursor<'_, u8>) -> Call<'static> {
     let is_phrase = words.rest().iter().any(|byte| *byte == b' ');
     let word = take_part(words, b' ');

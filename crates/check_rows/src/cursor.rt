@@ -6,7 +6,7 @@ use std::alloc::Global;
 use std::str::FromStr;
 
 /// What is left of a list, and the memory for what is made of it. The first failure is remembered,
-/// and told at the end; behind it nothing is left.
+/// and told at the end; after it nothing is left.
 #[derive(Drop)]
 pub struct Cursor<'a, T> {
     alloc: Global,

@@ -8,7 +8,7 @@ use crate::tree::read_tree;
 use serde_content::{CowStr, Data, Deserializer, Enum, Result, Value};
 use std::alloc::Global;
 
-/// A deserializer of a tree, or of the name of a variant, which is for people always.
+/// A deserializer of a tree, or of the name of a variant, which is always human readable.
 pub fn read_deserializer<'a>(pieces: &mut Pieces<'a>, flags: Flags) -> Deserializer<'a, 'static> {
     if take_if_word(pieces, "id") {
         let node = read_name(pieces);
@@ -76,8 +76,8 @@ fn write_source(out: &mut Answer, from: Deserializer<'_, 'static>) -> Result<()>
     }
 }
 
-/// Adds what is read inside an access with these flags, which stand before it only where its own
-/// are others; a name is for people.
+/// Adds what is read inside an access with these flags, which come before it only where its own are
+/// others; a name is human readable.
 pub fn write_inside(out: &mut Answer, flags: Flags, from: Deserializer<'_, 'static>) -> Result<()> {
     let own = flags_of(out.alloc(), &from)?;
     let of_name = Flags {

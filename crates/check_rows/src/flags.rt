@@ -1,13 +1,13 @@
-//! The two flags of a deserializer.
+//! Flags of a deserializer.
 
 use crate::piece::{Pieces, take_word};
 use serde_content::{Deserializer, Result};
 use std::alloc::Global;
 
-/// The two flags of a deserializer.
+/// Flags of a deserializer.
 #[derive(Clone, Copy, Default, PartialEq, Eq)]
 pub struct Flags {
-    /// What is read was written for people.
+    /// What is read is human readable.
     pub human_readable: bool,
     /// Numbers are coerced.
     pub coerces: bool,

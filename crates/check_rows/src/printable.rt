@@ -59,7 +59,7 @@ pub fn octet(high: u8, low: u8) -> Option<u8> {
     u8::try_from(high.wrapping_mul(16).wrapping_add(low)).ok()
 }
 
-/// Takes a byte, which may stand as `%` and two hexadecimal digits.
+/// Takes a byte, which may be written as `%` and two hexadecimal digits.
 fn read_octet(text: &mut Cursor<'_, u8>) -> u8 {
     match text.rest() {
         [b'%', high, low, after @ ..] => {
@@ -73,7 +73,7 @@ fn read_octet(text: &mut Cursor<'_, u8>) -> u8 {
     }
 }
 
-/// Takes the bytes of the text that such a text stands for.
+/// Takes the bytes that a text written so means.
 pub fn read_printable(text: &mut Cursor<'_, u8>) -> Vec<u8> {
     let mut octets = Vec::new(text.alloc());
     for _ in text.rest() {

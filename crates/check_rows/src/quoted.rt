@@ -1,5 +1,4 @@
-//! Parts of a text; characters and texts in quotes and bytes in brackets, from behind their
-//! opening.
+//! Parts of a text; characters and texts in quotes and bytes in brackets, from after their opening.
 
 use crate::cursor::Cursor;
 use crate::failure::Failure;
@@ -32,7 +31,7 @@ fn character_of(digits: &str) -> Option<char> {
     char::from_u32(u32::from_str_radix(digits, 16).ok()?)
 }
 
-/// The character that stands behind a backslash.
+/// The character after a backslash.
 fn read_escape(bytes: &mut Cursor<'_, u8>) -> char {
     match take(bytes) {
         b't' => '\t',

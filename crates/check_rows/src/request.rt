@@ -13,7 +13,7 @@ pub struct Request<'a> {
     pub length: usize,
 }
 
-/// Takes a word, behind which a name, a length or both may stand in brackets.
+/// Takes a word, after which a name, a length or both may follow in brackets.
 pub fn read_request<'a>(pieces: &mut Pieces<'a>) -> Request<'a> {
     let text = take_word(pieces);
     let (word, rest) = text.split_once('(').unwrap_or((text, ")"));

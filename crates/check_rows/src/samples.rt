@@ -1,4 +1,4 @@
-//! The library's samples of a caller's own types, as rows have them.
+//! The library's sample types, as rows have them.
 
 use crate::answer::Answer;
 use crate::failure::Failure;

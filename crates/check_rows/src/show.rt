@@ -99,7 +99,7 @@ fn write_held(out: &mut Answer, opening: &str, held: &NamedValue<'_, '_>) {
     out.push(')');
 }
 
-/// Adds trees, behind this opening.
+/// Adds trees, after this opening.
 #[cycle(show)]
 pub fn write_items(out: &mut Answer, opening: &str, items: &[NamedValue<'_, '_>]) {
     out.push_str(opening);
@@ -110,7 +110,7 @@ pub fn write_items(out: &mut Answer, opening: &str, items: &[NamedValue<'_, '_>]
     out.push(']');
 }
 
-/// Adds pairs of trees, behind this opening.
+/// Adds pairs of trees, after this opening.
 #[cycle(show)]
 pub fn write_pairs(
     out: &mut Answer,

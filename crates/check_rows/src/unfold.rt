@@ -1,12 +1,12 @@
-//! Long texts in short: `<<0..3: k#; >>` stands for `k0; k1; k2; `.
+//! Long texts in short: `<<0..3: k#; >>` means `k0; k1; k2; `.
 
 use crate::answer::Answer;
 use crate::failure::{Failure, Result};
 use serde_content::CowStr;
 use std::alloc::Global;
 
-/// The text with all that stands in double angles written out; one with nothing to write out takes
-/// no memory.
+/// The text with all that is in double angles written out; one with nothing to write out takes no
+/// memory.
 pub fn unfold<'a>(alloc: Global, text: &'a str) -> Result<CowStr<'a>> {
     if text.contains("<<") {
         Ok(CowStr::Owned(written_out(alloc, text)?))
@@ -15,7 +15,7 @@ pub fn unfold<'a>(alloc: Global, text: &'a str) -> Result<CowStr<'a>> {
     }
 }
 
-/// The text with all that stands in double angles written out.
+/// The text with all that is in double angles written out.
 fn written_out(alloc: Global, text: &str) -> Result<String> {
     let mut out = Answer::new(alloc);
     for (place, piece) in text.split("<<").enumerate() {
@@ -28,7 +28,7 @@ fn written_out(alloc: Global, text: &str) -> Result<String> {
     out.finish()
 }
 
-/// Adds the text behind a range such as `0..3: `, once for each number in it, and what follows.
+/// Adds the text after a range such as `0..3: `, once for each number in it, and what follows.
 fn write_piece(out: &mut Answer, piece: &str) -> Option<()> {
     let (repeated, after) = piece.split_once(">>")?;
     let (range, text) = repeated.split_once(": ")?;
@@ -40,7 +40,7 @@ fn write_piece(out: &mut Answer, piece: &str) -> Option<()> {
     Some(())
 }
 
-/// Adds the text, where `#` stands for the number.
+/// Adds the text, with the number in the place of `#`.
 fn write_numbered(out: &mut Answer, text: &str, number: u32) {
     for (place, piece) in text.split('#').enumerate() {
         if place > 0 {

@@ -29,7 +29,7 @@ use Rattle.content_build.proofs.Algebra.{slot_waits}
 use Rattle.content_build.proofs.Decoded.{decoded-from}
 use Rattle.content_build.proofs.Memory.{cells-push, opens-push, opens-set, opens-last, length-cells}
 
--- what stands for a partial tree is sound, and means it
+-- what represents a partial tree is sound, and means it
 pub sound_from : (es : List Frame) (hs : List Opening) (s : Partial) → Stands es hs s → IsSound es hs × (meaning es hs ≡ s)
 sound_from es hs s w = let e = decoded-from (cells_of es) (opens_view hs) s w in (subst (Stands es hs) (sym e) w, e)
 
@@ -111,7 +111,7 @@ stands_open ps es new hs after e h next w o none n at last a = (
       ∙ (ap (λ x. opened (length (slots_cells ps)) x (wait_view h.waits) ∷ opens_view hs) last ∙ (ap (λ x. opened (length (slots_cells ps)) 0 (wait_view h.waits) ∷ x) w.1 ∙ o.1)))),
 )
 
--- in which compound the innermost head stands
+-- in which compound the innermost head is
 pub idle : (s : Partial) (cs : List Cell) (at last : ℕ) (w : Wait) (os : List Open) → IsIdle w → Stood cs (opened at last w ∷ os) s
     → (c : Compound) × (ps : List Slot) × (s ≡ between c ps) × (w ≡ cells.compound_wait c)
 idle (due []) cs at last w os i (c, o) = absurd (cc)
@@ -143,7 +143,7 @@ the_series s m cs at last os w = go (idle s cs at last (cells.in_series m) os tt
     go (partial.in_map prs, ps, e, i) = absurd (cc)
     go (partial.in_record h fs, ps, e, i) = absurd (cc)
 
--- the call takes the step, and they stand for what it leads to
+-- the call takes the step, and they represent what it leads to
 abbrev pub Steps : Partial → Token → List Frame → List Opening → Type 0
 Steps s call es hs = (next : Partial) × (step_token s call ≡ Some next) × Stands es hs next
 

@@ -146,6 +146,6 @@ decoded (partial.between c ps) =
     ∙ (one_compound c _ ∙ ap (partial.between c) (slots-decoded ps))
 decoded (partial.done t) = ap outermost (read-whole t)
 
--- what stands for a partial tree is read as it
+-- what represents a partial tree is read as it
 pub decoded-from : (cs : List Cell) (os : List Open) (s : Partial) → Stood cs os s → decode cs os ≡ s
 decoded-from cs os s (c, o) = ap (λ x. decode x os) c ∙ (ap (decode (cells s)) o ∙ decoded s)

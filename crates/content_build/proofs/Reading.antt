@@ -140,7 +140,7 @@ module _ (f : List Grown) where
       ∙ (ap (λ x. if x then grown no_key v b ∷ of_pairs ps f else past (r - b) (of_pairs ps f)) (nonzero r (omega arith))
       ∙ (ap (λ x. past x (of_pairs ps f)) (less r b _ g) ∙ past-pairs ps)))
 
--- what stands inside a head is read as what it holds
+-- what is inside a head is read as what it holds
 abbrev pub ReadsData : Names → TreeData → List Cell → List Grown → Type 0
 ReadsData names d cs f =
     read (enclose (headed (sort_of d) names) (flat_data d) ++ cs) f ≡ grown no_key (named_tree names d) (suc (length (flat_data d))) ∷ read cs f

@@ -26,12 +26,12 @@ use Rattle.content_build.proofs.Forward.{append_trees, append_fields, append_tre
 use Rattle.content_build.proofs.Forward.{append_trees-push, append_fields-nil, append_fields-push}
 use Rattle.content_build.proofs.Forward.{after-none, next-same}
 
--- whether a tree may stand inside so many others
+-- whether a tree may be inside this many others
 abbrev pub allows : Option ℕ → ℕ → Bool
 allows None count = true
 allows (Some limit) count = nat_lt count limit
 
--- whether the tree that is due, or that stands open, keeps the limit
+-- whether the tree that is due, or that is open, keeps the limit
 abbrev pub has_room : Option ℕ → Partial → Bool
 has_room limit (due ps) = allows limit (length ps)
 has_room limit (between c ps) = allows limit (length ps)
@@ -64,7 +64,7 @@ keeps-depth (spells_series es) limit depth k = k.0
 keeps-depth (spells_map is) limit depth k = k.0
 keeps-depth (spells_record fs) limit depth k = k.0
 
--- where a tree may stand, what it fills has room
+-- where a tree may be, what it fills has room
 pub room-fill : (limit : Option ℕ) (ps : List Slot) (u : Tree) → allows limit (length ps) ≡ true → has_room limit (fill ps u) ≡ true
 room-fill limit [] u h = refl
 room-fill limit (child w ∷ ps) u h = room-fill limit ps (wrapped w u) (one-less limit ps h)
@@ -84,7 +84,7 @@ pass-item limit r m n calls e room =
     let go : Option Partial → Option Partial = λ o. option_and_then (λ k. run_roomy limit k calls) (option_and_then (roomy limit) o) in
     ap (λ x. go (next_item (item_call r) x n)) e ∙ (ap go (next-same (item_call r) n) ∙ pass limit calls n room)
 
--- a tree inside so many others fits
+-- a tree inside this many others fits
 fits : (limit count : ℕ) → suc count ≤ limit → nat_lt count limit ≡ true
 fits limit count h = lt-ltb count limit h
 

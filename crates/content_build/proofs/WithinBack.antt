@@ -28,7 +28,7 @@ use Rattle.content_build.proofs.Forward.{append_trees-push, append_fields-nil, a
 use Rattle.content_build.proofs.Forward.{after-none}
 use Rattle.content_build.proofs.Within.{has_room, roomy, run_roomy}
 
--- what stands before the rest spells the tree, which keeps the limit at this depth
+-- what comes before the rest spells the tree, which keeps the limit at this depth
 abbrev pub SpellsKept : ℕ → ℕ → List Token → Tree → List Token → Type 0
 SpellsKept limit depth calls t rest = (s : Spells calls t rest) × Keeps s limit depth
 

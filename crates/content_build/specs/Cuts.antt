@@ -12,7 +12,7 @@ use Rattle.content_ser.specs.Grammar.Spells.{SpellsWhole, IsWhole, IsViable}
 use Rattle.content_build.specs.Answers.{IsRefusal}
 use Rattle.content_build.specs.declared.calls_error.CallsError.{CallsError}
 
--- the first so many of the calls spell the tree
+-- this many of the calls, from the first, spell the tree
 abbrev pub SpellsFirst : List Event → ℕ → Tree → Type 0
 SpellsFirst calls n t = (n ≤ length calls) × SpellsWhole (take n calls) t
 

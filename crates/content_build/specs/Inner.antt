@@ -1,4 +1,4 @@
--- What the private parts of a builder stand for.
+-- What the private parts of a builder mean.
 pub mod Tokens
 pub mod Cells
 pub mod Forest

@@ -13,7 +13,7 @@ pub record Limited : Type 0 where
   pub limit : Option ℕ
   pub tree : Partial
 
--- whether the tree that this call announces, if it announces one, keeps the limit where so many are open
+-- whether the tree that this call announces, if it announces one, keeps the limit where this many are open
 abbrev pub fits : Option ℕ → ℕ → Token → Bool
 fits None count call = true
 fits (Some limit) count (token.wrap w) = nat_lt (suc count) limit

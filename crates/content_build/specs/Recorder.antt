@@ -25,7 +25,7 @@ abbrev pub cause : Bool → ErrorKind
 cause true = Failed
 cause false = OutOfMemory
 
--- a call: it stands at the end of the list, or the list is kept and the recorder has failed for good
+-- a call: it is at the end of the list, or the list is kept and the recorder has failed for good
 abbrev pub Records : Seen (List Event) → Event → Answer → Seen (List Event) → Type 0
 Records old c (Ok u) new =
     (old.failed ≡ false)

@@ -11,7 +11,7 @@ use Rattle.content_ser.specs.Grammar.Depth.{SpellsWithin, IsViableWithin}
 use Rattle.content_ser.specs.Grammar.Spells.{SpellsWhole}
 use Rattle.content_build.specs.declared.serializer.Serializer.{Serializer}
 
--- whether what is serialised is for people to read
+-- whether it is human readable
 abbrev pub is_readable : Serializer → Bool
 is_readable s = s.human_readable
 

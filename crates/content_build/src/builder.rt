@@ -17,7 +17,7 @@ use content_tree::{Error, NamedValue, Result, Value};
 use std::alloc::Global;
 use std::marker::PhantomData;
 
-/// A serialiser that builds the tree that its calls spell.
+/// A serialiser that builds a value: the tree that its calls spell.
 ///
 /// Its state is a partial tree: fresh, open, or done; and the limit on nesting, if it was made with
 /// one ([`with_limit`](Builder::with_limit)). A call after which no list of calls can spell a tree,
@@ -25,10 +25,10 @@ use std::marker::PhantomData;
 /// allocation failed answers `OutOfMemory`. Every call after either answers `Failed`; `collect_str`
 /// alone prints first, and where an allocation for that failed it answers `OutOfMemory` and changes
 /// nothing. Hints and lengths reserve nothing. Texts and bytes are copied, names never. The calls
-/// are Serde's; that one out of place is an error is ours.
+/// are Serde's; the error for one out of place isn't in `serde-content`.
 ///
-/// Nothing in the tree is lent, so the lifetime is free: [`from_calls`](crate::from_calls) gives
-/// a value at any.
+/// Nothing in the tree is borrowed, so the lifetime is free: [`from_calls`](crate::from_calls)
+/// gives a value at any.
 ///
 /// ```rust
 /// let mut builder = Builder::new(alloc, false);
@@ -46,8 +46,8 @@ pub struct Builder<'v> {
 }
 
 impl<'v> Builder<'v> {
-    /// A builder to which no call was made, which takes no memory. The flag is what
-    /// [`is_human_readable`](Serializer::is_human_readable) answers; nothing else rests on it.
+    /// Makes a builder to which no call was made; it takes no memory. The flag is what
+    /// [`is_human_readable`](Serializer::is_human_readable) answers; nothing else depends on it.
     pub fn new(alloc: Global, human_readable: bool) -> Builder<'v>
         ensures value { seen_of result
             ≡ record { state = fresh; failed = false; readable = human_readable } }
@@ -56,8 +56,8 @@ impl<'v> Builder<'v> {
         Builder::within(alloc, human_readable, None)
     }
 
-    /// A builder to which no call was made, within a limit on how deep trees nest, which is at
-    /// least 1. It takes no memory. (Ours.)
+    /// Makes a builder to which no call was made, within a limit on how deep trees nest, at least
+    /// 1. It takes no memory. Not in `serde-content`.
     ///
     /// The tree of the whole list has depth 1, and a tree inside another that one's depth plus 1;
     /// the trees of values that are dropped count too. A call that would pass the limit answers
@@ -103,7 +103,7 @@ impl<'v> Builder<'v> {
         self.tape.open_count()
     }
 
-    /// The tree that the calls spell. Its texts and bytes are owned and its names static.
+    /// Makes the tree that the calls spell. Its texts and bytes are owned and its names static.
     ///
     /// It answers `Failed` where the builder has failed, and `Unfinished` where the calls spell no
     /// tree yet. Memory is taken for the tree's vectors, each for the number of its items, and for
@@ -145,7 +145,7 @@ impl<'v> Serializer for Builder<'v> {
         // one step of the partial tree, within its limit
         ensures taken { Takes step refuses (seen_of self.old)
             (event_of call.entry) result (seen_of self.new) }
-        // it stands after the calls so far, or is refused whatever follows it
+        // it follows the calls so far, or is refused whatever comes after it
         ensures exact { (limit : Option ℕ) → (calls : List Event)
             → HasTaken limit calls (seen_of self.old)
             → AnswersNext limit calls (event_of call.entry) result (seen_of self.new) }

@@ -41,8 +41,8 @@ fn build<'v>(
     }
 }
 
-/// The tree that a list of calls spells, its texts and bytes owned and its names static. (Ours: the
-/// Rust crate has no lists of calls.)
+/// Makes the tree that a list of calls spells, its texts and bytes owned and its names static. Not
+/// in `serde-content`, which has no lists of calls.
 ///
 /// Where it spells none, the error names the place of the first call after which nothing that
 /// follows can make it spell one, `Misplaced`; or the list's length where it only ended too early,
@@ -72,8 +72,8 @@ pub fn from_calls<'v>(alloc: Global, calls: &[Call<'_>]) -> Result<Value<'v>, Ca
     build(alloc, calls, None)
 }
 
-/// The tree that a list of calls spells within a limit on how deep trees nest, which is at least 1:
-/// [`from_calls`] for lists from strangers. (Ours.)
+/// Makes the tree that a list of calls spells within a limit on how deep trees nest, which is at
+/// least 1: [`from_calls`] for lists from strangers. Not in `serde-content`.
 ///
 /// The tree of the whole list has depth 1, and a tree inside another that one's depth plus 1; the
 /// trees of values that are dropped count too. A list in which some depth passes the limit spells

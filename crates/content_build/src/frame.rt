@@ -12,8 +12,8 @@ use content_ser::Head;
 use content_tree::{CowBytes, CowStr, NamedValue, Number};
 use std::alloc::{AllocError, Global};
 
-/// A node that has no children and no name. A number of 128 bits stands in a box, so that a frame
-/// stays small.
+/// A node that has no children and no name. A number of 128 bits is boxed, so that a frame stays
+/// small.
 #[derive(Drop)]
 pub(crate) enum Leaf {
     Unit,

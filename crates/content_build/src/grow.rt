@@ -305,8 +305,8 @@ fn grow_one<'v, 'n>(
     }
 }
 
-/// The same frames, without the room of those that are gone. It is seldom done, and so stands
-/// outside the loop.
+/// The same frames, without the room of those that are gone. It is seldom done, and so isn't
+/// inlined.
 #[cold]
 #[inline(never)]
 fn shrunk(frames: Vec<Frame>) -> Vec<Frame>
@@ -332,8 +332,8 @@ fn trimmed(frames: Vec<Frame>) -> Vec<Frame>
 }
 
 /// How many values there are at once when the first leaf has become one: it, and each node that
-/// comes after it but stands in none of these; keys of fields are counted too. It is only how much
-/// room to begin with.
+/// comes after it but is in none of these; keys of fields are counted too. It is only how much room
+/// to begin with.
 fn count_at_first(frames: &Vec<Frame>) -> usize {
     let mut at = 0;
     while at < frames.len() && frames[at].size > 1 {

@@ -6,7 +6,7 @@ ghost use Rattle.content_build.specs.Limit as limits;
 
 use crate::token::Token;
 
-/// Whether the tree that the call announces, if it announces one, keeps the limit where so many
+/// Whether the tree that the call announces, if it announces one, keeps the limit where this many
 /// trees are open.
 pub(crate) fn fits(limit: usize, count: usize, call: &Token<'_>) -> bool
     ensures { result ≡ limits.fits (Some limit) count (token_view call.now) }

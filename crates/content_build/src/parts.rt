@@ -1,4 +1,4 @@
-//! What stands around trees, and the trees of openings.
+//! What holds trees, and the trees of openings.
 
 ghost use Rattle.std.specs.Prelude.{◌≡◌, IfOk};
 ghost use Rattle.content_tree.specs.Values.Value.{tree_of, tree_data_of};
@@ -8,7 +8,7 @@ use content_ser::Head;
 use content_tree::{CowStr, NamedData, NamedEnum, NamedStruct, NamedValue};
 use std::alloc::{AllocError, Global};
 
-/// What stands around one child.
+/// What holds one child.
 #[derive(Drop)]
 pub(crate) enum Wrap {
     Present,

@@ -38,9 +38,10 @@ fn cut<'v>(alloc: Global, calls: &[Call<'_>]) -> Result<(Value<'v>, usize), Call
     })
 }
 
-/// The tree that a beginning of a list of calls spells, and that beginning's length: at most one
-/// beginning spells a tree, so that a stream of trees is cut in one way. Texts and bytes of the
-/// tree are owned and its names static. What stands behind the beginning does not matter. (Ours.)
+/// Cuts the first tree off a list of calls: the tree that a beginning of the list spells, and that
+/// beginning's length. At most one beginning spells a tree, so a stream is cut in one way only.
+/// Texts and bytes are owned, names static. What comes after doesn't matter. Not in
+/// `serde-content`.
 ///
 /// Where no beginning spells a tree, the refusal is that of [`from_calls`](crate::from_calls):
 /// `Misplaced` at the first call after which nothing that follows can make the list spell one, or

@@ -11,12 +11,12 @@ use content_tree::{Error, ErrorKind, Result};
 use std::alloc::Global;
 use std::marker::Model;
 
-/// A list of the calls that it took, in order.
+/// A serialiser that records the calls that it takes, in order.
 ///
 /// It takes any call, in or out of place, and refuses one only where an allocation failed: then it
 /// answers `OutOfMemory`, from then on `Failed`, and keeps the calls taken before (`collect_str`
-/// that can't print answers `OutOfMemory` and changes nothing). It keeps texts and bytes of its
-/// own, copied from what a call lends. The Rust crate has no such type.
+/// that can't print answers `OutOfMemory` and changes nothing). Its texts and bytes are owned; what
+/// a call borrows is copied. Not in `serde-content`.
 ///
 /// ```rust
 /// let mut recorder = Recorder::new(alloc, false);
@@ -114,8 +114,7 @@ impl Serializer for Recorder {
     fn call(&mut self, call: Call<'_>) -> Result<()>
         // one step of the list
         ensures taken { Takes recorded refuses self.old (event_of call.entry) result self.new }
-        // the call stands at the list's end, or the list is kept and the recorder has failed for
-        // good
+        // the call is at the list's end, or the list is kept and the recorder has failed for good
         ensures exact { Records self.old (event_of call.entry) result self.new }
     {
         if self.failed {

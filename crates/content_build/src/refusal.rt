@@ -57,7 +57,7 @@ pub(crate) fn put_aside(taken: Taken, error: &mut Error) -> Sent
     }
 }
 
-/// Puts the error of a refusal aside. It is seldom done, and so stands outside the calls.
+/// Puts the error of a refusal aside. It is seldom done, and so isn't inlined.
 #[cold]
 #[inline(never)]
 fn stand_aside(refusal: Refusal, error: &mut Error) -> Sent

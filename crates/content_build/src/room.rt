@@ -4,7 +4,7 @@ ghost use Rattle.std.specs.Prelude.{◌≡◌, ◌<◌, ◌++◌, ◌∷◌, [],
 
 use std::alloc::AllocError;
 
-/// Makes room for one item more. It is seldom done, and so stands outside the calls.
+/// Makes room for one item more. It is seldom done, and so isn't inlined.
 #[cold]
 #[inline(never)]
 fn make_room<T>(items: &mut Vec<T>) -> Result<(), AllocError>

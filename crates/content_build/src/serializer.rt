@@ -9,11 +9,11 @@ use content_ser::{Aside, Serialize};
 use content_tree::{Error, ErrorKind, Result, Value};
 use std::alloc::Global;
 
-/// Makes the tree of anything that can be serialised. The name and the flag are `serde-content`'s.
+/// Makes a value of anything that can be serialised. The name and the flag are `serde-content`'s.
 ///
-/// It has a flag, whether what is serialised is told that it is for people to read, which is off at
-/// first; and perhaps a limit on how deep trees nest (ours), at first none. Serialisers go by the
-/// flag and then by the limit in `==` and in the order, none before any.
+/// It has a flag, whether it is human readable, off at first; and perhaps a limit on how deep trees
+/// nest, at first none, which isn't in `serde-content`. Serialisers go by the flag and then by the
+/// limit in `==` and in the order, none before any.
 ///
 /// ```rust
 /// let held = Box::new(alloc, Value::from(7u8))?;
@@ -49,7 +49,7 @@ impl Serializer {
     }
 
     /// The same within this limit on how deep trees nest, which is at least 1, in the place of any
-    /// before. It takes no memory. (Ours.)
+    /// before. It takes no memory. Not in `serde-content`.
     ///
     /// A leaf and an empty compound have depth 1, and what holds others has one more than the
     /// deepest of them; the trees of values that are dropped count too.
@@ -69,7 +69,7 @@ impl Serializer {
         }
     }
 
-    /// The tree that the value's calls spell, with every text and byte value owned.
+    /// Makes the tree that the value's calls spell, with every text and byte value owned.
     ///
     /// Where the value's script stops, the error is of kind `Custom` with the stop's text. It is of
     /// kind `OutOfMemory` where an allocation failed, and of kind `Misplaced` exactly where there

@@ -10,9 +10,9 @@ use std::fmt;
 pub enum Fault {
     /// They end inside an item.
     Ended,
-    /// Bytes stand behind the item.
+    /// Bytes come after the item.
     Trailing,
-    /// Items stand deeper in one another than the limit.
+    /// Items nest deeper than the limit.
     TooDeep,
     /// A first byte that RFC 8949 gives no meaning.
     Reserved,
@@ -26,8 +26,8 @@ pub enum Fault {
     Tag,
     /// A number past 128 bits.
     TooWide,
-    /// What can't stand under a tag, or as a chunk of a text or of bytes of indefinite length; a
-    /// break under a tag too.
+    /// What can't be under a tag, or a chunk of a text or of bytes of indefinite length; a break
+    /// under a tag too.
     WrongKind,
     /// A text that is no UTF-8.
     NotUtf8,

@@ -15,7 +15,7 @@ pub(crate) struct Range {
     pub(crate) fault: Fault,
 }
 
-/// The number without its last digits to the base 256, so many.
+/// The number without this many of its last digits to the base 256.
 pub(crate) fn leading(due: u64, number: u128) -> u128
     ensures { result ≡ leading due number }
 {
@@ -26,7 +26,7 @@ pub(crate) fn leading(due: u64, number: u128) -> u128
     }
 }
 
-/// The number with so many digits more.
+/// The number with this many digits more.
 pub(crate) fn read_digits(
     range: Range,
     due: u64,

@@ -25,12 +25,12 @@ use content_tree::{CowStr, Error, ErrorKind, NamedData, NamedEnum, NamedValue, R
 use std::alloc::{AllocError, Global};
 use std::result::Result as StdResult;
 
-/// The value as one data item, with definite lengths and each head in as few bytes as can be.
+/// Encodes a value as one data item, with definite lengths and each head in as few bytes as can be.
 ///
 /// A struct's fields and a map are a map; a sequence, a tuple and what is held by place an array; a
 /// character is a text; the unit, `None` and a unit struct are null; `Some` and a newtype struct
 /// are what they hold. A unit variant is its name, and any other a map from its name to what it
-/// holds. A number below -2^64 or past 2^64 - 1 goes as bytes under tag 2 or 3.
+/// holds. A number is an integer; outside -2^64 .. 2^64-1 it is a bignum, bytes under tag 3 or 2.
 ///
 /// It takes memory for the bytes alone, and stack as deep as the value nests.
 ///
@@ -54,8 +54,8 @@ pub fn encode<'a, 'n>(alloc: Global, value: &NamedValue<'a, 'n>) -> Result<Vec<u
     Ok(out)
 }
 
-/// Values as one data item, an array of their items. It takes memory for the bytes alone, and stack
-/// as deep as the values nest.
+/// Encodes values as one data item, an array of their items. It takes memory for the bytes alone,
+/// and stack as deep as the values nest.
 ///
 /// # Errors
 ///
@@ -76,7 +76,8 @@ pub fn encode_array<'a, 'n>(alloc: Global, items: &[NamedValue<'a, 'n>]) -> Resu
     Ok(out)
 }
 
-/// Anything that can be serialised, as one data item: that of the tree which its calls spell.
+/// Encodes anything that can be serialised, as one data item: that of the tree which its calls
+/// spell.
 ///
 /// Its calls are written as they come, by an [`Encoder`]; where one can't be, they are made again,
 /// into a tree. Memory is taken for the bytes, a number for each open array or map, and the tree.

@@ -98,7 +98,7 @@ pub(crate) fn write_head(out: &mut Vec<u8>, major: Major, number: u64) -> Result
     }
 }
 
-/// Appends a head whose number stands behind its first byte.
+/// Appends a head whose number comes after its first byte.
 #[inline(never)]
 #[tactic(auto, unfolding(crate::specs::Heads::head))]
 fn write_long_head(out: &mut Vec<u8>, major: Major, number: u64) -> Result<(), AllocError>
@@ -122,7 +122,7 @@ fn write_long_head(out: &mut Vec<u8>, major: Major, number: u64) -> Result<(), A
     Ok(())
 }
 
-/// The number of the byte at the front, and the bytes behind it.
+/// The number of the byte at the front, and the bytes after it.
 fn read_u8(bytes: &[u8]) -> Result<(u8, &[u8]), Stop>
     ensures { Gives (λ x. (x.0, x.1.now)) result (digits_at unbounded 1 0 bytes.now) }
 {
@@ -169,7 +169,7 @@ fn read_u64(bytes: &[u8]) -> Result<(u64, &[u8]), Stop>
     Ok((number, rest))
 }
 
-/// The first byte of a head, and the bytes behind it.
+/// The first byte of a head, and the bytes after it.
 #[inline(always)]
 #[tactic(auto, unfolding(crate::specs::Inner::Reading::first_at))]
 pub(crate) fn read_first(bytes: &[u8]) -> Result<(First, &[u8]), Stop>
@@ -196,7 +196,7 @@ pub(crate) fn read_first(bytes: &[u8]) -> Result<(First, &[u8]), Stop>
     Ok((First { major, info }, rest))
 }
 
-/// The number of a head, in its first byte or behind it.
+/// The number of a head, in its first byte or after it.
 #[inline(always)]
 #[tactic(auto, unfolding(crate::specs::Inner::Numbers::argument_at))]
 fn read_any_argument(info: u8, bytes: &[u8]) -> Result<(u64, &[u8]), Stop>
@@ -218,7 +218,7 @@ fn read_any_argument(info: u8, bytes: &[u8]) -> Result<(u64, &[u8]), Stop>
     }
 }
 
-/// How many bytes stand behind a first byte that says so.
+/// How many bytes come after a first byte that says so.
 fn size_of(info: u8) -> u64
     ensures { result ≡ size_of info }
 {
@@ -266,7 +266,7 @@ pub(crate) fn read_argument(
     }
 }
 
-/// A head behind its first byte.
+/// A head after its first byte.
 #[inline(always)]
 pub(crate) fn read_head_behind(first: First, bytes: &[u8]) -> Result<(Head, &[u8]), Stop>
     ensures { Gives (λ x. (x.0, x.1.now)) result (head_behind unbounded first bytes.now) }
@@ -298,7 +298,7 @@ fn read_head_in(range: Range, first: First, bytes: &[u8]) -> Result<(Head, &[u8]
     Ok((head, rest))
 }
 
-/// The same, with what its number must be where items may stand so deep. Few heads need it, so it
+/// The same, with what its number must be where items may nest this deep. Few heads need it, so it
 /// isn't inlined.
 #[inline(never)]
 fn read_bounded_head(limit: usize, first: First, bytes: &[u8]) -> Result<(Head, &[u8]), Stop>
@@ -326,7 +326,7 @@ fn read_bounded_head(limit: usize, first: First, bytes: &[u8]) -> Result<(Head, 
     }
 }
 
-/// The head of an item in which items may stand so deep, and the bytes behind it.
+/// The head of an item in which items may nest this deep, and the bytes after it.
 #[inline(always)]
 #[tactic(auto, unfolding(crate::specs::Inner::Reading::head_at))]
 pub(crate) fn read_head(limit: usize, bytes: &[u8]) -> Result<(Head, &[u8]), Stop>
@@ -340,7 +340,7 @@ pub(crate) fn read_head(limit: usize, bytes: &[u8]) -> Result<(Head, &[u8]), Sto
     }
 }
 
-/// The bytes behind a break, if one is at the front.
+/// The bytes after a break, if one is at the front.
 pub(crate) fn after_break(bytes: &[u8]) -> Option<&[u8]>
     ensures some { IfSome result (λ r. (at_break bytes.now ≡ true) × (r.now ≡ drop 1 bytes.now)) }
     ensures none { IfNone result (at_break bytes.now ≡ false) }

@@ -1,4 +1,4 @@
-//! The items in which no item stands.
+//! The items that contain no item.
 
 ghost use Rattle.std.specs.Prelude.{◌≡◌, ◌++◌, OnOk, pos, negsuc, true, encode_utf8, length};
 ghost use Rattle.content_tree.specs.Values.Ranges.{number_value};
@@ -121,7 +121,7 @@ fn write_shortest(number: u128, out: &mut Vec<u8>) -> Result<(), AllocError>
     write_bytes(without_zeros(&number.to_be_bytes()), out)
 }
 
-/// The bytes behind the zeros at the front.
+/// The bytes after the zeros at the front.
 #[tactic(auto, unfolding(crate::specs::Item::without_zeros))]
 fn without_zeros(bytes: &[u8]) -> &[u8]
     ensures { result.now ≡ without_zeros bytes.now }

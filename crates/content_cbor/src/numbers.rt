@@ -70,7 +70,7 @@ fn digits_behind(most: u128, number: u128) -> u64
     due
 }
 
-/// How many digits the next chunk may have, behind this number; as many as it likes behind 0.
+/// How many digits the next chunk may have, after this number; as many as it likes after 0.
 fn lengths_behind(is_negative: bool, number: u128) -> Option<Range>
     ensures bounds { bounds_in result ≡ chunk_bounds is_negative number }
     ensures small { IfSome result (λ r. r.most < 2 ^ 64) }
@@ -85,7 +85,7 @@ fn lengths_behind(is_negative: bool, number: u128) -> Option<Range>
     })
 }
 
-/// The number whose digits stand in chunks up to a break.
+/// The number whose digits are in chunks up to a break.
 fn read_chunks_of_digits(is_negative: bool, bytes: &[u8]) -> Result<(u128, &[u8]), Stop>
     ensures value { Gives (λ x. (x.0, x.1.now)) result
         (digits_until is_negative 0 (length bytes.now) bytes.now) }
@@ -106,7 +106,7 @@ fn read_chunks_of_digits(is_negative: bool, bytes: &[u8]) -> Result<(u128, &[u8]
     Err(stop_at(Fault::Ended, &[]))
 }
 
-/// The number whose digits stand behind the head of bytes.
+/// The number whose digits come after the head of bytes.
 fn read_digits_behind(
     is_negative: bool,
     length: Option<u64>,

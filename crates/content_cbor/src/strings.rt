@@ -16,7 +16,7 @@ use content_tree::{CowBytes, CowStr};
 use std::alloc::Global;
 use std::str;
 
-/// So many bytes, and those behind them.
+/// This many bytes, and those after them.
 fn read_bytes(length: u64, bytes: &[u8]) -> Result<(&[u8], &[u8]), Stop>
     ensures { Gives (λ x. (x.0.now, x.1.now)) result (bytes_at length bytes.now) }
 {
@@ -26,7 +26,7 @@ fn read_bytes(length: u64, bytes: &[u8]) -> Result<(&[u8], &[u8]), Stop>
     Ok(bytes.split_at(length as usize))
 }
 
-/// So many bytes as a text, and those behind them.
+/// This many bytes as a text, and those after them.
 #[inline(always)]
 #[tactic(auto, unfolding(crate::specs::Inner::Reading::content_at))]
 fn read_text(length: u64, bytes: &[u8]) -> Result<(&str, &[u8]), Stop>
@@ -90,7 +90,7 @@ fn read_chunk_of_text(bytes: &[u8]) -> Result<(&str, &[u8]), Stop>
     read_text(length, rest)
 }
 
-/// Bytes behind their head: borrowed with a length, and without one their chunks together.
+/// Bytes after their head: borrowed with a length, and without one their chunks together.
 #[tactic(auto, unfolding(crate::specs::Inner::Reading::string_at, crate::specs::Inner::Reading::content_at))]
 pub(crate) fn read_byte_string<'de>(
     alloc: Global,
@@ -111,7 +111,7 @@ pub(crate) fn read_byte_string<'de>(
     }
 }
 
-/// A text behind its head: borrowed with a length, and without one its chunks together.
+/// A text after its head: borrowed with a length, and without one its chunks together.
 #[tactic(auto, unfolding(crate::specs::Inner::Reading::string_at))]
 pub(crate) fn read_text_string<'de>(
     alloc: Global,

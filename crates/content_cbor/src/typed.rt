@@ -12,9 +12,9 @@ use content_de::{Deserialize, Deserializer};
 use content_tree::{Error, ErrorKind, Result};
 use std::alloc::{AllocError, Global};
 
-/// Typed data from bytes of CBOR: the value that [`decode`] gives, read as the type, with numbers
-/// coerced, since CBOR keeps no kind of a number. The limit is that of `decode`; `&str` and `&[u8]`
-/// are read only of what stands in one piece.
+/// Reads typed data from bytes of CBOR: the value that [`decode`] gives, read as the type, with
+/// numbers coerced, since CBOR keeps no kind of a number. The limit is that of `decode`; `&str` and
+/// `&[u8]` are read only of what is in one piece.
 ///
 /// Not all that [`to_bytes`](crate::to_bytes) wrote comes back: [`read_back`](crate::read_back) is
 /// for the types of which it does. A character, a text by then, is refused, and so are the unit and

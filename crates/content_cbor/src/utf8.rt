@@ -15,7 +15,7 @@ pub(crate) struct Lack {
     pub(crate) most: u8,
 }
 
-/// So many bytes, each in the range of all but a character's first two.
+/// This many bytes, each in the range of all but a character's first two.
 fn tail(count: u8) -> Lack
     ensures { result ≡ tail count }
 {
@@ -26,7 +26,7 @@ fn tail(count: u8) -> Lack
     }
 }
 
-/// What a character lacks behind its first byte, where a character begins so.
+/// What a character lacks after its first byte, where a character begins so.
 fn after_first(byte: u8) -> Option<Lack>
     ensures { result ≡ after_first byte }
 {
@@ -55,7 +55,7 @@ fn after_first(byte: u8) -> Option<Lack>
     }
 }
 
-/// What is lacking behind one more byte, where it can stand there.
+/// What is lacking after one more byte, where it can be there.
 fn after_byte(lack: Lack, byte: u8) -> Option<Lack>
     ensures { result ≡ after_byte lack byte }
 {
@@ -68,7 +68,8 @@ fn after_byte(lack: Lack, byte: u8) -> Option<Lack>
     }
 }
 
-/// Where so many bytes stop being a text: at the first with which no text begins, or at their end.
+/// Where this many bytes stop being a text: at the first with which no text begins, or at their
+/// end.
 pub(crate) fn stop_in_text(length: u64, bytes: &[u8]) -> Stop
     requires { (x : List ℕ × List ℕ) → text_at (tail 0) length bytes.now ≡ Ok x → ⊥ }
     ensures { Fails result (text_at (tail 0) length bytes.now) }

@@ -19,7 +19,7 @@ use Rattle.content_cli.specs.declared.calls.Verdict.TheVariants.{BadLine, Taken,
 abbrev pub calls_in : List (List ℕ) → List Event
 calls_in lines = flat_map (λ line. option_to_list (event_in line)) lines
 
--- where the first bad of these lines stands, the first of them at this place
+-- where the first bad of these lines is, the first of them at this place
 abbrev pub bad_from : ℕ → List (List ℕ) → Option ℕ
 bad_from place lines = position_from is_bad place lines
 
@@ -38,7 +38,7 @@ pub record HasRead (limit : Option ℕ) (body : List ℕ) (builder : Builder) (c
   pub within : place + length text ≤ length body
   pub fewer : count + length text ≤ length body
 
--- the same of the lines up to this place, where these lines of so many bytes are left
+-- the same of the lines up to this place, where these lines of this many bytes are left
 pub record HasReadTo (limit : Option ℕ) (body : List ℕ) (builder : Builder) (count place : ℕ) (lines : List (List ℕ)) (bytes : ℕ) : Type 0 where
   pub calls : List Event
   pub taken : HasTaken limit calls (seen_of builder)
@@ -166,7 +166,7 @@ shifted (l ∷ lines) a b = by_test (is_bad l) lines a b (ap (λ n. bad_from n l
 none_more : (n : ℕ) → n ≡ n + 0
 none_more n = omega arith
 
--- where a text's first bad line stands among all lines
+-- where a text's first bad line is among all lines
 bad_after : (text : List ℕ) (place : ℕ) (b : Option ℕ) → first_bad text ≡ b → bad_from place (lines_of text) ≡ option_map (λ n. place + n) b
 bad_after text place b e =
     ap (λ n. bad_from n (lines_of text)) (none_more place) ∙ (shifted (lines_of text) place 0 ∙ ap (option_map (λ n. place + n)) (sym (position_from-zero is_bad (lines_of text)) ∙ e))

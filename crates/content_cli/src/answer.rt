@@ -76,7 +76,7 @@ fn read_input<'v>(alloc: Global, input: Vec<u8>) -> Verdict<'v>
     read_calls(alloc, body, limit)
 }
 
-/// The line and the status of calls that were all taken, so many.
+/// The line and the status of calls that were all taken, this many.
 fn finished(alloc: Global, builder: Builder<'_>, count: usize) -> Result<Answer, AllocError>
     ensures { (input : List ℕ) → first_bad (body_of input) ≡ None
         → HasTaken (limit_of input) (calls_of (body_of input)) (seen_of builder.entry)

@@ -56,7 +56,7 @@ fn take_line(alloc: Global, builder: &mut Builder<'_>, line: Line<'_>, error: &m
     }
 }
 
-/// What lines come to of which one was refused, where these stand after it, the first of them at
+/// What lines come to of which one was refused, where these come after it, the first of them at
 /// this place: a bad line goes before a refusal.
 fn after_refusal<'v>(refusal: CallsError, place: usize, lines: &[u8]) -> Verdict<'v>
     requires { place + length lines.now ≤ 2 ^ 64 - 1 }

@@ -37,8 +37,8 @@ fn finish<W: Output>(writer: &mut W, line: &[u8], status: u8) -> u8
 /// | 5 | any part of a line | the writer answered a fault |
 ///
 /// Neither the reader nor the writer may have failed before. The line is made whole before any of
-/// it is written. A reader that never ends brings the run to out of memory. The lines, their
-/// answers and the statuses are ours.
+/// it is written. A reader that never ends brings the run to out of memory. None of this is in
+/// `serde-content`.
 ///
 /// ```rust
 /// let mut input = Port::new(rt.stdin());

@@ -43,7 +43,7 @@ unfolding IsStrictlySortedBy
 sorted_end order [] es s = s
 sorted_end order (e ∷ rest) es s = sorted_end order rest es s.1
 
--- the last entry that is left, put in before those from behind it
+-- the last entry that is left, put in before those that come after it
 pub put_in_last : {K V : Type 0} (order : K → K → Ordering) (left rest : List (K × V)) (k : K) (v : V) (es more all : List (K × V)) → IsStrictlySortedBy order (keys_of all)
     → left ++ es ≡ all → left ≡ rest ++ (k, v) ∷ [] → more ≡ insert_entry order es k v → rest ++ more ≡ all
 put_in_last order left rest k v es more all s whole last put =

@@ -1,4 +1,4 @@
--- What each case of a value stands for.
+-- The tree of each case of a value.
 use Rattle.content_tree.specs.declared.value.NamedValue.{the_lemmas}
 use Rattle.content_de.proofs.Fields.{fields_fused}
 

@@ -1,4 +1,4 @@
--- A request takes what is read, with a datum or with what stands inside, or it refuses it.
+-- A request takes what is read, with a datum or with its parts, or it refuses it.
 use Rattle.std.specs.Prelude.{Option, Some, None, Result, MatchResult, ◌≡◌, ◌≢◌, ⊤}
 use Rattle.content_tree.specs.Errors.Cause.{Cause, Expectation, unexpected, out_of_memory, cause_of}
 use Rattle.content_tree.specs.Errors.Kind.{kind_of}

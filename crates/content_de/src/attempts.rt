@@ -1,4 +1,4 @@
-//! One try of a type on what is read, which stays: in a buffer, as Serde tries.
+//! Tries to read a type from what is there, which stays, as Serde does from its buffer.
 
 ghost use Rattle.std.specs.Prelude.{◌≡◌, IsSome, Ok, None};
 ghost use Rattle.content_de.specs.Sources.Deserializer.{subject};
@@ -10,9 +10,9 @@ use crate::deserializer::Deserializer;
 use content_tree::{ErrorKind, Expected, Result};
 use std::alloc::Global;
 
-/// A value of the type, read from a copy of what is there in a [buffer](Deserializer::buffered), or
-/// none where that is refused; for an untagged enum of a caller's own, which tries one type after
-/// another.
+/// Tries to read a type from a [buffered](Deserializer::buffered) copy of what is there: a value,
+/// or none where that is refused. It is for an untagged enum of your own, which tries one type
+/// after another.
 ///
 /// # Errors
 ///

@@ -1,4 +1,4 @@
-//! Entries taken by name, wherever they stand.
+//! Entries taken by name, in any order.
 
 ghost use Rattle.std.specs.Prelude.{◌≡◌, ◌<◌, ◌++◌, ⊤, ℕ, Bool, List, [], Some, None, IsTrue};
 ghost use Rattle.std.specs.Prelude.{IfOk, IfErr, IfSome, IfNone, is_some, option_map};
@@ -38,7 +38,7 @@ pub(crate) enum Left<'de, 'n> {
     Fields(VecDeque<(CowStr<'n>, NamedValue<'de, 'n>)>),
 }
 
-/// The entries of a map, a struct or a variant that are left, taken by name, wherever they stand.
+/// Gives out the entries of a map, a struct or a variant by name, in any order.
 ///
 /// ```rust
 /// let mut fields = Deserializer::new(value).deserialize_map(alloc)?.by_name();
@@ -88,7 +88,7 @@ impl<'de, 'n> Left<'de, 'n> {
         }
     }
 
-    /// All as pairs, behind the value whose key was handed out, where there is one.
+    /// All as pairs, after the value whose key was handed out, where there is one.
     fn into_pairs(
         self,
         alloc: Global,
@@ -125,8 +125,8 @@ impl<'de, 'n> Left<'de, 'n> {
 }
 
 impl<'de, 'n> Map<'de, 'n> {
-    /// The entries that are left, to be taken by name: a pair whose key is a text has that name. It
-    /// takes no memory.
+    /// Gives the entries that are left, to be taken by name: a pair whose key is a text has that
+    /// name. It takes no memory.
     #[inline(always)]
     pub fn by_name(self) -> FieldsByName<'de, 'n>
         ensures { fields_left result ≡ by_name (map_view self.entry) }
@@ -200,8 +200,8 @@ impl<'de, 'n> FieldsByName<'de, 'n> {
         self.keyless.is_none() && self.left.is_empty()
     }
 
-    /// The value of the first entry of this name, which is taken away, or none; the others stay in
-    /// order. It takes no memory, and constant time where the entry is the first.
+    /// Gives the value of the first entry of this name, which is taken away, or none; the others
+    /// stay in order. It takes no memory, and constant time where the entry is the first.
     #[inline(always)]
     pub fn take_named(&mut self, name: &str) -> Option<Deserializer<'de, 'n>>
         ensures value { option_map subject result ≡ field_named name.now (fields_left self.old) }
@@ -213,8 +213,8 @@ impl<'de, 'n> FieldsByName<'de, 'n> {
         }
     }
 
-    /// What is left, to be read as a map: a field's name is a text there. It takes memory only
-    /// where fields of a struct or a variant are left.
+    /// Gives what is left, to be read as a map: a field's name is a text there. It takes memory
+    /// only where fields of a struct or a variant are left.
     ///
     /// # Errors
     ///
@@ -322,7 +322,7 @@ fn is_front<K: Key, V>(entries: &VecDeque<(K, V)>, name: &str) -> bool
     }
 }
 
-/// The value of the first entry whose key is this text, wherever it stands, taken away.
+/// The value of the first entry whose key is this text, wherever it is, taken away.
 #[tactic(auto, using(crate::proofs::Named::all_stay))]
 fn take_later<K: Key, V: Drop>(entries: &mut VecDeque<(K, V)>, name: &str) -> Option<V>
     ensures value { result ≡ lookup (K.is_text name.now) entries.old.items }
@@ -355,7 +355,7 @@ fn place_of<K: Key, V>(entries: &VecDeque<(K, V)>, name: &str) -> Option<usize>
     None
 }
 
-/// These pairs, behind the value whose key was handed out, where there is one.
+/// These pairs, after the value whose key was handed out, where there is one.
 fn pairs_behind<'de, 'n>(
     keyless: Option<NamedValue<'de, 'n>>,
     pairs: VecDeque<(NamedValue<'de, 'n>, NamedValue<'de, 'n>)>,
@@ -371,7 +371,7 @@ fn pairs_behind<'de, 'n>(
     Ok(pairs.into_vec())
 }
 
-/// These fields as pairs, each name a text, behind that value.
+/// These fields as pairs, each name a text, after that value.
 fn fields_behind<'de, 'n: 'de>(
     alloc: Global,
     keyless: Option<NamedValue<'de, 'n>>,

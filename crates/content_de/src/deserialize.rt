@@ -1,4 +1,4 @@
-//! What can be read.
+//! The trait of types that can be read.
 
 ghost use Rattle.std.specs.Prelude.{IsOk};
 
@@ -8,8 +8,8 @@ use std::alloc::Global;
 
 /// A type whose values are read from a [`Deserializer`], as `serde::Deserialize`.
 ///
-/// An implementation says, for each source and pair of flags, what the first refusal is in the
-/// order of reading, or that there is none, and which values may be given then.
+/// An implementation says, for each source and its flags, what the first refusal is in the order of
+/// reading, or that there is none, and which values may be given then.
 pub trait Deserialize<'de>: Sized + Drop {
     ghost use Rattle.content_de.specs.Sources.Deserializer.{subject};
     ghost use Rattle.content_de.specs.Reads.Read.{Refusal, Gives, Memoryless, Reads};
@@ -24,8 +24,8 @@ pub trait Deserialize<'de>: Sized + Drop {
     /// are promised.
     ghost memoryless: { Memoryless } = { λ s. ⊥ };
 
-    /// A value that may be given, or the error of the first refusal; out of memory in the place of
-    /// either, but where it is read without memory.
+    /// Reads a value that may be given, or answers the error of the first refusal; out of memory in
+    /// the place of either, but where it is read without memory.
     fn deserialize<'n: 'de>(alloc: Global, from: Deserializer<'de, 'n>) -> Result<Self>
         ensures value { Reads (refusal (subject from.entry)) (gives (subject from.entry)) result }
         ensures succeeds { memoryless (subject from.entry) → IsOk result };

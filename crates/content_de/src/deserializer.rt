@@ -1,4 +1,4 @@
-//! What a value is read by.
+//! Reads a value.
 
 ghost use Rattle.std.specs.Prelude.{◌≡◌, ◌≢◌, true, IfOk, IfErr, option_map};
 ghost use Rattle.content_tree.specs.Errors.Cause.{expectation_of, out_of_memory};
@@ -15,12 +15,12 @@ use crate::source::{Flags, Source};
 use content_tree::{CowStr, Error, Expected, NamedValue, Result};
 use std::alloc::Global;
 
-/// A value, or a key or a tag inside one, with flags, to be read by one request. The name, the first
-/// two flags and the requests are `serde-content`'s.
+/// Reads a value, or a key or a tag inside one, as typed data: it has flags and answers one
+/// request. The name, the first two flags and the requests are `serde-content`'s.
 ///
-/// Each request takes what is read and either answers with its datum, or with what stands inside,
-/// or refuses: the error shows what was found and what was expected. Where what is found fits, no
-/// request takes memory; a refusal does, and is out of memory where that fails.
+/// Each request takes what is read and answers with its datum or with its parts, or refuses: the
+/// error shows what was found and what was expected. Where what is found fits, no request takes
+/// memory; a refusal does, and is out of memory where that fails.
 ///
 /// ```rust
 /// let items = vec![in alloc; Value::from(1u8), Value::from(2u8)]?;
@@ -51,7 +51,7 @@ impl<'de, 'n> Deserializer<'de, 'n> {
         }
     }
 
-    /// The same for a value that was written for people. It takes no memory.
+    /// The same, human readable: types may read another form. It takes no memory.
     pub fn human_readable(self) -> Deserializer<'de, 'n>
         ensures { subject result ≡ record {
           origin = (subject self.entry).origin;
@@ -96,9 +96,9 @@ impl<'de, 'n> Deserializer<'de, 'n> {
         }
     }
 
-    /// The same as Serde reads what it holds in a buffer, as where it tries the variants of an
-    /// untagged enum: numbers are coerced, the unit is an empty option, and a tuple refuses elements
-    /// that are left over. It takes no memory.
+    /// The same, read as Serde reads from its buffer, for instance the variants of an untagged
+    /// enum: numbers are coerced, the unit is an empty option, and a tuple refuses elements that
+    /// are left over. It takes no memory.
     pub fn buffered(self) -> Deserializer<'de, 'n>
         ensures { subject result ≡ in_buffer (subject self.entry) }
     {
@@ -109,15 +109,16 @@ impl<'de, 'n> Deserializer<'de, 'n> {
         }
     }
 
-    /// Whether what is read was written for people; of a key that is a field's name, and of a
-    /// variant's name, it is so always. It takes no memory.
+    /// Whether what is read is human readable; a key that is a field's name and a variant's name
+    /// always are. It takes no memory.
     pub fn is_human_readable(&self) -> bool
         ensures { result ≡ (subject self.now).flags.human_readable }
     {
         self.flags.human_readable
     }
 
-    /// A copy: the same tree or name, with each case and static mark, and the same flags.
+    /// Makes a copy: the same tree or name, each text and name borrowed or owned as here, and the
+    /// same flags.
     ///
     /// # Errors
     ///
@@ -139,8 +140,8 @@ impl<'de, 'n> Deserializer<'de, 'n> {
         })
     }
 
-    /// The value that is read, lent, so that a type can look at it before it asks; none where a name
-    /// is read. It takes no memory.
+    /// The value that is read, borrowed, so that a type can look at it before it asks; none where a
+    /// name is read. It takes no memory.
     pub fn as_value(&self) -> Option<&NamedValue<'de, 'n>>
         ensures { option_map (λ v. tree_of v.now) result ≡ tree_in (subject self.now).origin }
     {
@@ -167,8 +168,8 @@ impl<'de, 'n> Deserializer<'de, 'n> {
         }
     }
 
-    /// The refusal of what is read, where a type of a caller's own expects this: the error shows
-    /// what was found and what was expected. Where an allocation fails: out of memory in its place.
+    /// Makes the error for a type of your own that expected this: it shows what was found and what
+    /// was expected. Where an allocation fails: out of memory in its place.
     pub fn unexpected(self, alloc: Global, expected: Expected) -> Error
         ensures { cause result ≢ out_of_memory →
             cause result ≡ mismatch (subject self.entry).origin (expectation_of expected) }
@@ -186,7 +187,7 @@ impl<'de, 'n> Deserializer<'de, 'n> {
         }
     }
 
-    /// The name of a field or a variant, under the flags of what it stands in.
+    /// The name of a field or a variant, under the flags of what it is in.
     pub(crate) fn identifier(name: CowStr<'n>, index: u64, flags: Flags) -> Deserializer<'de, 'n>
         ensures { subject result ≡ subject_under (flags_of flags)
             (of_identifier (text_of name.entry) index) }

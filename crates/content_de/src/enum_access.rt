@@ -21,7 +21,7 @@ pub(crate) enum Requested<'n> {
     Own,
 }
 
-/// What stands for a variant.
+/// What can be read as a variant.
 #[derive(Drop)]
 pub(crate) enum Tagged<'de, 'n> {
     /// A variant itself.
@@ -32,8 +32,7 @@ pub(crate) enum Tagged<'de, 'n> {
     Entry(NamedValue<'de, 'n>, NamedValue<'de, 'n>),
 }
 
-/// A variant of an enum whose tag wasn't read yet: the node of an enum, a text, or a map of one
-/// entry.
+/// Reads the tag of a variant: of the node of an enum, a text, or a map of one entry.
 #[derive(Drop)]
 pub struct EnumAccess<'de, 'n> {
     pub(crate) requested: Requested<'n>,
@@ -42,8 +41,8 @@ pub struct EnumAccess<'de, 'n> {
 }
 
 impl<'de, 'n> EnumAccess<'de, 'n> {
-    /// The tag, to be read under the flags of the enum, and what the variant holds. The tag of a
-    /// variant's own node is its name, which as a number is its index.
+    /// Gives the tag, to be read under the flags of the enum, and what the variant holds. The tag
+    /// of a variant's own node is its name, which as a number is its index.
     ///
     /// It takes memory for a copy of a name that is owned, and none else.
     ///

@@ -22,8 +22,8 @@ use crate::source::{Flags, Source};
 use content_tree::{Expected, NamedValue};
 
 impl<'de, 'n> Deserializer<'de, 'n> {
-    /// Whether the request that expects this takes what is read. It takes no memory. Structs,
-    /// variants and static texts aren't looked for: anything fits them.
+    /// Whether the request that expects this would accept what is read. It takes no memory.
+    /// Anything fits a struct, a variant or a static text.
     pub fn fits(&self, expected: &Expected) -> bool
         ensures { is_some (refusal_by expected.now (subject self.now)) ≡ not result }
     {

@@ -11,8 +11,8 @@ use crate::deserializer::Deserializer;
 use content_tree::{Enum, NamedValue, Number, Result, Value};
 use std::alloc::Global;
 
-/// What becomes a [`Deserializer`] of itself. Both flags are off, save that a deserializer stays
-/// as it is. As `serde::de::IntoDeserializer`.
+/// What can be made a [`Deserializer`] of itself. All flags are off, but a deserializer stays as it
+/// is. As `serde::de::IntoDeserializer`.
 pub trait IntoDeserializer<'de> {
     ghost use Rattle.std.specs.Prelude.{Bool};
 
@@ -22,7 +22,7 @@ pub trait IntoDeserializer<'de> {
     /// Whether memory is taken.
     ghost takes_memory: { Bool };
 
-    /// A deserializer of this. Where it takes memory that may fail: out of memory.
+    /// Makes a deserializer of this. Out of memory, where an allocation failed.
     fn into_deserializer(self, alloc: Global) -> Result<Deserializer<'de, 'static>>
         ensures value { IfOk result (λ d. subject d ≡ read self) }
         ensures succeeds { takes_memory ≡ false → IsOk result }

@@ -1,4 +1,21 @@
-//! Typed data out of a value: requests, accesses, and the types that can be read.
+//! Reads values as typed data. Use it through `serde_content` and its module `de`.
+//!
+//! ```rust
+//! let point: Point = Deserializer::new(value).deserialize(alloc)?;
+//! assert!(rt; point == Point { x: 1, y: 2 });
+//! ```
+//!
+//! | To | Use |
+//! |---|---|
+//! | read a type; the types that can be read | [`Deserializer`]; [`Deserialize`], `impls` |
+//! | ask for a number, a text, a struct and so on | `requests` |
+//! | go through parts | [`Seq`], [`Map`], [`EnumAccess`], [`VariantAccess`] |
+//! | read elements in order | [`next_part`], [`finish_parts`], [`end_parts`] |
+//! | read fields in order | [`next_field`] |
+//! | read fields by name | [`FieldsByName`], [`named_field`], [`field_or`], [`end_fields`] |
+//! | read enums with a tag field, or untagged | [`tag_field`], [`internal_tag`], [`attempt`] |
+//! | read a value in plain form | [`ValueVisitor`] |
+//! | prove something of these | [`laws`] |
 
 #![tactic(auto)]
 

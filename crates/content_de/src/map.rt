@@ -27,11 +27,11 @@ pub(crate) enum Entries<'de, 'n> {
     Fields(Fields<'de, 'n>),
 }
 
-/// The entries of a map, a struct or a variant that are left: each a key and a value. They are
-/// moved out one by one, each in constant time and without memory.
+/// Gives out the entries of a map, a struct or a variant, each a key and a value. They are moved
+/// out one by one, each in constant time and without memory.
 ///
-/// The key of a pair is the value that stands there. The key of a field is its name, which as a
-/// number is the field's place.
+/// The key of a pair is any value. The key of a field is its name, which as a number is the field's
+/// place.
 #[derive(Drop)]
 pub struct Map<'de, 'n> {
     pub(crate) entries: Entries<'de, 'n>,
@@ -84,8 +84,8 @@ impl<'de, 'n> Map<'de, 'n> {
         }
     }
 
-    /// The key of the next entry, or none at the end. The entry stays, with the unit as its key.
-    /// It takes no memory.
+    /// Gives the key of the next entry, or none at the end. The entry stays, with the unit as its
+    /// key. It takes no memory.
     pub fn next_key_deserializer(&mut self, _alloc: Global) -> Result<Option<Deserializer<'de, 'n>>>
         ensures value { MatchResult result
             (λ key. option_map subject key ≡ first_key (map_view self.old)) (λ e. ⊥) }
@@ -191,8 +191,8 @@ impl<'de, 'n> Map<'de, 'n> {
         Some((key, Deserializer::inside(value, self.flags)))
     }
 
-    /// The value of the next entry, which is taken away whether or not its key was read. It takes
-    /// no memory.
+    /// Gives the value of the next entry, which is taken away whether or not its key was read. It
+    /// takes no memory.
     ///
     /// # Errors
     ///
@@ -207,8 +207,8 @@ impl<'de, 'n> Map<'de, 'n> {
         }
     }
 
-    /// The key and the value of the next entry, which is taken away, or none at the end. It takes
-    /// no memory.
+    /// Gives the key and the value of the next entry, which is taken away, or none at the end. It
+    /// takes no memory.
     pub fn next_entry_deserializers(
         &mut self,
         _alloc: Global,

@@ -1,4 +1,4 @@
-//! What a type reads by name: each field wherever it stands, and what is left over.
+//! Fields read by name, in any order, and the end of fields.
 
 ghost use Rattle.std.specs.Prelude.{◌≡◌, ◌≢◌, Some, None, ⊤, map};
 ghost use Rattle.content_tree.specs.Errors.Cause.{out_of_memory};
@@ -17,8 +17,8 @@ use crate::other_fields::duplicate_field;
 use content_tree::{CowStr, Error, ErrorKind, Result};
 use std::alloc::Global;
 
-/// The field of this name, wherever it stands, for a type of a caller's own. The entry is taken
-/// away also where its reading is refused.
+/// Reads the field of this name, wherever it is, for a type of your own. The entry is taken away
+/// also where its reading is refused.
 ///
 /// # Errors
 ///
@@ -41,7 +41,7 @@ pub fn named_field<'de, 'n: 'de, T: Deserialize<'de>>(
     }
 }
 
-/// The same, or this value where there is no field of that name.
+/// Reads the field of this name, or gives this value where there is none.
 ///
 /// # Errors
 ///
@@ -64,7 +64,7 @@ pub fn field_or<'de, 'n: 'de, T: Deserialize<'de>>(
     }
 }
 
-/// The text of the field of this name, for an enum of a caller's own that it tags. It takes no
+/// Reads the text of the field of this name, for an enum of your own that it tags. It takes no
 /// memory.
 ///
 /// # Errors
@@ -105,8 +105,8 @@ pub fn internal_tag<'de, 'n: 'de>(
     tag
 }
 
-/// The end of fields that are taken by name, for a type of a caller's own that skips others: no
-/// entry that is left may have a name of `known` again.
+/// Ends the reading of fields by name, for a type of your own that ignores others: no entry that is
+/// left may have a name of `known` again.
 ///
 /// # Errors
 ///
@@ -137,8 +137,8 @@ fn skip_left(alloc: Global, from: FieldsByName<'_, '_>, known: &[&str]) -> Resul
     Ok(())
 }
 
-/// The end of fields that are taken by name, for a type of a caller's own that has no others: no
-/// entry may be left.
+/// Ends the reading of fields by name, for a type of your own that refuses others: no entry may be
+/// left.
 ///
 /// # Errors
 ///

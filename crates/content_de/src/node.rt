@@ -1,4 +1,4 @@
-//! What any source is.
+//! What `deserialize_any` finds.
 
 use crate::deserializer::Deserializer;
 use crate::enum_access::EnumAccess;
@@ -6,8 +6,8 @@ use crate::map::Map;
 use crate::seq::Seq;
 use content_tree::{CowBytes, CowStr, Number};
 
-/// What a source is, whatever is expected: a datum, or what stands inside, under the flags of the
-/// source. (`serde-content` calls one method of a visitor for each.)
+/// What [`deserialize_any`](Deserializer::deserialize_any) finds: a datum, or its parts under the
+/// same flags. (`serde-content` calls one method of a visitor for each.)
 #[derive(Drop)]
 pub enum Node<'de, 'n> {
     /// The unit, or a unit struct.
@@ -18,9 +18,9 @@ pub enum Node<'de, 'n> {
     Number(Number),
     /// A character.
     Char(char),
-    /// A text, in its case.
+    /// A text, borrowed or owned as it was.
     Str(CowStr<'de>),
-    /// Bytes, in their case.
+    /// Bytes, borrowed or owned as they were.
     Bytes(CowBytes<'de>),
     /// An absent optional value.
     NoneNode,

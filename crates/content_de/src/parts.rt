@@ -19,8 +19,8 @@ use crate::seq::Seq;
 use content_tree::{CowStr, Error, ErrorKind, Result};
 use std::alloc::Global;
 
-/// The next part of a tuple of `expected` parts, of which `found` are read, for a type of a
-/// caller's own. The item is taken away also where its reading is refused.
+/// Reads the next part of a tuple of `expected` parts, of which `found` are read, for a type of
+/// your own. The item is taken away also where its reading is refused.
 ///
 /// # Errors
 ///
@@ -44,7 +44,7 @@ pub fn next_part<'de, 'n: 'de, T: Deserialize<'de>>(
     }
 }
 
-/// Both parts of a tuple of two, and its [end](finish_parts), for a type of a caller's own.
+/// Reads both parts of a tuple of two, and its [end](finish_parts), for a type of your own.
 ///
 /// # Errors
 ///
@@ -65,9 +65,9 @@ pub fn two_parts<'de, 'n: 'de, A: Deserialize<'de>, B: Deserialize<'de>>(
     Ok((first, second))
 }
 
-/// The end of a tuple of `expected` parts, for a type of a caller's own, as Serde's derives have it:
-/// an item that is left over is refused in a [buffer](crate::Deserializer::buffered), and else stays
-/// unread.
+/// Ends the reading of a tuple of `expected` parts, for a type of your own, as Serde's derives do:
+/// an item that is left over is refused in a [buffer](crate::Deserializer::buffered), and else
+/// stays unread.
 ///
 /// # Errors
 ///
@@ -82,8 +82,8 @@ pub fn finish_parts<'de, 'n>(alloc: Global, from: Seq<'de, 'n>, expected: usize)
     Ok(())
 }
 
-/// The end of a tuple of `expected` parts, for a type of a caller's own that takes no other length:
-/// an item that is left over is refused.
+/// Ends the reading of a tuple of `expected` parts, for a type of your own that takes no other
+/// length: an item that is left over is refused.
 ///
 /// # Errors
 ///
@@ -98,7 +98,7 @@ pub fn end_parts<'de, 'n>(alloc: Global, mut from: Seq<'de, 'n>, expected: usize
     }
 }
 
-/// The next field, which must have this name, for a type of a caller's own. The name is compared
+/// Reads the next field, which must have this name, for a type of your own. The name is compared
 /// once the value is read; the entry is taken away also where it is refused. The name takes no
 /// memory.
 ///

@@ -25,8 +25,8 @@ use std::result::Result as StdResult;
 
 /// The plain form of what is there: a tuple is a sequence, a struct is what it holds, with its
 /// fields as a map, and a variant is the text of its name, or a map of one entry from that text to
-/// what it holds. Every text is owned: an owned one is moved, and a borrowed one copied. It is
-/// refused for memory alone.
+/// what it holds. Every text is owned: an owned one is moved, and a borrowed one copied. It fails
+/// only when memory runs out.
 impl<'de> Deserialize<'de> for Value<'static> {
     ghost refusal = { λ s. None };
 
@@ -41,13 +41,13 @@ impl<'de> Deserialize<'de> for Value<'static> {
     }
 }
 
-/// Reads plain values, as the type [`Value`] does, but lends what it can: where what is read is
-/// itself a text or bytes, these keep their case, and so does the name of an identifier.
+/// Reads plain values, as the type [`Value`] does, but without a copy where it can: what is itself
+/// a text or bytes, or the name of an identifier, stays borrowed or owned as it was.
 pub struct ValueVisitor;
 
 impl ValueVisitor {
-    /// The plain form of what is there. A text, bytes and the name of an identifier keep their
-    /// case, and take no memory; every text inside something is owned.
+    /// Reads the plain form of what is there. A text, bytes and the name of an identifier stay
+    /// borrowed or owned as they were, and take no memory; every text inside something is owned.
     ///
     /// # Errors
     ///

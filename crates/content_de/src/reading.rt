@@ -1,4 +1,4 @@
-//! Typed data out of what stands inside.
+//! Typed data out of values and their parts.
 
 ghost use Rattle.std.specs.Prelude.{◌≡◌};
 ghost use Rattle.content_de.specs.Sources.Deserializer.{subject};
@@ -20,7 +20,7 @@ use content_tree::Result;
 use std::alloc::Global;
 
 impl<'de, 'n> Deserializer<'de, 'n> {
-    /// A value of this type.
+    /// Reads a value of this type.
     ///
     /// # Errors
     ///
@@ -35,7 +35,7 @@ impl<'de, 'n> Deserializer<'de, 'n> {
 }
 
 impl<'de, 'n> Seq<'de, 'n> {
-    /// A value of this type out of the next item, or none at the end. The item is taken away also
+    /// Reads the next item as this type, or answers none at the end. The item is taken away also
     /// where its reading is refused.
     ///
     /// # Errors
@@ -55,7 +55,7 @@ impl<'de, 'n> Seq<'de, 'n> {
 }
 
 impl<'de, 'n> Map<'de, 'n> {
-    /// A value of this type out of the key of the next entry, or none at the end. The entry stays,
+    /// Reads the key of the next entry as this type, or answers none at the end. The entry stays,
     /// with the unit as its key, also where the reading is refused.
     ///
     /// # Errors
@@ -73,7 +73,7 @@ impl<'de, 'n> Map<'de, 'n> {
         }
     }
 
-    /// A value of this type out of the value of the next entry, which is taken away also where the
+    /// Reads the value of the next entry as this type. The entry is taken away also where the
     /// reading is refused, and whether or not its key was read.
     ///
     /// # Errors
@@ -90,7 +90,7 @@ impl<'de, 'n> Map<'de, 'n> {
         V::deserialize(alloc, value)
     }
 
-    /// Values of these types out of the key and then the value of the next entry, or none at the
+    /// Reads the key and then the value of the next entry as these types, or answers none at the
     /// end. The entry is taken away also where the reading is refused; where that of the key is,
     /// the value isn't read.
     ///
@@ -117,7 +117,7 @@ impl<'de, 'n> Map<'de, 'n> {
 }
 
 impl<'de, 'n> EnumAccess<'de, 'n> {
-    /// A value of this type out of the tag, and what the variant holds.
+    /// Reads the tag as this type, and gives what the variant holds.
     ///
     /// # Errors
     ///
@@ -136,8 +136,7 @@ impl<'de, 'n> EnumAccess<'de, 'n> {
 }
 
 impl<'de, 'n> VariantAccess<'de, 'n> {
-    /// A value of this type out of the one value of a newtype variant, or of whatever a map's
-    /// entry holds.
+    /// Reads the one value of a newtype variant, or whatever a map's entry holds, as this type.
     ///
     /// # Errors
     ///

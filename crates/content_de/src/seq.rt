@@ -11,8 +11,8 @@ use crate::source::Flags;
 use content_tree::NamedValue;
 use std::collections::VecDeque;
 
-/// The items of a sequence, a tuple or a tuple struct that are left. They are moved out one by
-/// one, each in constant time and without memory.
+/// Gives out the items of a sequence, a tuple or a tuple struct, one by one, each in constant time
+/// and without memory.
 #[derive(Drop)]
 pub struct Seq<'de, 'n> {
     items: VecDeque<NamedValue<'de, 'n>>,
@@ -45,8 +45,8 @@ impl<'de, 'n> Seq<'de, 'n> {
         Some(self.items.len())
     }
 
-    /// The next item, to be read under the flags of the sequence, or none at the end. It takes no
-    /// memory.
+    /// Gives the next item, to be read under the flags of the sequence, or none at the end. It
+    /// takes no memory.
     pub fn next_deserializer(&mut self) -> Option<Deserializer<'de, 'n>>
         ensures value { option_map subject result ≡ first_item (seq_view self.old) }
         ensures rest { seq_view self.new ≡ after_item (seq_view self.old) }

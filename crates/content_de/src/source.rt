@@ -30,7 +30,7 @@ pub(crate) enum Source<'de, 'n> {
 /// The flags.
 #[derive(Clone, Copy, Debug, PartialEq, Eq, PartialOrd, Ord)]
 pub(crate) struct Flags {
-    /// What is read was written for people.
+    /// What is read is human readable.
     pub(crate) human_readable: bool,
     /// Numbers are coerced.
     pub(crate) coerces: bool,

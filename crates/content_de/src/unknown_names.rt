@@ -9,7 +9,7 @@ ghost use Rattle.content_de.specs.Reads.Own.{unknown_variant};
 use content_tree::{Error, ErrorKind};
 use std::alloc::{AllocError, Global};
 
-/// The error of a tag that is the name of no variant, for an enum of a caller's own that has these:
+/// Makes the error of a tag that is the name of no variant, for an enum of your own that has these:
 /// ``unknown variant `NAME`, expected one of `A`, `B`, `C` ``; or out of memory.
 #[cold]
 #[inline(never)]
@@ -40,7 +40,7 @@ pub(crate) fn unknown_text(
     Ok(text)
 }
 
-/// How a list of so many names begins, or that there are none.
+/// How a list of this many names begins, or that there are none.
 fn opening(none: &'static str, count: usize) -> &'static str
     ensures { result.now ≡ opening none.now count }
 {
@@ -53,7 +53,7 @@ fn opening(none: &'static str, count: usize) -> &'static str
     }
 }
 
-/// What stands between so many names.
+/// What comes between two of this many names.
 fn separator(count: usize) -> &'static str
     ensures { result.now ≡ separator count }
 {

@@ -26,7 +26,7 @@ use crate::source::Flags;
 use content_tree::{DataType, Error, Expected, Found, NamedEnum, NamedValue, Result};
 use std::alloc::Global;
 
-/// What stands behind a tag.
+/// What comes after a tag.
 #[derive(Drop)]
 pub(crate) enum Held<'de, 'n> {
     /// A variant itself.
@@ -37,7 +37,8 @@ pub(crate) enum Held<'de, 'n> {
     Value(NamedValue<'de, 'n>),
 }
 
-/// What a variant of an enum holds. Where that fits what is asked for, no call takes memory.
+/// Gives out what a variant of an enum holds. Where that fits what is asked for, no call takes
+/// memory.
 #[derive(Drop)]
 pub struct VariantAccess<'de, 'n> {
     requested: Requested<'n>,
@@ -50,7 +51,7 @@ pub struct VariantAccess<'de, 'n> {
 /// `Unexpected`, with what the variant holds (the unit, where the tag was a text) and with the
 /// sort of variant that was expected; out of memory in its place.
 impl<'de, 'n> VariantAccess<'de, 'n> {
-    /// What stands behind a tag.
+    /// What comes after a tag.
     pub(crate) fn new(
         requested: Requested<'n>,
         held: Held<'de, 'n>,
@@ -69,7 +70,7 @@ impl<'de, 'n> VariantAccess<'de, 'n> {
         }
     }
 
-    /// No data: that of a unit variant, or of a tag that is a text.
+    /// Reads no data: that of a unit variant, or of a tag that is a text.
     pub fn unit_variant(self, alloc: Global) -> Result<()>
         ensures { Answers (λ u. u) (unit_variant_of (variant_view self.entry)) result }
     {
@@ -79,7 +80,7 @@ impl<'de, 'n> VariantAccess<'de, 'n> {
         Err(self.refuse(alloc, DataType::Unit))
     }
 
-    /// The one value of a newtype variant, or whatever a map's entry holds.
+    /// Gives the one value of a newtype variant, or whatever a map's entry holds.
     pub fn newtype_deserializer(self, alloc: Global) -> Result<Deserializer<'de, 'n>>
         ensures { Answers subject (newtype_variant_of (variant_view self.entry)) result }
     {
@@ -97,7 +98,7 @@ impl<'de, 'n> VariantAccess<'de, 'n> {
         }
     }
 
-    /// The items of a tuple variant, or of a sequence that a map's entry holds. How many were
+    /// Gives the items of a tuple variant, or of a sequence that a map's entry holds. How many were
     /// expected isn't compared.
     pub fn tuple_variant(self, alloc: Global, _len: usize) -> Result<Seq<'de, 'n>>
         ensures { Answers seq_view (tuple_variant_of (variant_view self.entry)) result }
@@ -116,8 +117,8 @@ impl<'de, 'n> VariantAccess<'de, 'n> {
         }
     }
 
-    /// The entries of an object-like variant, or of a map that a map's entry holds. Which fields
-    /// were expected isn't compared.
+    /// Gives the entries of an object-like variant, or of a map that a map's entry holds. Which
+    /// fields were expected isn't compared.
     pub fn struct_variant(self, alloc: Global, _fields: &[&str]) -> Result<Map<'de, 'n>>
         ensures { Answers map_view (struct_variant_of (variant_view self.entry)) result }
     {

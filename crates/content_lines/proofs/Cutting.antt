@@ -30,7 +30,7 @@ ends_none b h = grind (arith, h)
 not_foreign : (b : ℕ) → is_foreign b ≡ false → is_printable b ≡ true
 not_foreign b h = grind (arith, h)
 
--- a line feed that no foreign byte stands before is the first
+-- a line feed with no foreign byte before it is the first
 feed_first : (text : List ℕ) (k : ℕ) → position is_foreign text ≡ Some k → is_line_feed (get_or text k 0) ≡ true → position_or_len is_line_feed text ≡ k
 feed_first text k h e =
     let f = position-Some is_foreign text k 0 h in
@@ -44,7 +44,7 @@ cut_at text k h feed =
     subst (λ i. lines_of text ≡ take i text ∷ lines_of (drop (i + 1) text)) e (slice_split_first is_line_feed text 0 (omega (arith, e, f.0)))
     ∙ ap (λ t. take k text ∷ lines_of t) (sym (take_rest text (k + 1)))
 
--- what stands before the first foreign byte is printable
+-- what comes before the first foreign byte is printable
 pub printable_before : (text : List ℕ) (k : ℕ) → position is_foreign text ≡ Some k → list_all is_printable (take k text) ≡ true
 printable_before text k h = list_all-from_AllPass is_printable (take k text) (λ j d less.
     let f = position-Some is_foreign text k d h in
@@ -64,7 +64,7 @@ uncut text h =
     let e = none_found is_foreign text h in
     slice_split_none is_line_feed text (λ k d less. ends_none _ (fails_before_first is_foreign text k d (omega (arith, e, less))))
 
--- the lines begin with what stands before the first line feed
+-- the lines begin with what comes before the first line feed
 first_line : (text : List ℕ) (t : Bool) → nat_lt (position_or_len is_line_feed text) (length text) ≡ t → (rest : List (List ℕ)) × (lines_of text ≡ before_first is_line_feed text ∷ rest)
 first_line text true e = (_, slice_split_first is_line_feed text 0 (ltb-true _ _ e))
 first_line text false e =

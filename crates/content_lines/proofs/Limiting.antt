@@ -40,10 +40,10 @@ none_cases : (n size : ℕ) (b : Bool) → nat_lt n size ≡ b → n ≤ size �
 none_cases n size true e l h = absurd (cc)
 none_cases n size false e l h = let m = ltb-false n size e in omega arith
 
--- where the first line feed stands
+-- where the first line feed is
 pub feed_at : (input : List ℕ) (k : ℕ) → position is_line_feed input ≡ Some k → position_or_len is_line_feed input ≡ k
 feed_at input k h = first_cases (position_or_len is_line_feed input) (length input) _ refl (prefix_len-le-length (λ b. not (is_line_feed b)) input) k h
 
--- where nothing is found, all stands before it
+-- where nothing is found, all comes before it
 pub none_found : (p : ℕ → Bool) (xs : List ℕ) → position p xs ≡ None → position_or_len p xs ≡ length xs
 none_found p xs h = none_cases (position_or_len p xs) (length xs) _ refl (prefix_len-le-length (λ b. not (p b)) xs) h

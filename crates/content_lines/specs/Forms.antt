@@ -1,4 +1,4 @@
--- What stands after the word of a line.
+-- The arguments after the word of a line.
 use Rattle.std.specs.Prelude.{ℕ, ◌==◌, Bool, true, false, cond, ◌&&◌, ◌||◌, nat_le, nat_lt, List}
 use Rattle.std.specs.Prelude.{[], ◌∷◌, length, codes, Option, None, Some}
 use Rattle.std.specs.Str.{bytes_eq}
@@ -39,7 +39,7 @@ is_name t =
 abbrev pub name_of : List ℕ → Option (List ℕ)
 name_of t = cond (is_name t) (Some t) None
 
--- what stands before and after the first space
+-- what comes before and after the first space
 abbrev pub pair_of : List ℕ → Option (List ℕ × List ℕ)
 pair_of t = cond (nat_lt (position_or_len is_space t) (length t)) (Some (before_first is_space t, after_first is_space t)) None
 
@@ -51,7 +51,7 @@ both a b = option_and_then (λ x. option_map (λ y. (x, y)) b) a
 abbrev pub named_length_of : List ℕ → Option (List ℕ × ℕ)
 named_length_of t = option_and_then (λ p. both (name_of p.0) (natural_of 64 p.1)) (pair_of t)
 
--- a name and an index, with what stands after them
+-- a name and an index, with what comes after them
 pub record VariantStart : Type 0 where
   pub name : List ℕ
   pub index : ℕ

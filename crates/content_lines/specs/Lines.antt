@@ -34,7 +34,7 @@ is_blank line = length line == 0
 abbrev pub is_bad : List ℕ → Bool
 is_bad line = not (is_blank line) && is_none (event_in line)
 
--- where the first bad line stands, counted from 0
+-- where the first bad line is, counted from 0
 abbrev pub first_bad : List ℕ → Option ℕ
 first_bad body = position is_bad (lines_of body)
 

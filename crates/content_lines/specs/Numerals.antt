@@ -11,7 +11,7 @@ use Rattle.std.specs.List.{list_all}
 abbrev pub is_numeral : List ℕ → Bool
 is_numeral ds = all_ascii_digits ds && (nat_lt 0 (length ds) && (not (slice_index ds 0 == 48) || (length ds == 1)))
 
--- the number of a numeral, where it has so many bits
+-- the number of a numeral, where it has this many bits
 abbrev pub natural_of : ℕ → List ℕ → Option ℕ
 natural_of bits ds = cond (is_numeral ds && nat_lt (digits_value 10 ds) (2 ^ bits)) (Some (digits_value 10 ds)) None
 

@@ -14,7 +14,7 @@ use Rattle.content_lines.specs.Forms.{name_of, named_length_of, variant_of, vari
 abbrev pub word_of : List ℕ → List ℕ
 word_of line = before_first is_space line
 
--- what stands after the first space, if there is one
+-- what comes after the first space, if there is one
 abbrev pub rest_of : List ℕ → Option (List ℕ)
 rest_of line = cond (nat_lt (position_or_len is_space line) (length line)) (Some (after_first is_space line)) None
 
@@ -34,7 +34,7 @@ of_word w =
     (cond (bytes_eq w (codes "end")) (Some event.end)
     None))))))))))
 
--- the call of a word that opens, names or announces, a space and what stands after it
+-- the call of a word that opens, names or announces, a space and its arguments
 abbrev pub of_named : List ℕ → List ℕ → Option Event
 of_named w t =
     cond (bytes_eq w (codes "unit_struct")) (option_map event.unit_struct (name_of t))
@@ -66,7 +66,7 @@ of_number w t =
     (cond (bytes_eq w (codes "u128")) (option_map (λ n. event.number (num.U128 n)) (natural_of 128 t))
     (of_named w t))))))))))
 
--- the call of a word, a space and what stands after it
+-- the call of a word, a space and its arguments
 abbrev pub of_phrase : List ℕ → List ℕ → Option Event
 of_phrase w t =
     cond (bytes_eq w (codes "bool")) (boolean_of t)
@@ -75,7 +75,7 @@ of_phrase w t =
     (cond (bytes_eq w (codes "bytes")) (octets_of t)
     (of_number w t))))
 
--- the call of a word and of what stands after it, if anything does
+-- the call of a word and of its arguments, if it has any
 abbrev pub of_parts : List ℕ → Option (List ℕ) → Option Event
 of_parts w None = of_word w
 of_parts w (Some t) = of_phrase w t
@@ -88,7 +88,7 @@ event_in line = cond (list_all is_printable line) (of_parts (word_of line) (rest
 abbrev pub positive_of : List ℕ → Option ℕ
 positive_of t = option_and_then (λ n. cond (nat_lt 0 n) (Some n) None) (natural_of 64 t)
 
--- the limit of a word and of what stands after it, if anything does: `limit N`
+-- the limit of a word and of its argument, if it has one: `limit N`
 abbrev pub limit_of_parts : List ℕ → Option (List ℕ) → Option ℕ
 limit_of_parts w None = None
 limit_of_parts w (Some t) = cond (bytes_eq w (codes "limit")) (positive_of t) None

@@ -1,4 +1,4 @@
-//! What stands after the word of a line.
+//! The arguments after the word of a line.
 
 ghost use Rattle.std.specs.Prelude.{◌≡◌, MatchOption, None, Some, true, false};
 ghost use Rattle.content_lines.specs.Forms.{boolean_of, character_of, octets_of, is_name, pair_of};
@@ -64,7 +64,7 @@ pub fn read_name(text: &str) -> Option<&'static str>
     }
 }
 
-/// What stands before and after the first space.
+/// What comes before and after the first space.
 fn split_pair(text: &str) -> Option<(&str, &str)>
     ensures { MatchOption result (pair_of text.now ≡ None)
         (λ p. pair_of text.now ≡ Some (p.0.now, p.1.now)) }
@@ -81,7 +81,7 @@ pub fn read_named_length(text: &str) -> Option<(&'static str, usize)>
     Some((read_name(name)?, numbers::read_usize(len)?))
 }
 
-/// A name and an index, with what stands after them: `N i ..`.
+/// A name and an index, with what comes after them: `N i ..`.
 fn read_head(text: &str) -> Option<(&'static str, u32, &str)>
     ensures { MatchOption result (variant_start_of text.now ≡ None)
         (λ h. variant_start_of text.now ≡ Some

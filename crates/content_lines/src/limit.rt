@@ -39,7 +39,7 @@ fn read_limit(line: &[u8]) -> Option<usize>
     read_limit_text(text_of(line)?)
 }
 
-/// The first line, without its line feed, and what stands from there on.
+/// The first line, without its line feed, and the rest from there on.
 fn split_first_line(input: &[u8]) -> (&[u8], &[u8])
     ensures line { result.0.now ≡ before_first is_line_feed input.now }
     ensures rest { result.1.now ≡ drop (position_or_len is_line_feed input.now) input.now }
@@ -50,8 +50,8 @@ fn split_first_line(input: &[u8]) -> (&[u8], &[u8])
     }
 }
 
-/// The limit that the first line sets, if it sets one, and the lines of calls: a first line that
-/// sets a limit is emptied. It takes no memory.
+/// Splits an input into the limit that its first line sets, if it sets one, and the lines of calls:
+/// a first line that sets a limit is emptied. It takes no memory.
 pub fn split_limit(input: &[u8]) -> (Option<usize>, &[u8])
     ensures limit { result.0 ≡ limit_of input.now }
     ensures body { result.1.now ≡ body_of input.now }

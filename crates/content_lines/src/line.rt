@@ -37,7 +37,7 @@ pub enum Line<'a> {
 }
 
 impl<'a> Line<'a> {
-    /// The call that the line says. Its text is borrowed from the line; bytes take memory.
+    /// Makes the call that the line says. Its text is borrowed from the line; bytes take memory.
     ///
     /// # Errors
     ///
@@ -93,15 +93,15 @@ fn read_text(text: &str) -> Option<Line<'_>>
     }
 }
 
-/// What a line of bytes from 32 to 126 says, if it spells a call, as [`read_line`] with one walk
-/// less. It takes no memory.
+/// Reads a line of bytes from 32 to 126, as [`read_line`] does, with one walk less. It takes no
+/// memory.
 pub fn read_printable(line: &[u8]) -> Option<Line<'_>>
     ensures { list_all is_printable line.now ≡ true → Reads result (event_in line.now) }
 {
     read_text(as_text(line)?)
 }
 
-/// What the line says, if it spells a call. It takes no memory.
+/// Reads a line: what it says, if it spells a call. It takes no memory.
 ///
 /// ```rust
 /// match read_line(b"u8 7") {
@@ -122,22 +122,23 @@ fn is_bad_line(line: &[u8]) -> bool
     !line.is_empty() && read_line(line).is_none()
 }
 
-/// Where the first line feed stands.
+/// Where the first line feed is.
 pub fn first_line_feed(text: &[u8]) -> Option<usize>
     ensures { result ≡ position is_line_feed text.now }
 {
     text.iter().position(|b| *b == b'\n')
 }
 
-/// Where the first byte stands that no line may hold.
+/// Where the first byte is that no line may hold.
 fn first_foreign(text: &[u8]) -> Option<usize>
     ensures { result ≡ position is_foreign text.now }
 {
     text.iter().position(|b| !(32..127).contains(b))
 }
 
-/// The first line, without its line feed, and what stands after that, where there is one; or none
-/// where the line has a byte that no line may hold. One walk looks for both. It takes no memory.
+/// Splits off the first line, without its line feed: the line, and what comes after it if there is
+/// one; or none where the line has a byte that no line may hold. One walk looks for both. It takes
+/// no memory.
 pub fn split_line(text: &[u8]) -> Option<(&[u8], Option<&[u8]>)>
     ensures bad { result ≡ None → first_bad text.now ≡ Some 0 }
     ensures printable { IfSome result (λ both. list_all is_printable both.0.now ≡ true) }
@@ -158,8 +159,8 @@ pub fn split_line(text: &[u8]) -> Option<(&[u8], Option<&[u8]>)>
     }
 }
 
-/// Where the first bad line of these lines of calls stands, counted from 0 with the empty lines. It
-/// takes no memory.
+/// Finds the first bad line of these lines of calls, counted from 0 with the empty lines. It takes
+/// no memory.
 pub fn first_bad_line(input: &[u8]) -> Option<usize>
     ensures place { result ≡ first_bad input.now }
     ensures within { IfSome result (λ place. place ≤ length input.now) }

@@ -35,7 +35,7 @@ pub fn read_word<'a>(word: &str) -> Option<Call<'a>>
     }
 }
 
-/// A line of a word, a space and what stands after it.
+/// A line of a word, a space and its arguments.
 pub fn read_phrase<'a>(word: &str, rest: &'a str) -> Option<Line<'a>>
     ensures { Reads result (of_phrase word.now rest.now) }
 {
@@ -67,7 +67,7 @@ fn read_number<'a>(word: &str, rest: &str) -> Option<Call<'a>>
     }
 }
 
-/// The call of a line of a word that opens, names or announces, a space and what stands after it.
+/// The call of a line of a word that opens, names or announces, a space and its arguments.
 fn read_named<'a>(word: &str, rest: &str) -> Option<Call<'a>>
     ensures { Spells result (of_named word.now rest.now) }
 {

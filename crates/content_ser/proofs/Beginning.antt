@@ -16,7 +16,7 @@ pub begun_call : {S : Type 0} {step : Step S} {refuses : RefusalRule S} {old new
 begun_call {S} {step} {refuses} {old} {new} (Ok u) same t = λ rest r last s. takes_then (subst (λ e. Takes step refuses old e (Ok u) new) same t) s
 begun_call {S} {step} {refuses} {old} {new} (Err x) same t = λ rest. takes_err (subst (λ e. Takes step refuses old e (Err x) new) same t)
 
--- the exit of a `?` whose error stands aside
+-- the exit of a `?` whose error is put aside
 pub begun_exit_aside : {S : Type 0} {X : Type 0} {step : Step S} {refuses : RefusalRule S} {old new : Seen S} {start : Start} {error : Error} (r : Result (Unit {0}) X) (x : X)
     → IsErrAnd r (λ y. y ≡ x) → Begins step refuses old start (Err error) new → Begins step refuses old start (answer_of r error) new
 begun_exit_aside r x is s =

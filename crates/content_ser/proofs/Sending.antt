@@ -169,7 +169,7 @@ at_exit {step} {refuses} {old} {new} {sc} r x is s =
     let p = err_from_is_err_and r is in
     rw (p.1, p.2) s
 
--- the exit of a `?` whose error stands aside
+-- the exit of a `?` whose error is put aside
 pub at_exit_aside : {S : Type 0} {X : Type 0} {step : Step S} {refuses : RefusalRule S} {old new : Seen S} {sc : Bool → Script} {error : Error} (r : Result (Unit {0}) X) (x : X)
     → IsErrAnd r (λ y. y ≡ x) → Sends step refuses old sc (Err error) new → Sends step refuses old sc (answer_of r error) new
 at_exit_aside {S} {X} {step} {refuses} {old} {new} {sc} {error} r x is s =

@@ -5,7 +5,7 @@ use Rattle.std.specs.Cmp.Lexicographic.{slice_cmp}
 use Rattle.content_tree.specs.Values.Tree.{Tree}
 use Rattle.content_ser.specs.Sending.Loose.{KeyedTree, put, put_each, sorted}
 
--- what stands at each key is such
+-- what is at each key is such
 abbrev pub EachHeld : (Tree → Type 0) → List KeyedTree → Type 0
 EachHeld Held [] = Unit {0}
 EachHeld Held (e ∷ es) = Held e.1 × EachHeld Held es

@@ -41,7 +41,7 @@ pub keyed_each : (fs : List (CowStr × NamedValue)) → map keyed_tree_of fs ≡
 keyed_each [] = refl
 keyed_each (f ∷ fs) = ap (λ es. keyed_tree_of f ∷ es) (keyed_each fs)
 
--- the entry of the first place, and what the others stand for
+-- the entry of the first place, and what the others mean
 pub stands_first : (fs : List (CowStr × NamedValue)) (all : List (Bor (List ℕ) × ℕ)) (p : Bor (List ℕ) × ℕ) (ps : List (Bor (List ℕ) × ℕ)) (es : List KeyedTree)
     → all ≡ p ∷ ps → StandsFor fs all es
     → (e : KeyedTree) × (rest : List KeyedTree) × (es ≡ e ∷ rest) × (slice_get (map keyed_tree_of fs) p.1 ≡ Some e) × (p.0.now ≡ e.0) × StandsFor fs ps rest
@@ -52,7 +52,7 @@ stands_first fs all p ps es is h = split es (subst (λ ys. StandsFor fs ys es) i
     split [] h = absurd h
     split (e ∷ rest) h = (e, rest, refl, h.0, h.1, h.2)
 
--- no places stand for no entries
+-- no places mean no entries
 pub stands_none : (fs : List (CowStr × NamedValue)) (ps : List (Bor (List ℕ) × ℕ)) (es : List KeyedTree) → ps ≡ [] → StandsFor fs ps es → es ≡ []
 stands_none fs [] [] is h = refl
 stands_none fs [] (e ∷ es) is h = absurd h

@@ -1,4 +1,4 @@
-//! Answers whose error stands aside, so that a level of a deep value takes little stack.
+//! Answers whose error is put aside, so that a level of a deep value takes little stack.
 
 #![tactic(auto)]
 
@@ -7,14 +7,14 @@ ghost use Rattle.content_ser.specs.Sending.Aside.{answer_of};
 
 use content_tree::{Error, ErrorKind, Result};
 
-/// There was an error; it stands aside, in the place that was given for it.
+/// There was an error; it is in the place that was given for it.
 #[derive(Drop)]
 pub struct Aside;
 
 /// What sending a part answers: one byte, where a `Result<()>` has 144.
 pub type Sent = std::result::Result<(), Aside>;
 
-/// What stands in the place of an error before there is one; no answer shows it.
+/// Fills the place of an error before there is one; no answer shows it.
 pub fn no_error() -> Error {
     Error::from(ErrorKind::OutOfMemory)
 }
@@ -41,7 +41,7 @@ pub fn put_aside(answer: Result<()>, error: &mut Error) -> Sent
     }
 }
 
-/// Puts an error aside. It is seldom done, and so stands outside the calls.
+/// Puts an error aside. It is seldom done, and so isn't inlined.
 #[inline(never)]
 fn stand_aside(refusal: Error, error: &mut Error) -> Sent
     ensures { answer_of result error.new ≡ Err refusal }
@@ -50,7 +50,7 @@ fn stand_aside(refusal: Error, error: &mut Error) -> Sent
     Err(Aside)
 }
 
-/// The answer, with the error that stands aside.
+/// The answer, with the error that was put aside.
 pub fn answer(sent: Sent, error: Error) -> Result<()>
     ensures { result ≡ answer_of sent error }
 {

@@ -7,10 +7,10 @@ ghost use Rattle.content_ser.specs.Calls.Call.{event_of, text_part, IsOwned};
 use content_tree::{CowBytes, CowStr, Number, Result};
 use std::alloc::Global;
 
-/// One call on a serialiser, of 26 kinds: those of Serde's data model without floats, its ten whole
-/// numbers as one, and seven that are ours, which announce an item or close what was opened.
+/// One call on a serialiser, as data, of 26 kinds: 19 of Serde's data model without floats, its ten
+/// whole numbers as one, and seven more, which announce an item or close what was opened.
 ///
-/// Hints and lengths are what the caller says: no tree rests on them. Two calls are equal where
+/// Hints and lengths are what the caller says: no tree depends on them. Two calls are equal where
 /// they are of one kind and hold the same contents, hints and lengths: whether a text or bytes are
 /// borrowed does not count.
 ///
@@ -76,7 +76,7 @@ pub enum Call<'a> {
 }
 
 impl<'a> Call<'a> {
-    /// The same call, its text or bytes borrowed or owned as here.
+    /// Copies the call, its text or bytes borrowed or owned as here.
     ///
     /// Memory is taken where it holds an owned text or owned bytes, and nowhere else; where that
     /// fails: an error of kind `OutOfMemory`.
@@ -131,7 +131,7 @@ impl<'a> Call<'a> {
         Ok(copy)
     }
 
-    /// The same call with its text or bytes lent. It takes no memory.
+    /// The same call with its text or bytes borrowed from this one. It takes no memory.
     #[inline(always)]
     pub fn lend(&self) -> Call<'_>
         ensures { event_of result ≡ event_of self.now }
@@ -172,8 +172,8 @@ impl<'a> Call<'a> {
         }
     }
 
-    /// The same call with its text or bytes owned. Owned ones are moved, without memory, and
-    /// borrowed ones copied; where that allocation fails: an error of kind `OutOfMemory`.
+    /// Makes the call's text or bytes owned. Owned ones are moved, without memory, and borrowed
+    /// ones copied; where that allocation fails: an error of kind `OutOfMemory`.
     pub fn into_owned(self, alloc: Global) -> Result<Call<'static>>
         ensures value { IfOk result (λ call. event_of call ≡ event_of self.entry) }
         ensures owned { IfOk result IsOwned }

@@ -1,7 +1,7 @@
 //! The static names of a struct or a variant.
 
-/// The static names of a struct, or of a variant with its index: what stands before what it holds.
-/// (Ours, for the crates above.)
+/// The static names of a struct, or of a variant with its index. Not in `serde-content`; for the
+/// crates above.
 #[derive(Clone, Copy)]
 pub enum Head {
     /// The name of a struct.

@@ -1,5 +1,29 @@
-//! Serialiser calls, the grammar of their lists, and the traits of serialisers and of what they
-//! take.
+//! Serialiser calls as data, and the traits of serialisers and of what they take. Use it through
+//! `serde_content::ser`.
+//!
+//! ```rust
+//! let mut recorder = Recorder::new(alloc, false);
+//! point.serialize(alloc, &mut recorder)?;
+//! let calls = [
+//!     Call::Struct("Point", 2),
+//!     Call::Field("x"),
+//!     Call::Number(Number::I32(1)),
+//!     Call::Field("y"),
+//!     Call::Number(Number::I32(2)),
+//!     Call::End,
+//! ];
+//! assert!(rt; recorder.calls().iter().eq(calls.iter()));
+//! ```
+//!
+//! | What | Where |
+//! |---|---|
+//! | the 26 calls; a list of them, sent | [`Call`]; [`replay`] |
+//! | which lists spell a tree | `specs/Grammar/Spells.antt` |
+//! | a serialiser | [`Serializer`] |
+//! | what can be sent; a type of your own | [`Serialize`]; [`Parts`] |
+//! | how values and the standard library's types are sent | `send`, `impls` |
+//! | errors that are put aside, to save stack | [`Aside`], [`Sent`] |
+//! | laws | [`laws`], `loose_form` |
 
 #![tactic(auto)]
 

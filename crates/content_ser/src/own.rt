@@ -1,4 +1,4 @@
-//! What a type of a caller's own sends, put together part by part.
+//! What a type of your own sends, put together part by part.
 
 #![tactic(auto, using(crate::proofs::Sending::sending))]
 
@@ -17,7 +17,8 @@ use crate::serializer::Serializer;
 use content_tree::{Error, Result};
 use std::alloc::Global;
 
-/// The first calls of a script: one that opens something, and the values put into it so far.
+/// What a type of your own sends, put together part by part: a call that opens something, and the
+/// values put into it so far.
 ///
 /// A [`Call`] is one, and [`with`](Parts::with) makes more of them. Nothing is sent until
 /// [`end`](Parts::end) or [`around`](Parts::around).
@@ -39,8 +40,8 @@ pub trait Parts: Sized + Drop {
             (S.seen serializer.new) };
 
     /// Makes these calls as [`send_parts`](Parts::send_parts) does, with the error put aside: the
-    /// answer is a byte, and where it is an `Err`, the error stands in `error`. Parts of a caller's
-    /// own need not give it.
+    /// answer is a byte, and where it is an `Err`, the error is in `error`. Your own parts need not
+    /// give it.
     fn send_parts_aside<S: Serializer>(
         &self,
         alloc: Global,
@@ -53,8 +54,8 @@ pub trait Parts: Sized + Drop {
         put_aside(self.send_parts(alloc, serializer), error)
     }
 
-    /// These calls, then a call that announces a value, as `Call::Field("x")` or
-    /// `Call::TupleField`, and then the value. It sends nothing yet and takes no memory.
+    /// Adds a call that announces a value, such as `Call::Field("x")` or `Call::TupleField`, and
+    /// the value. It sends nothing yet and takes no memory.
     #[inline(always)]
     final fn with<'a, M: Parts, T: Serialize>(
         self,
@@ -81,8 +82,8 @@ pub trait Parts: Sized + Drop {
         answered!(error => send_all(&self, alloc, serializer, &mut error))
     }
 
-    /// Makes these calls, and then those of the one value that a newtype stands around. Errors and
-    /// memory are as for [`end`](Parts::end).
+    /// Makes these calls, and then those of the one value that a newtype holds. Errors and memory
+    /// are as for [`end`](Parts::end).
     #[inline(always)]
     final fn around<T: Serialize, S: Serializer>(
         self,
@@ -97,8 +98,8 @@ pub trait Parts: Sized + Drop {
     }
 }
 
-/// The parts. It stands between those of [`Announced`] and the parts that they begin with: the
-/// compiler folds no function into itself, and these are one function at smaller types.
+/// The parts. Those of [`Announced`] send the parts that they begin with through it: the compiler
+/// folds no function into itself, and these are one function at smaller types.
 #[inline(always)]
 fn send_first<P: Parts, S: Serializer>(
     parts: &P,
@@ -127,7 +128,7 @@ fn send_all<P: Parts, S: Serializer>(
     serializer.call_aside(Call::End, error)
 }
 
-/// The parts, and then the value that they stand around.
+/// The parts, and then the value that they hold.
 #[inline(always)]
 fn send_around<P: Parts, T: Serialize, S: Serializer>(
     parts: &P,
@@ -163,7 +164,7 @@ impl Parts for Call<'static> {
 }
 
 impl<'a> Call<'a> {
-    /// Makes this call, as the whole of what is sent. The error is the serialiser's where it
+    /// Sends this call alone, for a value of one call. The error is the serialiser's where it
     /// refuses the call; memory is taken where it takes some.
     pub fn send<S: Serializer>(self, serializer: &mut S) -> Result<()>
         ensures { Sends S.step S.refuses (S.seen serializer.old) (only (event_of self.entry)) result

@@ -17,9 +17,9 @@ use crate::serializer::Serializer;
 use content_tree::{Enum, Error, Result, Struct, Value};
 use std::alloc::Global;
 
-/// Each node by its own call and children in order, a struct and a variant as below. The first
-/// field with an owned key among what is sent stops it: all calls before are made, and the error is
-/// `Custom`.
+/// A value is sent node by node, each by its own call and children in order, a struct and a variant
+/// as below. The first field with an owned key among what is sent stops it: all calls before are
+/// made, and the error is `Custom`.
 impl<'a> Serialize for Value<'a> {
     ghost script = { λ v. loose_script (tree_of v) };
 
@@ -39,8 +39,8 @@ impl<'a> Serialize for Value<'a> {
     }
 }
 
-/// Under its name where that is static; else what it holds alone: a unit, a value, a sequence, or a
-/// map with text keys in their order.
+/// A struct is sent under its name where that is static; else as what it holds alone: a unit, a
+/// value, a sequence, or a map with text keys in their order.
 impl<'a> Serialize for Struct<'a> {
     ghost script = { λ v. loose_script (struct_tree v) };
 
@@ -60,9 +60,9 @@ impl<'a> Serialize for Struct<'a> {
     }
 }
 
-/// Under its names where both are static; else its name as a text, or a map from it to what it
-/// holds: a value, a sequence, or a map sorted by the bytes of its text keys, of equal keys the
-/// last alone. Memory is taken for that sorting alone.
+/// A variant is sent under its names where both are static; else as a text, its name, or a map from
+/// that to what it holds: a value, a sequence, or a map sorted by the bytes of its text keys, of
+/// equal keys the last alone. Memory is taken for that sorting alone.
 impl<'a> Serialize for Enum<'a> {
     ghost script = { λ v. loose_script (enum_tree v) };
 

@@ -10,15 +10,15 @@ use crate::serializer::Serializer;
 use content_tree::{Error, Result};
 use std::alloc::Global;
 
-/// What sends itself to any serialiser.
+/// A type whose values can be sent to any serialiser.
 ///
-/// A type's script says by which calls: a list of them, which may turn on the value and on whether
-/// the serialiser is for people to read, and perhaps a text with which it stops.
+/// Its script says by which calls: a list of them, which may depend on the value and on whether the
+/// serialiser is human readable, and perhaps a text with which it stops.
 pub trait Serialize {
-    /// The calls by which a value is sent, where the serialiser is for people to read or not.
+    /// The calls by which a value is sent, where the serialiser is human readable or not.
     ghost script: { Self → Bool → Script };
 
-    /// Makes the calls of the script, one after another.
+    /// Sends the value: makes the calls of the script, one after another.
     ///
     /// `Ok` says that all of them were made and that the script has no stop. `Err` says that the
     /// serialiser refused one of them, with its own error, and that no other was made after it; or
@@ -29,9 +29,9 @@ pub trait Serialize {
             (script self.now) result (S.seen serializer.new) };
 
     /// Makes the calls of the script as [`serialize`](Serialize::serialize) does, with the error
-    /// put aside: the answer is a byte, and where it is an `Err`, the error stands in `error`,
-    /// whatever was there before. Where it is `Ok`, what stands there says nothing. A type need not
-    /// give it. (Ours.)
+    /// put aside: the answer is a byte, and where it is an `Err`, the error is in `error`, whatever
+    /// was there before. Where it is `Ok`, `error` says nothing. A type need not give it. Not in
+    /// `serde-content`.
     fn serialize_aside<S: Serializer>(
         &self,
         alloc: Global,

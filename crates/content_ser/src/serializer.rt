@@ -18,13 +18,13 @@ use content_tree::{CowBytes, CowStr, Error, Number, Result};
 use std::alloc::Global;
 use std::fmt::Display;
 
-/// What takes serialiser calls, one after another.
+/// A serialiser: it takes calls, one after another.
 ///
 /// An implementation names its state as plain data, which no code has to make, and the step that
 /// each call takes in it. A call that answers `Ok` takes that step and leaves the serialiser not
 /// failed. A call other than `collect_str` that answers `Err` leaves it failed: the step is none,
 /// or an allocation failed. A failed serialiser refuses every call and stays failed. No call
-/// changes whether it is for people to read.
+/// changes whether it is human readable.
 ///
 /// Names live as long as the program. `variant_index` is the variant's place in its enum, from 0. A
 /// length counts items; that of a sequence or a map is a hint, which may be left out. Errors are
@@ -43,14 +43,14 @@ pub trait Serializer {
     /// With which error a call is refused, and what state is kept.
     ghost refuses: { RefusalRule State };
 
-    /// Makes this call. The others are each one of it.
+    /// Makes this call. Each named method below makes one.
     fn call(&mut self, call: Call<'_>) -> Result<()>
         ensures { Takes step refuses (seen self.old) (event_of call.entry) result (seen self.new) };
 
     /// Makes this call with its error put aside: the answer is a byte, and where it is an `Err`,
-    /// the error stands in `error`, whatever was there before. Where it is `Ok`, what stands there
-    /// says nothing. An implementation need not give it; one that does spares its callers the
-    /// moving of a large answer. (Ours.)
+    /// the error is in `error`, whatever was there before. Where it is `Ok`, `error` says nothing.
+    /// An implementation need not give it; one that does spares its callers the moving of a large
+    /// answer. Not in `serde-content`.
     fn call_aside(&mut self, call: Call<'_>, error: &mut Error) -> Sent
         ensures { Takes step refuses (seen self.old) (event_of call.entry)
             (answer_of result error.new) (seen self.new) }
@@ -218,14 +218,14 @@ pub trait Serializer {
         self.call(Call::NewtypeVariant(name, variant_index, variant))
     }
 
-    /// Opens a sequence; no answer rests on the hint.
+    /// Opens a sequence, with a hint of its length.
     final fn serialize_seq(&mut self, len: Option<usize>) -> Result<()>
         ensures { Takes step refuses (seen self.old) (seq len) result (seen self.new) }
     {
         self.call(Call::Seq(len))
     }
 
-    /// Opens a tuple; no answer rests on the length.
+    /// Opens a tuple, with its length.
     final fn serialize_tuple(&mut self, len: usize) -> Result<()>
         ensures { Takes step refuses (seen self.old) (tuple len) result (seen self.new) }
     {
@@ -254,7 +254,7 @@ pub trait Serializer {
         self.call(Call::TupleVariant(name, variant_index, variant, len))
     }
 
-    /// Opens a map; no answer rests on the hint.
+    /// Opens a map, with a hint of its length.
     final fn serialize_map(&mut self, len: Option<usize>) -> Result<()>
         ensures { Takes step refuses (seen self.old) (map len) result (seen self.new) }
     {
@@ -332,7 +332,7 @@ pub trait Serializer {
         self.call(Call::End)
     }
 
-    /// The text that the value prints, as [`serialize_str`](Serializer::serialize_str) takes it.
+    /// Sends the text that the value prints, as [`serialize_str`](Serializer::serialize_str) does.
     ///
     /// It prints first: where an allocation for that fails it makes no call, answers `OutOfMemory`
     /// and changes nothing, whatever the state.
@@ -344,7 +344,7 @@ pub trait Serializer {
         self.call(Call::Str(CowStr::Owned(text)))
     }
 
-    /// Whether the calls are for people to read; a type may send itself in another form then.
+    /// Whether the serialiser is human readable; a type may send itself in another form then.
     fn is_human_readable(&self) -> bool
         ensures { result ≡ (seen self.now).readable };
 

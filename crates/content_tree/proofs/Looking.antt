@@ -1,4 +1,4 @@
--- What is found behind the last key.
+-- What is found by the last key.
 use Rattle.std.proofs.Common.{◌≡◌, ◌<◌, ◌+◌, ◌∙◌, ap, sym, true, length, get_or, ℕ, zero, suc}
 use Rattle.std.proofs.Common.{List, [], ◌∷◌, Bool, Some, None, drop}
 use Rattle.std.proofs.lemmas.List.{at_drop_more}

@@ -97,7 +97,7 @@ chars_around bs i utf8 is =
     ap chars (sym (take-append-drop i bs)) ∙ chars-append (take i bs) (drop i bs) (IsUtf8-take bs i utf8 cut)
     ∙ ap (λ l. chars (take i bs) ++ l) (chars_past_char (drop i bs) after b (IsUtf8-drop bs i utf8 cut) here)
 
--- what stands before it is printed as it is
+-- what comes before it is printed as it is
 pub at_escape : (bs : List ℕ) (i : ℕ) → IsUtf8 bs → position has_escape bs ≡ Some i
     → flat_map escaped (chars bs) ≡ take i bs ++ (escaped (get_or bs i 0) ++ flat_map escaped (chars (drop (i + 1) bs)))
 at_escape bs i utf8 is =

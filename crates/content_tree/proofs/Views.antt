@@ -1,4 +1,4 @@
--- What each case of a value stands for.
+-- The tree of each case of a value.
 use Rattle.std.proofs.Common.{◌≡◌, ℕ, Bool, List, [], ◌∷◌, map, Option, Some, None, Vec, Box}
 use Rattle.std.proofs.Common.{Global, refl, ap, rules}
 use Rattle.content_tree.specs.Values.Text.{Text, text_of, bytes_of}

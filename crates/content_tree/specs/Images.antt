@@ -1,3 +1,3 @@
--- What a `Found` stands for.
+-- What contracts see of a `Found`.
 pub mod Image
 pub mod Found

@@ -25,7 +25,7 @@ is_free_data is_free_text tree.no_data = true
 is_free_data is_free_text (tree.one t) = is_free_tree is_free_text t
 is_free_data is_free_text p = false
 
--- a borrowed text is lent again
+-- a borrowed text is borrowed again
 abbrev pub is_lent_again : Text → Bool
 is_lent_again t = t.borrowed
 

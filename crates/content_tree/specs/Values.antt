@@ -1,4 +1,4 @@
--- What a `Value` and its texts stand for.
+-- What contracts see of a `Value` and its texts.
 pub mod Text
 pub mod Cases
 pub mod Tree

@@ -10,7 +10,7 @@ use crate::expected::Expected;
 use std::alloc::Global;
 
 impl Expected {
-    /// A copy: the same expectation.
+    /// Copies the expectation.
     ///
     /// It takes memory for owned texts, vectors and boxes, and nothing for the rest; where that
     /// fails: an error of kind `OutOfMemory`.
@@ -64,7 +64,7 @@ fn clone_name(alloc: Global, name: &Option<String>) -> Result<Option<String>>
 }
 
 impl ErrorKind {
-    /// A copy: the same kind, with the same image, expectation or text.
+    /// Copies the kind, with its image, expectation or text.
     ///
     /// It takes memory for owned texts, vectors and boxes, and nothing for the rest; where that
     /// fails: an error of kind `OutOfMemory`.
@@ -91,7 +91,7 @@ impl ErrorKind {
 }
 
 impl Error {
-    /// A copy: an error of the same kind, with the same image, expectation or text.
+    /// Copies the error: the same kind, with its image, expectation or text.
     ///
     /// It takes memory for owned texts, vectors and boxes, and nothing for the rest; where that
     /// fails: an error of kind `OutOfMemory`.

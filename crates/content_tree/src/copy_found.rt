@@ -16,7 +16,7 @@ use std::alloc::{AllocError, Global};
 use std::result::Result as StdResult;
 
 impl Found {
-    /// A copy of the image.
+    /// Copies the image.
     ///
     /// It takes memory for owned texts, vectors and boxes, and nothing for the rest; where that
     /// fails: an error of kind `OutOfMemory`.
@@ -30,7 +30,7 @@ impl Found {
 }
 
 impl FoundData {
-    /// A copy of the image.
+    /// Copies the image.
     ///
     /// It takes memory for owned texts, vectors and boxes, and nothing for the rest; where that
     /// fails: an error of kind `OutOfMemory`.

@@ -1,4 +1,4 @@
-//! Copies of values: the same tree, each text and name in the same case.
+//! Copies of values: the same tree, each text and name borrowed or owned as before.
 //!
 //! Inside, a copy answers `AllocError` alone, and what holds parts is copied by a function of its
 //! own, so that a level of a deep value takes little stack.
@@ -19,7 +19,7 @@ use std::alloc::{AllocError, Global};
 use std::result::Result as StdResult;
 
 impl<'a, 'n> NamedValue<'a, 'n> {
-    /// A copy: the same tree, with each text, byte value and name borrowed or owned as here.
+    /// Makes a copy: the same tree, with each text, byte value and name borrowed or owned as here.
     ///
     /// It takes memory for owned texts, vectors and boxes, and nothing for the rest; where that
     /// fails: an error of kind `OutOfMemory`.
@@ -33,7 +33,7 @@ impl<'a, 'n> NamedValue<'a, 'n> {
 }
 
 impl<'a, 'n> NamedStruct<'a, 'n> {
-    /// A copy: the same tree, with each text, byte value and name borrowed or owned as here.
+    /// Makes a copy: the same tree, with each text, byte value and name borrowed or owned as here.
     ///
     /// It takes memory for owned texts, vectors and boxes, and nothing for the rest; where that
     /// fails: an error of kind `OutOfMemory`.
@@ -49,7 +49,7 @@ impl<'a, 'n> NamedStruct<'a, 'n> {
 }
 
 impl<'a, 'n> NamedEnum<'a, 'n> {
-    /// A copy: the same tree, with each text, byte value and name borrowed or owned as here.
+    /// Makes a copy: the same tree, with each text, byte value and name borrowed or owned as here.
     ///
     /// It takes memory for owned texts, vectors and boxes, and nothing for the rest; where that
     /// fails: an error of kind `OutOfMemory`.
@@ -71,7 +71,7 @@ impl<'a, 'n> NamedEnum<'a, 'n> {
 }
 
 impl<'a, 'n> NamedData<'a, 'n> {
-    /// A copy: the same tree, with each text, byte value and name borrowed or owned as here.
+    /// Makes a copy: the same tree, with each text, byte value and name borrowed or owned as here.
     ///
     /// It takes memory for owned texts, vectors and boxes, and nothing for the rest; where that
     /// fails: an error of kind `OutOfMemory`.

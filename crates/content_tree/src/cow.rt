@@ -14,18 +14,18 @@ use std::result::Result as StdResult;
 /// as long as the program.
 #[derive(Debug, Drop)]
 pub enum CowStr<'a> {
-    /// A text that is lent.
+    /// A borrowed text.
     Borrowed(&'a str),
-    /// A text that is owned.
+    /// An owned text.
     Owned(String),
 }
 
 /// Bytes, borrowed or owned.
 #[derive(Debug, Drop)]
 pub enum CowBytes<'a> {
-    /// Bytes that are lent.
+    /// Borrowed bytes.
     Borrowed(&'a [u8]),
-    /// Bytes that are owned.
+    /// Owned bytes.
     Owned(Vec<u8>),
 }
 
@@ -50,8 +50,8 @@ impl<'a> CowStr<'a> {
         }
     }
 
-    /// The text as one that is owned. An owned one is moved, without memory; a borrowed one is
-    /// copied. Where an allocation fails: an error of kind `OutOfMemory`.
+    /// Makes the text owned: an owned one is moved, without memory; a borrowed one is copied. Where
+    /// an allocation fails: an error of kind `OutOfMemory`.
     pub fn into_owned(self, alloc: Global) -> Result<String>
         ensures value { IfOk result (λ text. string_bytes text ≡ text_content self.entry) }
         ensures moved { IfSome (string_in self.entry) (λ text. result ≡ Ok text) }
@@ -72,7 +72,7 @@ impl<'a> CowStr<'a> {
         }
     }
 
-    /// The text as one that is owned, taken out of the place, where an empty text is left.
+    /// Takes the text out of its place, owned; an empty text is left there.
     #[inline(always)]
     pub(crate) fn take(&mut self, alloc: Global) -> StdResult<String, AllocError>
         ensures value { IfOk result (λ text. string_bytes text ≡ text_content self.old) }
@@ -81,8 +81,8 @@ impl<'a> CowStr<'a> {
         mem::replace(self, CowStr::Borrowed("")).own(alloc)
     }
 
-    /// A copy of the same case: a borrowed text is borrowed again, without memory, and an owned one
-    /// is copied. Where an allocation fails: an error of kind `OutOfMemory`.
+    /// Copies the text: a borrowed one is borrowed again, without memory, and an owned one is
+    /// copied. Where an allocation fails: an error of kind `OutOfMemory`.
     pub fn try_clone(&self, alloc: Global) -> Result<CowStr<'a>>
         ensures value { IfOk result (λ copy. text_of copy ≡ text_of self.now) }
         ensures succeeds { IsTrue (text_of self.now).borrowed → IsOk result }
@@ -125,8 +125,8 @@ impl<'a> CowBytes<'a> {
         }
     }
 
-    /// The bytes as ones that are owned. Owned ones are moved, without memory; borrowed ones are
-    /// copied. Where an allocation fails: an error of kind `OutOfMemory`.
+    /// Makes the bytes owned: owned ones are moved, without memory; borrowed ones are copied. Where
+    /// an allocation fails: an error of kind `OutOfMemory`.
     pub fn into_owned(self, alloc: Global) -> Result<Vec<u8>>
         ensures value { IfOk result (λ bytes. bytes.items ≡ bytes_content self.entry) }
         ensures moved { IfSome (vec_in self.entry) (λ bytes. result ≡ Ok bytes) }
@@ -147,7 +147,7 @@ impl<'a> CowBytes<'a> {
         }
     }
 
-    /// The bytes as ones that are owned, taken out of the place, where no bytes are left.
+    /// Takes the bytes out of their place, owned; no bytes are left there.
     #[inline(always)]
     pub(crate) fn take(&mut self, alloc: Global) -> StdResult<Vec<u8>, AllocError>
         ensures value { IfOk result (λ bytes. bytes.items ≡ bytes_content self.old) }
@@ -156,8 +156,8 @@ impl<'a> CowBytes<'a> {
         mem::replace(self, CowBytes::Borrowed(&[])).own(alloc)
     }
 
-    /// A copy of the same case: borrowed bytes are borrowed again, without memory, and owned ones
-    /// are copied. Where an allocation fails: an error of kind `OutOfMemory`.
+    /// Copies the bytes: borrowed ones are borrowed again, without memory, and owned ones are
+    /// copied. Where an allocation fails: an error of kind `OutOfMemory`.
     pub fn try_clone(&self, alloc: Global) -> Result<CowBytes<'a>>
         ensures value { IfOk result (λ copy. bytes_of copy ≡ bytes_of self.now) }
         ensures succeeds { IsTrue (bytes_of self.now).borrowed → IsOk result }

@@ -1,5 +1,5 @@
 //! The printed text of images. That of values is a walk of its own, `display/value.rt`, over
-//! another type; both print leaves by what stands here.
+//! another type; both print leaves by the functions here.
 
 #![tactic(auto, using(crate::proofs::Printing::two_writes, crate::proofs::Printing::three_writes, crate::proofs::Printing::four_writes))]
 
@@ -22,8 +22,8 @@ mod value;
 
 pub use value::ValueDisplay;
 
-/// The text of an image as `serde-content` prints it: `Foo::Bar(true, 'a')`, `{ "k": 1u8 }`. Names,
-/// keys and characters stand as they are, so it isn't always what a program could say.
+/// Prints an image as `serde-content` does: `Foo::Bar(true, 'a')`, `{ "k": 1u8 }`. Names, field
+/// names and characters aren't escaped.
 impl fmt::Display for Found {
     ghost output = { λ f. Some (printed (image_view f)) };
 

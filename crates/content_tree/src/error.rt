@@ -13,10 +13,10 @@ use std::alloc::{AllocError, AllocFailed, Global};
 use std::fmt;
 use std::fmt::Display;
 
-/// The answer of a call that may be refused.
+/// The answer of a call that can fail.
 pub type Result<T> = std::result::Result<T, Error>;
 
-/// Why a call was refused.
+/// Why a call failed.
 #[derive(Debug, Drop, PartialEq, Eq, PartialOrd, Ord)]
 pub enum ErrorKind {
     /// Something else was found than what was expected.
@@ -38,8 +38,8 @@ pub enum ErrorKind {
     Unfinished,
 }
 
-/// An error: one [`ErrorKind`], with no box. `Unexpected` and `Custom` are `serde-content`'s kinds,
-/// the other four are ours.
+/// An error: one [`ErrorKind`], with no box. `Unexpected` and `Custom` are `serde-content`'s kinds;
+/// the other four are not in it.
 ///
 /// ```rust
 /// let error = Error::unexpected(Found::Bool(true), Expected::Unit);
@@ -81,7 +81,7 @@ impl<T: Drop> From<AllocFailed<T>> for Error {
 }
 
 impl Error {
-    /// The error of finding something else than what was expected, of kind
+    /// Makes the error that something else was found than expected, of kind
     /// [`ErrorKind::Unexpected`]. It takes no memory.
     pub fn unexpected(found: Found, expected: Expected) -> Error
         ensures { kind_of result ≡ Unexpected found expected }
@@ -91,7 +91,7 @@ impl Error {
         }
     }
 
-    /// The error of a text, of kind [`ErrorKind::Custom`] with a copy of the text, or of kind
+    /// Makes an error of a text: of kind [`ErrorKind::Custom`] with a copy of the text, or of kind
     /// [`ErrorKind::OutOfMemory`] where the allocation failed.
     pub fn custom(alloc: Global, text: &str) -> Error
         ensures { IsCustomOrMemory text.now (kind_of result) }

@@ -56,7 +56,7 @@ pub enum Expected {
         /// What the variant holds.
         typ: Option<DataType>,
     },
-    /// A tuple of so many elements.
+    /// A tuple of this many elements.
     Tuple(usize),
     /// The key of a field or the name of a variant.
     Identifier,

@@ -2,7 +2,7 @@
 
 use crate::number::Number;
 
-/// What was found: the image of a value, which owns all that it shows.
+/// What was found, for an error: the image of a value, which owns all that it shows.
 #[cycle(found)]
 #[derive(Debug, Drop)]
 pub enum Found {

@@ -1,8 +1,8 @@
 //! The image of a value.
 //!
-//! Inside, an `AllocError` alone is answered, and a value is taken where it stands: its owned texts
-//! and bytes are moved out of it, and the rest of it is dropped at the end. So no item stands in
-//! the frame of a level, and what holds parts has a function of its own.
+//! Inside, an `AllocError` alone is answered, and a value is read in its place: its owned texts and
+//! bytes are moved out of it, and the rest of it is dropped at the end. So the frame of a level
+//! contains no item, and what holds parts has a function of its own.
 
 ghost use Rattle.std.specs.Prelude.{◌≡◌, None, Ok, IsOk, IfOk, IfErr, IfSome};
 ghost use Rattle.content_tree.specs.Values.Value.{tree_of, tree_data_of, struct_tree, enum_tree};
@@ -26,8 +26,8 @@ use std::alloc::{AllocError, Global};
 use std::result::Result as StdResult;
 
 impl<'a, 'n> NamedValue<'a, 'n> {
-    /// The image of the value, for an error: the same shape without the indices of variants. Owned
-    /// texts, bytes and names are moved, borrowed ones copied.
+    /// Makes the image of the value, for an error: the same shape without the indices of variants.
+    /// Owned texts, bytes and names are moved, borrowed ones copied.
     ///
     /// # Errors
     ///

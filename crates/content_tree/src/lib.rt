@@ -1,4 +1,24 @@
-//! Trees of Serde's data model: the types, their conversions, errors and printed texts.
+//! Values of Serde's data model except floats, and the errors that show them. Use it through
+//! `serde_content`.
+//!
+//! ```rust
+//! let fields = vec![in alloc; (CowStr::Borrowed("y"), Value::from(7i32))]?;
+//! let user = Struct {
+//!     name: CowStr::Borrowed("Point"),
+//!     data: Data::Struct { fields },
+//! };
+//! ```
+//!
+//! | What | Where |
+//! |---|---|
+//! | values | [`Value`], [`Struct`], [`Enum`], [`Data`] |
+//! | numbers, texts, bytes in them | [`Number`], [`CowStr`], [`CowBytes`] |
+//! | values from numbers, texts and so on | `convert` |
+//! | `get`, `as_str` and so on | `lookup` |
+//! | `display` | [`ValueDisplay`] |
+//! | `try_clone`; `into_owned` | `copy_value`, `copy_found`, `copy_error`; `owned` |
+//! | `==` and the order | `compare`, [`laws`] |
+//! | errors; what they show | [`Error`], [`ErrorKind`]; [`Found`], [`Expected`] |
 
 #![tactic(auto)]
 

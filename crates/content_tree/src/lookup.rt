@@ -1,4 +1,4 @@
-//! What stands right inside a value, and behind a key: lent, without memory.
+//! Looks inside a value: its content, or the value of a key, borrowed and without memory.
 
 #![tactic(auto, using(crate::proofs::Looking::looking))]
 
@@ -16,8 +16,7 @@ use crate::cow::CowStr;
 use crate::number::Number;
 use crate::value::{NamedData, NamedValue};
 
-/// What stands right inside, or none where the value is of another kind. None of these takes
-/// memory.
+/// What the value contains, or none where it is of another kind. None of these takes memory.
 impl<'a, 'n> NamedValue<'a, 'n> {
     /// The boolean.
     pub fn as_bool(&self) -> Option<bool>
@@ -117,9 +116,9 @@ impl<'a, 'n> NamedValue<'a, 'n> {
         }
     }
 
-    /// The value behind this key: of a map the one behind the last key that equals it, and where
-    /// the key is a text, of a struct or a variant with fields the one of the last field of that
-    /// name. It compares keys from the last to the first.
+    /// Finds the value of this key: in a map that of the last key that equals it; in a struct or a
+    /// variant with fields, where the key is a text, that of the last field of this name. It
+    /// compares keys from the last to the first.
     pub fn get(&self, key: &NamedValue<'a, 'n>) -> Option<&NamedValue<'a, 'n>>
         ensures { option_map (λ value. tree_of value.now) result
             ≡ lookup (tree_of key.now) (tree_of self.now) }
@@ -132,7 +131,7 @@ impl<'a, 'n> NamedValue<'a, 'n> {
         }
     }
 
-    /// The value behind this text, as [`get`](NamedValue::get) finds it.
+    /// Finds the value of this text, as [`get`](NamedValue::get) does with a text as key.
     pub fn get_str(&self, key: &str) -> Option<&NamedValue<'a, 'n>>
         ensures { option_map (λ value. tree_of value.now) result
             ≡ lookup_text key.now (tree_of self.now) }
@@ -146,7 +145,7 @@ impl<'a, 'n> NamedValue<'a, 'n> {
     }
 }
 
-/// The value behind the last key that equals this one.
+/// The value of the last key that equals this one.
 fn last_equal<'v, 'a, 'n>(
     pairs: &'v [(NamedValue<'a, 'n>, NamedValue<'a, 'n>)],
     key: &NamedValue<'a, 'n>,
@@ -164,7 +163,7 @@ fn last_equal<'v, 'a, 'n>(
     None
 }
 
-/// The value behind the last key that is this text.
+/// The value of the last key that is this text.
 fn last_text<'v, 'a, 'n>(
     pairs: &'v [(NamedValue<'a, 'n>, NamedValue<'a, 'n>)],
     key: &str,

@@ -5,7 +5,7 @@ ghost use Rattle.content_tree.specs.Values.Lookups.{value_as};
 ghost use Rattle.content_tree.specs.Values.Ranges.{i64, u64, i128, u128};
 ghost use Rattle.content_tree.specs.declared.number.Number.{Number};
 
-/// A whole number with its kind, within that kind's range. As `serde-content`'s, without floats.
+/// A whole number of one of ten kinds. As `serde-content`'s, without floats.
 #[derive(Clone, Copy, Debug, PartialEq, Eq, PartialOrd, Ord)]
 pub enum Number {
     /// A signed number of 8 bits.

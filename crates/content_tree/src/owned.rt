@@ -24,9 +24,9 @@ use std::alloc::{AllocError, Global};
 use std::result::Result as StdResult;
 
 impl<'a, 'n> NamedValue<'a, 'n> {
-    /// The same tree with every text and byte value owned; names, variants and keys stay as they
-    /// were. Owned texts and bytes are moved, borrowed ones copied; vectors and boxes are made
-    /// anew. Where an allocation fails: an error of kind `OutOfMemory`.
+    /// Makes every text and byte value in it owned; names, variants and keys stay as they were.
+    /// Owned texts and bytes are moved, borrowed ones copied; vectors and boxes are made anew.
+    /// Where an allocation fails: an error of kind `OutOfMemory`.
     pub fn into_owned(self, alloc: Global) -> Result<NamedValue<'static, 'n>>
         ensures value { IfOk result (λ own. tree_of own ≡ owned (tree_of self.entry)) }
         ensures succeeds { OwningTakesNoMemory (tree_of self.entry) → IsOk result }
@@ -41,9 +41,9 @@ impl<'a, 'n> NamedValue<'a, 'n> {
 }
 
 impl<'a, 'n> NamedStruct<'a, 'n> {
-    /// The same tree with every text and byte value owned; names, variants and keys stay as they
-    /// were. Owned texts and bytes are moved, borrowed ones copied; vectors and boxes are made
-    /// anew. Where an allocation fails: an error of kind `OutOfMemory`.
+    /// Makes every text and byte value in it owned; names, variants and keys stay as they were.
+    /// Owned texts and bytes are moved, borrowed ones copied; vectors and boxes are made anew.
+    /// Where an allocation fails: an error of kind `OutOfMemory`.
     pub fn into_owned(self, alloc: Global) -> Result<NamedStruct<'static, 'n>>
         ensures value { IfOk result (λ own. struct_tree own ≡ owned (struct_tree self.entry)) }
         ensures succeeds { StructOwningTakesNoMemory (struct_tree self.entry) → IsOk result }
@@ -57,9 +57,9 @@ impl<'a, 'n> NamedStruct<'a, 'n> {
 }
 
 impl<'a, 'n> NamedEnum<'a, 'n> {
-    /// The same tree with every text and byte value owned; names, variants and keys stay as they
-    /// were. Owned texts and bytes are moved, borrowed ones copied; vectors and boxes are made
-    /// anew. Where an allocation fails: an error of kind `OutOfMemory`.
+    /// Makes every text and byte value in it owned; names, variants and keys stay as they were.
+    /// Owned texts and bytes are moved, borrowed ones copied; vectors and boxes are made anew.
+    /// Where an allocation fails: an error of kind `OutOfMemory`.
     pub fn into_owned(self, alloc: Global) -> Result<NamedEnum<'static, 'n>>
         ensures value { IfOk result (λ own. enum_tree own ≡ owned (enum_tree self.entry)) }
         ensures succeeds { StructOwningTakesNoMemory (enum_tree self.entry) → IsOk result }
@@ -83,9 +83,9 @@ impl<'a, 'n> NamedEnum<'a, 'n> {
 }
 
 impl<'a, 'n> NamedData<'a, 'n> {
-    /// The same tree with every text and byte value owned; names, variants and keys stay as they
-    /// were. Owned texts and bytes are moved, borrowed ones copied; vectors and boxes are made
-    /// anew. Where an allocation fails: an error of kind `OutOfMemory`.
+    /// Makes every text and byte value in it owned; names, variants and keys stay as they were.
+    /// Owned texts and bytes are moved, borrowed ones copied; vectors and boxes are made anew.
+    /// Where an allocation fails: an error of kind `OutOfMemory`.
     pub fn into_owned(self, alloc: Global) -> Result<NamedData<'static, 'n>>
         ensures value { IfOk result (λ own. tree_data_of own ≡ owned_data
             (tree_data_of self.entry)) }

@@ -15,7 +15,7 @@ use crate::number::Number;
 use crate::value::{NamedEnum, NamedStruct, NamedValue};
 use std::alloc::{AllocError, Global};
 
-/// What can be found where something else was expected.
+/// What an error can show as found where something else was expected.
 pub trait Unexpected {
     /// The image of what was found.
     ghost seen: { Self → Image };

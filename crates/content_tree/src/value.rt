@@ -3,11 +3,11 @@
 use crate::cow::{CowBytes, CowStr};
 use crate::number::Number;
 
-/// A value of Serde's data model without floats, with the cases of `serde-content`'s `Value`. Its
+/// Holds any data of Serde's model except floats, with the cases of `serde-content`'s `Value`. Its
 /// texts and bytes may be borrowed for `'a`; a name, a variant or a key that is borrowed is static.
 ///
-/// `==` and the order see neither whether a text is borrowed nor whether a name is static. (That
-/// the order is total is ours.)
+/// `==` and the order see neither whether a text is borrowed nor whether a name is static. Unlike
+/// in `serde-content`, the order is total.
 ///
 /// ```rust
 /// let value = Value::Seq(vec![in alloc; Value::from(true), Value::from(255u8)]?);

@@ -1,4 +1,4 @@
--- What a change behind a key leaves as it was, and changes one after another.
+-- What a change of a key's value leaves as it was, and changes one after another.
 use Rattle.std.proofs.Common.{◌≡◌, Bool, true, false, Option, Some, None, is_some}
 use Rattle.std.proofs.Common.{refl, ap, sym, ◌∙◌}
 use Rattle.serde_content.proofs.Names.{tree_equiv}
@@ -55,7 +55,7 @@ put_there k q x f (pair_then j t ps) e =
         rw (m, n, same) (some_second (at q ps) (f t))
     by None m false n rest = rw (m, n) (some_first (at q (put k x f ps)) _ rest)
 
--- two changes behind equal keys are one
+-- two changes of the values of equal keys are one
 pub put_twice : (j k x y : Tree) (f g : Tree → Tree) (ps : Pairs) → same_tree j k ≡ true
     → put k x f (put j y g ps) ≡ put j (f y) (λ t. f (g t)) ps
 put_twice j k x y f g no_pairs e = rw e refl
@@ -88,7 +88,7 @@ put_agree k x f g (pair_then i t ps) h =
     by None m true n rest = rw (m, n) (ap (λ v. pair_then i v ps) (h t (rw (m, n) refl)))
     by None m false n rest = rw (m, n) (ap (pair_then i t) rest)
 
--- a change behind a key that is there, and one behind another, in either order
+-- a change of the value of a key that is there, and one of another's, in either order
 pub put_swap : (k j x y : Tree) (f g : Tree → Tree) (ps : Pairs) → same_tree k j ≡ false
     → has_key k ps ≡ true → put k x f (put j y g ps) ≡ put j y g (put k x f ps)
 put_swap k j x y f g no_pairs e there = absurd (cc there)
@@ -128,7 +128,7 @@ fresh_then k j t qs e = by (at k qs) refl (same_tree j k) refl
     by None m true n = absurd (cc (rw (m, n) at e))
     by None m false n = (tree_equiv.symm k j ∙ n, rw m refl)
 
--- a change behind a key that is there, before pairs of other keys are put or after them
+-- a change of the value of a key that is there, before pairs of other keys are put or after them
 pub merged_swap : (k x : Tree) (f : Tree → Tree) (qs ps : Pairs) → has_key k qs ≡ false
     → has_key k ps ≡ true → merged_pairs qs (put k x f ps) ≡ put k x f (merged_pairs qs ps)
 merged_swap k x f no_pairs ps fresh there = refl

@@ -1,4 +1,4 @@
--- Which two of three trees are merged first doesn't matter, where no key stands twice and there is
+-- Which two of three trees are merged first doesn't matter, where no key is there twice and there is
 -- one sort between two of it.
 use Rattle.std.proofs.Common.{◌≡◌, Bool, true, false, List, [], ◌∷◌, Option, Some, None}
 use Rattle.std.proofs.Common.{refl, ap, sym, subst, ◌∙◌}
@@ -130,7 +130,7 @@ step u each t s a b between = by (same_sort u t) refl (same_sort t s) refl (same
 pub either_way : EitherWay
 either_way u t s a b between = by_parts Either step u t s a b between
 
--- in the middle of the example each key stands once
+-- in the middle of the example each key is there once
 inside : KeysOnce (tree.map no_pairs)
 inside [] = tt
 inside (k ∷ path) = tt
@@ -144,7 +144,7 @@ nested (k ∷ path) = by (same_tree tree.unit k) refl
     by true e = rw e (inside path)
     by false e = rw e tt
 
--- an empty map has nothing behind a key
+-- an empty map has no value of a key
 only_root : (path : List Tree) (t : Tree) → SameSortAlong path (tree.map no_pairs) t
     → SameSortAlong path (tree.map no_pairs) (tree.map no_pairs)
 only_root [] t along = refl

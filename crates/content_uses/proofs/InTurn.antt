@@ -1,5 +1,5 @@
 -- Three lists of pairs merged, of which two have each key once: which two first doesn't matter where
--- it doesn't for the values behind one key.
+-- it doesn't for the values of one key.
 use Rattle.std.proofs.Common.{◌≡◌, Bool, true, false, Option, Some, None, is_some, option_map}
 use Rattle.std.proofs.Common.{refl, ap, sym, ◌∙◌, if◌then◌else◌}
 use Rattle.std.specs.Prelude.{IfSome}
@@ -12,7 +12,7 @@ use Rattle.content_uses.proofs.Changes.{none_at, put_other, put_there, put_twice
 use Rattle.content_uses.proofs.Changes.{merged_swap}
 use Rattle.content_uses.proofs.MergingLaws.{at, at_alike}
 
--- the last value behind the key in the middle, and the one it is put over in the base
+-- the last value of the key in the middle, and the one it is put over in the base
 abbrev pub both_at : (key : Tree) → (middle base : Pairs) → Option (Tree × Tree)
 both_at k no_pairs ss = None
 both_at k (pair_then j t ts) ss =

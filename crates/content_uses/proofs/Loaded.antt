@@ -72,7 +72,7 @@ pub no_memory : {A : Type 0} (e : LoadError) (r : Result A LoadError) → IsNoMe
 no_memory e (Ok y) out is = tt
 no_memory e (Err x) out is = is ∙ out
 
--- what was put last stands in what was loaded, as its form
+-- what was put last is in what was loaded, as its form
 form_placed : (xs : List Tree) (t : Tree) → slice_get (forms (xs ++ t ∷ [])) (length xs) ≡ Some (form t)
 form_placed [] t = refl
 form_placed (x ∷ xs) t = form_placed xs t

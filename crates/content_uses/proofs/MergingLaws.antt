@@ -12,7 +12,7 @@ use Rattle.content_uses.specs.MergingLaws.{KeysFind}
 use Rattle.content_uses.proofs.Parts.{by_sort, other_right, merged_one, merged_other, parts_merged}
 use Rattle.content_uses.proofs.Parts.{sort_turned, sort_with, with_own}
 
--- the last value behind a key, or none
+-- the last value of a key, or none
 abbrev pub at : Tree → Pairs → Option Tree
 at k ps = last_value (λ j. same_tree j k) ps
 
@@ -96,7 +96,7 @@ field_finds (tree.structure m d) n fs = none_finds _ (λ x. refl) fs
 field_finds (tree.enumeration m i v d) n fs = none_finds _ (λ x. refl) fs
 field_finds (tree.tuple ts) n fs = none_finds _ (λ x. refl) fs
 
--- what a key finds stands among the parts
+-- what a key finds is among the parts
 part_finds : (k u t : Tree) → same_sort u t ≡ true → lookup k t ≡ at k (parts t)
 part_finds k u t =
     by_sort (λ s. same_sort u s ≡ true → lookup k s ≡ at k (parts s)) (λ ps e. refl)

@@ -1,8 +1,8 @@
--- What stands at the end of a list, and errors that are handed on.
+-- What is at the end of a list, and errors that are handed on.
 use Rattle.std.proofs.Common.{◌≡◌, ℕ, List, [], ◌∷◌, ◌++◌, length, Some, Result, Ok, Err, IfErr, IsErrAnd, slice_get, refl, ap, sym, subst, ◌∙◌}
 use Rattle.serde_content.specs.Names.Words.{Error, IsOutOfMemory}
 
--- what is put at the end stands under the old length
+-- what is put at the end is under the old length
 placed : {X : Type 0} (xs : List X) (t : X) → slice_get (xs ++ t ∷ []) (length xs) ≡ Some t
 placed [] t = refl
 placed (x ∷ xs) t = placed xs t

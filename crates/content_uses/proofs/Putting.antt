@@ -8,7 +8,7 @@ use Rattle.serde_content.specs.Names.Tree.{Pairs, no_pairs, pair_then}
 use Rattle.content_uses.specs.Merged.{has_key, is_last, put, merged, merged_pairs}
 use Rattle.content_uses.specs.Places.{place, places, value_at, with_value, keyed}
 
--- where the last pair of this key stands
+-- where the last pair of this key is
 abbrev pub known : Tree → Pairs → Option ℕ
 known k ps = if has_key k ps then Some (place k ps) else None
 
@@ -17,7 +17,7 @@ abbrev pub count : Pairs → ℕ
 count no_pairs = 0
 count (pair_then k t ps) = suc (count ps)
 
--- the last value behind a key, or none
+-- the last value of a key, or none
 abbrev at : Tree → Pairs → Option Tree
 at k ps = last_value (λ j. same_tree j k) ps
 

@@ -15,7 +15,7 @@ has_key k ps = is_some (last_value (λ j. same_tree j k) ps)
 abbrev pub is_last : (key of_pair : Tree) → (later : Pairs) → Bool
 is_last k j ps = not (has_key k ps) && same_tree j k
 
--- the last value behind the key changed; where there is none, the new one behind it at the end
+-- the last value of the key changed; where there is none, the key with the new one at the end
 abbrev pub put : (key new : Tree) (change : Tree → Tree) → Pairs → Pairs
 put k new change no_pairs = pair_then k new no_pairs
 put k new change (pair_then j t ps) =
@@ -60,7 +60,7 @@ abbrev mutual
       else structure n (named fs)
   merged u t = u
 
-  -- each pair of the first in turn: its value put over what stands behind its key in the second
+  -- each pair of the first in turn: its value put over that of its key in the second
   pub merged_pairs : (over base : Pairs) → Pairs
   merged_pairs no_pairs ps = ps
   merged_pairs (pair_then k u qs) ps = merged_pairs qs (put k u (merged u) ps)

@@ -16,17 +16,17 @@ EmptyChangesNothing = (over base : Tree) → same_sort over base ≡ true → pa
 abbrev pub OtherSortWins : Type 0
 OtherSortWins = (over base : Tree) → same_sort over base ≡ false → merged over base ≡ over
 
--- what stands behind a key once a value is put there
+-- the value of a key once a value is put there
 abbrev pub put_over : Tree → Option Tree → Option Tree
 put_over u None = Some u
 put_over u (Some t) = Some (merged u t)
 
--- what stands behind a key once each value behind it in these pairs is put there in turn
+-- the value of a key once each of its values in these pairs is put there in turn
 abbrev pub found_after : (key : Tree) → Pairs → Option Tree → Option Tree
 found_after k no_pairs o = o
 found_after k (pair_then j u qs) o = found_after k qs (if same_tree j k then put_over u o else o)
 
--- each key finds what it found in the base, with the values behind it put over that in turn
+-- each key finds what it found in the base, with its values put over that in turn
 abbrev pub KeysFind : Type 0
 KeysFind = (key over base : Tree) → same_sort over base ≡ true
     → lookup key (merged over base) ≡ found_after key (parts over) (lookup key base)
@@ -35,12 +35,12 @@ KeysFind = (key over base : Tree) → same_sort over base ≡ true
 abbrev pub one_pair : (key value : Tree) → Tree
 one_pair k t = map (pair_then k t no_pairs)
 
--- an example where no map stands between two maps: it matters which two are merged first
+-- an example with something that is no map between two maps: it matters which two are merged first
 abbrev pub OrderMatters : Type 0
 OrderMatters = merged (merged (one_pair unit unit) unit) (one_pair absent unit)
     ≡ merged (one_pair unit unit) (merged unit (one_pair absent unit)) → ⊥
 
--- and one where a struct of another name stands between two of one
+-- and one with a struct of another name between two of one
 abbrev pub NameMatters : Type 0
 NameMatters =
     let one_field : (name field : List ℕ) → Tree = λ name field.
@@ -50,16 +50,16 @@ NameMatters =
     let base : Tree = one_field (codes "a") (codes "y") in
     merged (merged over middle) base ≡ merged over (merged middle base) → ⊥
 
--- the last value behind a key
+-- the last value of a key
 abbrev pub part : (key : Tree) → Tree → Option Tree
 part k t = last_value (λ j. same_tree j k) (parts t)
 
--- what stands behind a path of keys
+-- the value at the end of a path of keys
 abbrev pub behind : (path : List Tree) → Tree → Option Tree
 behind [] t = Some t
 behind (k ∷ path) t = option_and_then (behind path) (part k t)
 
--- they are of one sort, and so is what stands behind each key of the path
+-- they are of one sort, and so are the values of each key of the path
 abbrev pub SameSortAlong : (path : List Tree) → Tree → Tree → Type 0
 SameSortAlong [] u t = same_sort u t ≡ true
 SameSortAlong (k ∷ path) u t = (same_sort u t ≡ true)
@@ -75,7 +75,7 @@ abbrev pub PairsOnce : Pairs → Type 0
 PairsOnce no_pairs = ⊤
 PairsOnce (pair_then k t ps) = (has_key k ps ≡ false) × PairsOnce ps
 
--- in what stands behind a path of keys no key stands twice
+-- in the value at the end of a path of keys no key is there twice
 abbrev pub KeysOnce : Tree → Type 0
 KeysOnce t = (path : List Tree) → IfSome (behind path t) (λ u. PairsOnce (parts u))
 
@@ -85,7 +85,7 @@ EitherWay = (over middle base : Tree) → KeysOnce over → KeysOnce middle
     → SortsBetween over middle base
     → merged (merged over middle) base ≡ merged over (merged middle base)
 
--- an example where a key stands twice in what is put over: it matters, with the other premises
+-- an example where a key is there twice in what is put over: it matters, with the other premises
 abbrev pub TwiceMatters : Type 0
 TwiceMatters =
     let empty : Tree = map no_pairs in
@@ -95,7 +95,7 @@ TwiceMatters =
     KeysOnce middle × SortsBetween over middle base
     × (merged (merged over middle) base ≡ merged over (merged middle base) → ⊥)
 
--- and one where a key stands twice in the middle
+-- and one where a key is there twice in the middle
 abbrev pub TwiceBetweenMatters : Type 0
 TwiceBetweenMatters =
     let empty : Tree = map no_pairs in

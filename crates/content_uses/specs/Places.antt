@@ -6,7 +6,7 @@ use Rattle.serde_content.specs.Names.Words.{Tree, tree_of, text_of, pairs_of, Na
 use Rattle.serde_content.specs.Names.Tree.{text, Pairs, no_pairs, pair_then}
 use Rattle.content_uses.specs.Merged.{is_last, put, merged}
 
--- pairs, whose keys stand for these trees
+-- pairs, whose keys have these trees
 abbrev pub keyed : {K : Type 0} → (K → Tree) → List (K × NamedValue) → Pairs
 keyed tree xs = pairs_of (map (λ p. (tree p.0, tree_of p.1)) xs)
 
@@ -14,7 +14,7 @@ keyed tree xs = pairs_of (map (λ p. (tree p.0, tree_of p.1)) xs)
 abbrev pub field_key : CowStr → Tree
 field_key name = text (text_of name)
 
--- where the last pair of this key stands, or after all of them
+-- where the last pair of this key is, or after all of them
 abbrev pub place : Tree → Pairs → ℕ
 place k no_pairs = 0
 place k (pair_then j t ps) = if is_last k j ps then 0 else suc (place k ps)

@@ -10,7 +10,7 @@ use Rattle.content_uses.specs.declared.store.Store.{Store}
 abbrev pub records_of : Store → List Tree
 records_of s = map tree_of s.records.items
 
--- at the end, under the next number, stands the tree that the script's calls spell
+-- at the end, under the next number, is the tree that the script's calls spell
 abbrev pub IsPut : Script → (old new : List Tree) → ℕ → Type 0
 IsPut script old new number =
     (t : Tree) × (stop_of script ≡ None) × SpellsWhole (calls_of script) t
@@ -21,7 +21,7 @@ abbrev pub IsRefusalOf : Script → Error → Type 0
 IsRefusalOf script e = IsOutOfMemory e
     ⊎ ((message : List ℕ) × (stop_of script ≡ Some message) × IsCustomOrMemory message (kind_of e))
 
--- that tree stands at the end
+-- that tree is at the end
 abbrev pub IsLast : Script → (old new : List Tree) → Type 0
 IsLast script old new = IsPut script old new (length old)
 

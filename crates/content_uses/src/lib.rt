@@ -1,4 +1,18 @@
-//! What such a container is for, each use a module over the facade.
+//! Keeps records of any type, and merges configurations, as values of `serde_content`.
+//!
+//! ```rust
+//! let mut store = Store::new(alloc);
+//! let first = store.put(alloc, &Point { x: 1, y: 2 })?;
+//! let second = store.put(alloc, &Some(7u8))?;
+//! let point: Point = store.get(alloc, first)?;
+//! assert!(rt; point == Point { x: 1, y: 2 });
+//! ```
+//!
+//! | To | Use |
+//! |---|---|
+//! | keep, save and load records | [`store`], [`LoadError`] |
+//! | put one configuration over another | [`merging`] |
+//! | prove something of saved records | [`saving`] |
 #![tactic(auto)]
 
 mod load_error;

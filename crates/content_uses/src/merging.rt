@@ -1,4 +1,4 @@
-//! Configurations, one put over another.
+//! Merges configurations: puts one over another.
 
 ghost use Rattle.std.specs.Prelude.{◌≡◌, ◌<◌, Some, false, refl, IfOk, IfErr, IsOk, length};
 ghost use Rattle.content_tree.specs.Values.Cases.{struct_name};
@@ -27,7 +27,7 @@ type Field<'a, 'n> = (CowStr<'n>, NamedValue<'a, 'n>);
 
 /// A key of a map, or the name of a field.
 trait Key: Ord + Drop {
-    /// The tree that it stands for.
+    /// Its tree.
     ghost tree: { Self → Tree };
 
     /// Keys go as their trees do.
@@ -46,11 +46,11 @@ impl<'n> Key for CowStr<'n> {
     ghost as_trees = { λ a b. refl };
 }
 
-/// `over` put over `base`: maps key by key, and structs of one name that have a list of fields
-/// field by field, deeply; anything else whole, a variant too. The base's keys stay in their order,
-/// and new ones follow in that of `over`. Of equal keys in the base the last takes the value, which
-/// is the one that [`get`](NamedValue::get) finds; equal keys in `over` are put there in turn. It
-/// is the same with fields.
+/// Merges `over` into `base`: maps key by key, and structs of one name that have a list of fields
+/// field by field, deeply; anything else is replaced whole, a variant too. The base's keys stay in
+/// their order, and new ones follow in that of `over`. Of equal keys in the base the last takes the
+/// value, which is the one that [`get`](NamedValue::get) finds; equal keys in `over` are put there
+/// in turn. It is the same with fields.
 ///
 /// It makes n log n comparisons of keys, and copies none. Where nothing is merged, it takes no
 /// memory.
@@ -95,7 +95,7 @@ fn put_over<'a, 'n>(
     }
 }
 
-/// A map put over a value. (It stands outside `put_over`, as does `merge_struct`: so a level of one
+/// A map put over a value. (It isn't a part of `put_over`, nor is `merge_struct`: so a level of one
 /// takes no stack for the other.)
 #[cycle(put_over)]
 #[inline(never)]
@@ -188,7 +188,7 @@ fn merge_pairs<'a, 'n>(
 }
 
 /// The fields of one struct put over those of another. (The functions of a cycle have the same type
-/// parameters: so the loop of `merge_pairs` stands here again.)
+/// parameters: so the loop of `merge_pairs` is here again.)
 #[cycle(put_over)]
 fn merge_fields<'a, 'n>(
     alloc: Global,
@@ -274,7 +274,7 @@ fn places<'a, 'n, K: Key>(
     Ok(places)
 }
 
-/// Puts this value at this place, whose key stays; what stood there.
+/// Puts this value at this place, whose key stays; gives what was there.
 #[inline(never)]
 fn replace_value<'a, 'n, K: Key>(
     pairs: &mut Vec<(K, NamedValue<'a, 'n>)>,
@@ -312,12 +312,12 @@ fn set_value<'a, 'n, K: Key>(
 /// over; what is of another sort wins whole; each key finds what its values, put over one another,
 /// come to.
 ///
-/// Of three values it doesn't matter which two are merged first, under two premises: in neither of
-/// the two that are put over has any map or struct, however deep, one key twice, and where both
-/// outer ones are of one sort along a path of keys, the middle one is too, or has nothing there.
-/// Otherwise it may matter, as an example of each shows: one has something that is no map between
-/// two maps, one a struct of another name between two of one, the others a key that stands twice,
-/// in what is put over or in the middle.
+/// Of three values it doesn't matter which two are merged first, under two premises: no map or
+/// struct in the two that are put over, however deep, has a key twice, and where both outer ones
+/// are of one sort along a path of keys, the middle one is too, or has nothing there. Otherwise it
+/// may matter, as an example of each shows: something that is no map between two maps; a struct of
+/// another name between two of one; a key that is there twice, in what is put over or in the
+/// middle.
 pub fn merging_laws()
     ensures empty { EmptyChangesNothing }
     ensures whole { OtherSortWins }

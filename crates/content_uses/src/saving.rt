@@ -19,7 +19,7 @@ pub fn saved_again()
     forms_stay();
 }
 
-/// The bytes that a store is saved as, and those of what is then loaded and saved again: the same.
+/// Saves a store, loads it and saves that: both times the same bytes.
 ///
 /// # Errors
 ///
@@ -53,9 +53,9 @@ pub fn save_twice<'v, 'n: 'v>(
     }
 }
 
-/// What is put, saved with its store, loaded and got is equal to what was put, at any type whose
-/// values come back from CBOR. `bytes` is room for what is saved, which replaces what it held.
-/// Where it fails it may have been put.
+/// Puts a value, saves and loads its store, and gets it: what comes is equal to what was put, at
+/// any type whose values come back from CBOR. `bytes` is room for what is saved, which replaces
+/// what it held. Where it fails it may have been put.
 ///
 /// # Errors
 ///

@@ -16,7 +16,7 @@ use serde_content::{Deserializer, Error, NamedValue, Result, RoundTrip, from_val
 use std::alloc::Global;
 use std::result::Result as StdResult;
 
-/// Records, numbered from 0 in the order in which they were put.
+/// Keeps records of any type, numbered from 0 in the order in which they were put.
 ///
 /// ```rust
 /// let mut store = Store::new(alloc);
@@ -45,7 +45,7 @@ impl<'v, 'n: 'v> Store<'v, 'n> {
     ghost use Rattle.content_cbor.specs.Form.{CodesForm, EachFits};
     ghost use Rattle.content_cbor.specs.Item.{item};
 
-    /// No records. It takes no memory.
+    /// A store of no records. It takes no memory.
     pub fn new(alloc: Global) -> Store<'v, 'n>
         ensures { records_of result ≡ [] }
     {
@@ -61,7 +61,7 @@ impl<'v, 'n: 'v> Store<'v, 'n> {
         self.records.len()
     }
 
-    /// Puts a record at the end; its number. Where it fails the store is unchanged.
+    /// Puts a record at the end, and gives its number. Where it fails the store is unchanged.
     ///
     /// # Errors
     ///
@@ -80,8 +80,8 @@ impl<'v, 'n: 'v> Store<'v, 'n> {
         Ok(number)
     }
 
-    /// The record of this number, of which a copy is read as a type. What the type doesn't take is
-    /// refused with what was found and what was expected; names of types aren't compared.
+    /// Reads a copy of the record of this number as a type. What the type doesn't take is refused
+    /// with what was found and what was expected; names of types aren't compared.
     ///
     /// # Errors
     ///
@@ -96,8 +96,8 @@ impl<'v, 'n: 'v> Store<'v, 'n> {
         Deserializer::new(copy).deserialize(alloc)
     }
 
-    /// The same, where a number of another kind is taken too if it lies in the range of the kind:
-    /// so records are read that were loaded.
+    /// Reads the record as [`view`](Store::view) does, and takes numbers of another kind too if
+    /// they are in range: so records are read that were loaded.
     ///
     /// # Errors
     ///
@@ -111,8 +111,8 @@ impl<'v, 'n: 'v> Store<'v, 'n> {
         Deserializer::new(copy).coerce_numbers().deserialize(alloc)
     }
 
-    /// The record of this number, which was put as this type: an equal one. Of a store that was
-    /// loaded, [`get_loaded`](Store::get_loaded).
+    /// Gets the record of this number, which was put as this type: an equal one. Of a store that
+    /// was loaded, [`get_loaded`](Store::get_loaded).
     ///
     /// # Errors
     ///
@@ -134,8 +134,8 @@ impl<'v, 'n: 'v> Store<'v, 'n> {
         from_value(alloc, copy, false)
     }
 
-    /// The record of this number, which was put as this type, before the store was saved or since
-    /// it was loaded: an equal one.
+    /// Gets the record of this number, which was put as this type, before the store was saved or
+    /// since it was loaded: an equal one.
     ///
     /// # Errors
     ///
@@ -156,7 +156,7 @@ impl<'v, 'n: 'v> Store<'v, 'n> {
         self.view_coerced(alloc, number)
     }
 
-    /// The records as one array of CBOR, in order. It takes memory for the bytes alone.
+    /// Encodes the records as one array of CBOR, in order. It takes memory for the bytes alone.
     ///
     /// # Errors
     ///
@@ -193,10 +193,11 @@ impl<'v> Store<'v, 'static> {
     ghost use Rattle.content_cbor.specs.Form.{CodesForm, depth, form};
     ghost use Rattle.content_uses.specs.Saved.{array_of, forms, IsLoadedAs, StopsLoading};
 
-    /// The records that one array of CBOR codes, in order, as [`decode`] reads each.
+    /// Makes a store of the records that one array of CBOR codes, in order, as [`decode`] reads
+    /// each.
     ///
-    /// `depth_limit` bounds how deep items stand in one another, and so the stack that is taken;
-    /// the array's own depth is 1. Texts and bytes of a known length are borrowed from the bytes.
+    /// `depth_limit` bounds how deep items nest, and so the stack that is taken; the array's own
+    /// depth is 1. Texts and bytes of a known length are borrowed from the bytes.
     ///
     /// # Errors
     ///
@@ -233,8 +234,8 @@ fn into_items<'v, 'n>(value: NamedValue<'v, 'n>) -> Option<Vec<NamedValue<'v, 'n
     }
 }
 
-/// What is put and then got is equal to what was put, at any type whose values come back. Where it
-/// fails it may have been put.
+/// Puts a value and gets it: what comes is equal to what was put, at any type whose values come
+/// back. Where it fails it may have been put.
 pub fn put_and_get<'v, 'n: 'v, T: RoundTrip<'v>>(
     alloc: Global,
     store: &mut Store<'v, 'n>,

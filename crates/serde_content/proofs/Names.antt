@@ -1,4 +1,4 @@
--- Lemmas that the facade passes on, for proofs of crates that stand on it alone.
+-- Lemmas that the facade passes on, for proofs of crates that use it alone.
 pub use Rattle.content_tree.proofs.Owning.{nothing_left}
 pub use Rattle.content_tree.proofs.SameTree.{trees_tie}
 pub use Rattle.content_tree.specs.Laws.RankedTree.{tree_equiv}

@@ -1,4 +1,4 @@
--- A script that tells whether the serialiser is for people to read.
+-- A script that tells whether the serialiser is human readable.
 use Rattle.std.proofs.Common.{◌≡◌, Bool, subst}
 use Rattle.content_ser.specs.Calls.Event.{boolean}
 use Rattle.content_ser.specs.Serializers.Step.{Seen, Step, RefusalRule, Answer, Takes}

@@ -18,13 +18,13 @@ prefix_len-map p f (x ∷ xs) = ap (λ n. cond (p (f x)) (1 + n) 0) (prefix_len-
 within : ℕ → ℕ → Option ℕ
 within place len = cond (nat_lt place len) (Some place) None
 
--- the first that passes stands at the same place
+-- the first that passes is at the same place
 position-map : {A B : Type 0} (p : B → Bool) (f : A → B) (xs : List A) → position p (map f xs) ≡ position (λ x. p (f x)) xs
 unfolding within
 position-map p f xs = ap (λ place. within place (length (map f xs))) (prefix_len-map (λ x. not (p x)) f xs)
     ∙ ap (within (position_or_len (λ x. p (f x)) xs)) (length-map xs f)
 
--- names are found behind references as they are without
+-- names are found through references as they are without
 pub index_among_lent : (tag : List ℕ) (names : List (Bor (List ℕ))) → position (λ name. bytes_eq tag name.now) names ≡ index_among (map (λ name. name.now) names) tag
 unfolding index_among
 index_among_lent tag names = sym (position-map (bytes_eq tag) (λ name. name.now) names)

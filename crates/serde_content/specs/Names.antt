@@ -1,4 +1,4 @@
--- Names of the crates below that the facade passes on, for crates that stand on it alone.
+-- Names of the crates below that the facade passes on, for crates that use it alone.
 pub mod Words
 pub mod Event
 pub mod ErrorKind

@@ -48,8 +48,8 @@ pub enum OneOfFour<A, B, C, D> {
     Fourth(D),
 }
 
-/// A value of the first of two types that isn't refused, each tried on a copy of what is there, in a
-/// [buffer](Deserializer::buffered); for an untagged enum of a caller's own.
+/// Reads the first of two types that isn't refused, each tried on a
+/// [buffered](Deserializer::buffered) copy of what is there; for an untagged enum of your own.
 ///
 /// # Errors
 ///
@@ -74,9 +74,9 @@ pub fn first_of_two<'de, 'n: 'de, A: Deserialize<'de>, B: Deserialize<'de>>(
     Err(Error::custom(alloc, none))
 }
 
-/// What comes back of two types that are tried one after another: what was sent of the first as an
-/// equal value of the first, and what was sent of the second as one of the second, where the first
-/// refuses it.
+/// The law of two types that are tried one after another: what was sent of the first comes back as
+/// an equal value of the first, and what was sent of the second as one of the second, where the
+/// first refuses it.
 pub fn tried_in_order<'de, A: RoundTrip<'de>, B: RoundTrip<'de>>()
     ensures first { FirstComesBack A.exists A.script A.refusal A.gives A.eq B.refusal B.gives }
     ensures second { SecondComesBack A.refusal A.gives B.exists B.script B.refusal B.gives B.eq }

@@ -1,4 +1,4 @@
-//! Reading: what a value is read by, and what can be read.
+//! What reading needs: types that can be read, the parts of values, fields by name, variants.
 
 pub use content_de::{
     Deserialize, EnumAccess, FieldsByName, IntoDeserializer, Map, Node, Seq, VariantAccess,

@@ -1,12 +1,12 @@
 //! Values written as literals.
 
-/// The value that a literal spells. Braces make a `Map` of their entries, in the order written, and
+/// Makes a value of a literal. Braces make a `Map` of their entries, in the order written, and
 /// square brackets a `Seq`; `()` is the unit, and any other expression what `Value::from` makes of
 /// it, as each key is. A block or an array that is meant as an expression goes into parentheses.
 ///
 /// It gives a `Result<Value<'_>>`. Each list or map that isn't empty takes one allocation, and
 /// nothing else takes memory; texts are borrowed where `Value::from` borrows them. What it makes is
-/// proved as a part of the function that it stands in, which knows the whole tree.
+/// proved as a part of the function that it is in, which knows the whole tree.
 ///
 /// A list or a map may have any length where each key and each item is one token, or one group in
 /// brackets, and else about thirty entries.

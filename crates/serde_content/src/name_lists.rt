@@ -41,8 +41,8 @@ fn position_of(tag: &str, names: &[&str]) -> Option<usize>
     names.iter().position(|name| tag == *name)
 }
 
-/// The index of the tag among the names of an enum's variants, which differ; none where it is none
-/// of them. It takes no memory.
+/// Finds the index of the tag among the names of an enum's variants, which differ; none where it is
+/// none of them. It takes no memory.
 ///
 /// ```rust
 /// match variant_index(tag, &VariantsOfShape) {
@@ -57,7 +57,7 @@ pub fn variant_index<K: Names>(tag: &str, _names: &K) -> Option<usize>
     position_of(tag, K::names())
 }
 
-/// The error of a tag that is none of these names, as [`unknown_variant`] makes it.
+/// Makes the error of a tag that is none of these names, as [`unknown_variant`] does.
 pub fn no_such_variant<K: Names>(alloc: Global, tag: &str, _names: &K) -> Error
     ensures { cause result ≢ out_of_memory → cause result ≡ unknown_variant tag.now K.names }
 {

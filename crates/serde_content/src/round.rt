@@ -20,12 +20,11 @@ mod map;
 mod standard;
 mod tuple;
 
-/// A type whose values come back: each is sent without a stop, and what it is sent as is read again
-/// as an equal value.
+/// A type whose values come back equal: each is sent without a stop, and what it is sent as is read
+/// again as an equal value.
 ///
-/// The tree that a value's calls spell has owned texts and bytes and static names. It is read for
-/// people where the value was sent for people, with numbers coerced or not. [`round_trip`] does
-/// both.
+/// The tree that a value's calls spell has owned texts and bytes and static names. It is read as
+/// human readable where it was sent so, with numbers coerced or not. [`round_trip`] does both.
 pub trait RoundTrip<'de>: Eq + Serialize + Deserialize<'de> {
     /// Holds of each value of the type. Of most types all that contracts can name are values. What
     /// they see of a `BTreeMap` is a list of entries, and a map is one whose keys ascend.
@@ -44,8 +43,8 @@ pub trait RoundTrip<'de>: Eq + Serialize + Deserialize<'de> {
     ghost keeps: { CoercionKeeps Self.refusal Self.gives };
 }
 
-/// A value that is sent and read again, with the same flag for people; numbers are coerced where
-/// the last flag says so. What comes is equal to the value.
+/// Sends a value and reads it again: what comes is equal to it. Both are human readable where the
+/// first flag says so; numbers are coerced where the last does.
 ///
 /// # Errors
 ///

@@ -1,5 +1,5 @@
-//! A struct and an enum as a caller has them, which go out as calls and are read back. They show
-//! how a type of your own is made so; nothing else in the library uses them.
+//! A struct and an enum that are sent and read, as examples for types of your own. Nothing else in
+//! the library uses them.
 
 mod point;
 mod shape;

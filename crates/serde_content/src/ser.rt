@@ -1,4 +1,4 @@
-//! Serialising: calls, what takes them, and what makes them.
+//! What sends and takes calls: serialisers, types that can be sent, calls as data.
 
 pub use content_build::{
     Builder, CallsError, Recorder, from_calls, from_calls_prefix, from_calls_within,

@@ -16,10 +16,10 @@ use content_ser::Serialize;
 use content_tree::{NamedValue, Result};
 use std::alloc::Global;
 
-/// The tree that the value's calls spell, written for people or not, at any lifetimes: what
-/// [`Serializer::serialize`](crate::Serializer::serialize) answers without a limit.
-/// A generic function that reads what it sends needs that, as `Value<'static>` isn't shortened, and
-/// one that keeps it needs both.
+/// Makes the tree that the value's calls spell, human readable or not, at any lifetimes: what
+/// [`Serializer::serialize`](crate::Serializer::serialize) answers without a limit. A generic
+/// function that reads what it sends needs that, as `Value<'static>` isn't shortened, and one that
+/// keeps it needs both.
 ///
 /// # Errors
 ///
@@ -36,12 +36,12 @@ pub fn to_value<'v, 'n, T: Serialize>(
     builder.finish_named()
 }
 
-/// The value read as a type, for people or not. Where it is what was sent of the type, an equal
-/// one comes back.
+/// Reads the value as a type, human readable or not. Where it was made of a value of the type, an
+/// equal one comes back.
 ///
 /// # Errors
 ///
-/// That of the type's first refusal, which what was sent of it hasn't; out of memory.
+/// That of the type's first refusal, which what was made of it hasn't; out of memory.
 ///
 /// ```rust
 /// let value = to_value(alloc, &Some(7u8), false)?;

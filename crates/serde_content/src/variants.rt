@@ -1,5 +1,5 @@
 //! The variants of an enum, for what `tools/derive` writes: an enum tells how it reads the variant
-//! that a tag names, and what stands around that is read here.
+//! that a tag names, and what is around that is read here.
 
 ghost use Rattle.std.specs.Prelude.{◌≡◌, ℕ, List, Option};
 ghost use Rattle.content_tree.specs.Errors.Cause.{Cause};
@@ -45,7 +45,7 @@ pub trait Variants<'de>: Sized {
             (λ y. VariantGives (named y) (held y) tag.now (variant_view variant.entry)) result };
 }
 
-/// An enum of which a field names the variant, beside others.
+/// An enum with a field that names the variant, next to others.
 pub trait TaggedVariants<'de>: Sized {
     /// Its name.
     ghost name: { List ℕ };
@@ -76,7 +76,7 @@ pub trait TaggedVariants<'de>: Sized {
             (λ y. VariantGives (named y) (held y) tag.now (fields_left fields.entry)) result };
 }
 
-/// An enum that is tagged externally: its tag, and then the variant that it names.
+/// Reads an enum that is tagged externally: its tag, and then the variant that it names.
 ///
 /// # Errors
 ///
@@ -93,7 +93,7 @@ pub fn read_enum<'de, 'n: 'de, T: Variants<'de>>(
     T::read_variant(alloc, tag.as_str(), variant)
 }
 
-/// The tag of an enum that is tagged internally, wherever it stands, and then the variant.
+/// The tag of an enum that is tagged internally, wherever it is, and then the variant.
 fn read_tagged_by<'de, 'n: 'de, T: TaggedVariants<'de>>(
     alloc: Global,
     mut fields: FieldsByName<'de, 'n>,
@@ -117,7 +117,7 @@ fn read_tagged_fields<'de, 'n: 'de, T: TaggedVariants<'de>>(
     read_tagged_by(alloc, fields, T::tag())
 }
 
-/// An enum that is tagged internally: the tag, wherever it stands, and then the variant that it
+/// Reads an enum that is tagged internally: the tag, wherever it is, and then the variant that it
 /// names, out of a [buffer](Deserializer::buffered).
 ///
 /// # Errors
@@ -138,7 +138,7 @@ pub fn read_tagged<'de, 'n: 'de, T: TaggedVariants<'de>>(
     read_tagged_fields(alloc, fields)
 }
 
-/// The tag of an enum that is tagged adjacently, wherever it stands, and then the variant.
+/// The tag of an enum that is tagged adjacently, wherever it is, and then the variant.
 fn read_adjacent_by<'de, 'n: 'de, T: TaggedVariants<'de>>(
     alloc: Global,
     mut fields: FieldsByName<'de, 'n>,
@@ -162,7 +162,7 @@ fn read_adjacent_fields<'de, 'n: 'de, T: TaggedVariants<'de>>(
     read_adjacent_by(alloc, fields, T::tag())
 }
 
-/// An enum that is tagged adjacently: the tag, wherever it stands, and then the variant that it
+/// Reads an enum that is tagged adjacently: the tag, wherever it is, and then the variant that it
 /// names.
 ///
 /// # Errors

@@ -1,4 +1,4 @@
-//! Fields taken by name, wherever they stand, and what they leave.
+//! Fields taken by name, in any order, and what they leave.
 
 use serde_content::de::{
     FieldsByName, attempt, end_fields, field_or, named_field, skip_fields, tag_field,

@@ -1,4 +1,4 @@
-//! A type that sends whether the serialiser is for people to read.
+//! A type that sends whether the serialiser is human readable.
 
 ghost use Rattle.content_ser.specs.Calls.Event.{boolean};
 ghost use Rattle.content_ser.specs.Scripts.Script.{call_then, done};
@@ -10,7 +10,7 @@ use serde_content::{Result as Answer, Serializer, Value};
 use std::alloc::Global;
 use std::test::Fail;
 
-/// What sends whether the serialiser is for people to read.
+/// Sends whether the serialiser is human readable.
 struct ForPeople;
 
 impl Serialize for ForPeople {

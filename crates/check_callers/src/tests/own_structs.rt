@@ -1,4 +1,4 @@
-//! Structs of the other sorts, of a caller's own, read back.
+//! Structs of the other sorts, as a caller writes them, read back.
 
 ghost use Rattle.std.specs.Prelude.{codes, ⊤};
 ghost use Rattle.content_de.specs.Reads.Own.{unit_struct_refusal};

@@ -9,8 +9,8 @@ use std::test::Fail;
 fn the_readme_is_right(rt: HostRuntime) -> Result<(), Fail> {
     let alloc = rt.alloc();
 
-    // What can be serialised becomes a value, which prints, lends what stands in it, and is read
-    // again as typed data.
+    // What can be serialised becomes a value, which prints, can be looked into, and is read again
+    // as typed data.
     let value = Serializer::new().serialize(alloc, &Point { x: 1, y: 2 })?;
     let text = format!(in alloc; "{}", value.display())?;
     assert!(rt; text.as_str() == "Point { x: 1i32, y: 2i32 }");

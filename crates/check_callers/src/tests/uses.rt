@@ -1,4 +1,4 @@
-//! The uses, run.
+//! Records and configurations: the examples of the pages, and cases that they don't show.
 
 use content_uses::merging::merge;
 use content_uses::saving::{put_and_reload, save_twice};

@@ -21,7 +21,7 @@ pub fn ask(out: &mut Answer, pieces: &mut Pieces<'_>) -> Result<()> {
     write_parts(out, flags, request, from)
 }
 
-/// Adds the answer to a request, of one for what stands inside here.
+/// Adds the answer to a request, here of one for parts.
 fn write_parts(
     out: &mut Answer,
     flags: Flags,

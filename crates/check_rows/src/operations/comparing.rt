@@ -104,7 +104,7 @@ pub fn errors(out: &mut Answer, pieces: &mut Pieces<'_>) {
     compare(out, &left, &right)
 }
 
-/// The serialiser that is named, with a limit where one stands behind it in brackets.
+/// The serialiser that is named, with a limit where one follows in brackets.
 fn read_serializer(pieces: &mut Pieces<'_>) -> Serializer {
     let serializer = match take_word(pieces) {
         "new" => Serializer::new(),
@@ -153,8 +153,8 @@ fn lawful_order<'a>(
     order.filter(|order| *order == by_law)
 }
 
-/// Whether two calls are equal, of which the second is also lent: `true`, `false`, or that `==` and
-/// the law contradict each other.
+/// Whether two calls are equal, of which the second is also borrowed: `true`, `false`, or that `==`
+/// and the law contradict each other.
 pub fn calls(out: &mut Answer, columns: &mut Cursor<'_, u8>) {
     let left = read_calls(columns);
     let right = read_calls(columns);

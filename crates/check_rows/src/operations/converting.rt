@@ -70,12 +70,12 @@ pub fn number_from(out: &mut Answer, pieces: &mut Pieces<'_>) {
     }
 }
 
-/// Whether a text or bytes say that they are borrowed, and what they hold, lent.
+/// Whether a text or bytes say that they are borrowed, and what they hold, borrowed.
 pub fn borrowed(out: &mut Answer, pieces: &mut Pieces<'_>) {
     write_case(out, &read_tree(pieces));
 }
 
-/// Adds whether a text or bytes say that they are borrowed, and what they hold, lent.
+/// Adds whether a text or bytes say that they are borrowed, and what they hold, borrowed.
 fn write_case(out: &mut Answer, value: &Value<'_>) {
     let (borrowed, lent) = match value {
         Value::String(text) => (text.is_borrowed(), Value::from(text.as_str())),

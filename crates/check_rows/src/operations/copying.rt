@@ -154,7 +154,7 @@ fn write_held_call(out: &mut Answer, call: Result<Call<'_>>) -> Result<()> {
     Ok(())
 }
 
-/// Of each call: a copy, a copy of it lent, and it lent and then owned.
+/// Of each call: a copy, a copy of it borrowed, and it borrowed and then owned.
 pub fn calls(out: &mut Answer, columns: &mut Cursor<'_, u8>) -> Result<()> {
     let alloc = out.alloc();
     let calls = read_calls(columns);

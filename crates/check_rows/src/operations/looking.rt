@@ -1,4 +1,4 @@
-//! What stands in a value, and behind a key of it.
+//! What a value contains, and what is found by a key.
 
 use crate::answer::Answer;
 use crate::failure::Failure;
@@ -7,14 +7,14 @@ use crate::show::{write_items, write_pairs, write_tree, write_whole};
 use crate::tree::read_tree;
 use serde_content::{NamedValue, Value};
 
-/// The value behind a key.
+/// The value of a key.
 pub fn get(out: &mut Answer, pieces: &mut Pieces<'_>) {
     let key = read_tree(pieces);
     let value = read_tree(pieces);
     write_lent(out, value.get(&key));
 }
 
-/// The value behind a text.
+/// The value of a text as key.
 pub fn get_str(out: &mut Answer, pieces: &mut Pieces<'_>) {
     let Value::String(key) = read_tree(pieces) else {
         return out.fail(Failure::NoRow);
@@ -23,13 +23,13 @@ pub fn get_str(out: &mut Answer, pieces: &mut Pieces<'_>) {
     write_lent(out, value.get_str(key.as_str()));
 }
 
-/// What stands right inside, by the type that is named.
+/// What a value contains, by the type that is named.
 pub fn lend(out: &mut Answer, pieces: &mut Pieces<'_>) {
     let typ = take_word(pieces);
     write_inside(out, typ, &read_tree(pieces));
 }
 
-/// Adds what stands right inside a value, as this type.
+/// Adds what a value contains, as this type.
 fn write_inside(out: &mut Answer, typ: &str, value: &Value<'_>) {
     match typ {
         "seq" => match value.as_seq() {
@@ -61,7 +61,7 @@ fn write_leaf<'a, T: Into<Value<'a>> + Drop>(out: &mut Answer, leaf: Option<T>) 
     }
 }
 
-/// Adds a value that is lent, or that there is none.
+/// Adds a value that is borrowed, or that there is none.
 fn write_lent(out: &mut Answer, value: Option<&NamedValue<'_, '_>>) {
     match value {
         Some(value) => write_tree(out, value),

@@ -194,7 +194,7 @@ slot_wait (partial.entry_key prs) = entry_key
 slot_wait (partial.entry_value prs k) = entry_value
 slot_wait (partial.field_value h fs k) = field
 
--- how many cells stand before the last value, beyond those before the pairs; 0 where there is none
+-- how many cells come before the last value, beyond those before the pairs; 0 where there is none
 abbrev pub last_value : ℕ → Pairs → ℕ
 last_value before no_pairs = 0
 last_value before (pair_then k v no_pairs) = before + length (flat k)
@@ -244,10 +244,10 @@ with_size [] i n = []
 with_size (cell label m ∷ cs) zero n = cell label n ∷ cs
 with_size (c ∷ cs) (suc i) n = c ∷ with_size cs i n
 
--- the tape and its openings stand for slots that wait, with a finished tree behind them
+-- the tape and its openings represent slots that wait, with a finished tree after them
 abbrev pub Waiting : List Cell → List Open → List Slot → Tree → Type 0
 Waiting cs os ps t = (cs ≡ slots_cells ps ++ flat t) × (os ≡ slots_opens ps)
 
--- the tape and its openings stand for the partial tree
+-- the tape and its openings represent the partial tree
 abbrev pub Stood : List Cell → List Open → Partial → Type 0
 Stood cs os s = (cs ≡ cells s) × (os ≡ opens s)

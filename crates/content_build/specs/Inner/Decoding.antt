@@ -32,7 +32,7 @@ all_pairs [] = no_pairs
 all_pairs (g ∷ []) = no_pairs
 all_pairs (grown k t n ∷ grown l u o ∷ f) = pair_then t u (all_pairs f)
 
--- what stands behind the pairs
+-- what comes after the pairs
 abbrev pub odd_one : List Grown → Tree
 odd_one [] = tree.unit
 odd_one (grown k t n ∷ []) = t
@@ -55,7 +55,7 @@ abbrev pub head_at : Cell → Head
 head_at (cell (headed sort names) n) = head_from names
 head_at c = calls.of_struct []
 
--- what stands around one child
+-- what holds one child
 abbrev pub wrap_at : Cell → Wrap
 wrap_at (cell (headed sort names) n) = token.in_head (head_from names)
 wrap_at c = token.in_some
@@ -66,7 +66,7 @@ series_at (cell (headed sort names) n) = token.series_head (head_from names)
 series_at (cell tuple n) = token.series_tuple
 series_at c = token.series_seq
 
--- the slot of an opening that waits for this, with what stands inside it
+-- the slot of an opening that waits for this, with what is inside it
 abbrev pub slot_of : Wait → Cell → List Cell → Slot
 slot_of child c inside = partial.child (wrap_at c)
 slot_of (item m) c inside = partial.element (series_at c) (all_trees (read inside []))

@@ -1,4 +1,4 @@
--- The cells and openings that a tape in memory stands for.
+-- The cells and openings that a tape in memory represents.
 use Rattle.std.specs.Prelude.{List, map, reverse, string_bytes}
 use Rattle.content_tree.specs.Values.Text.{owned_text, static_name}
 use Rattle.content_tree.specs.declared.number.Number.TheVariants as num

@@ -1,4 +1,4 @@
--- What a tape in memory stands for, and when it does.
+-- What a tape in memory represents, and when it does.
 use Rattle.std.specs.Prelude.{◌≡◌, List, Bool, true, false, Option, Some, None}
 use Rattle.std.specs.Coded.{Coded-set, code_by, coded_bool, ×_prop, Unit-prop}
 use Rattle.std.proofs.Math.Nat.{ℕ_set}
@@ -21,19 +21,19 @@ use Rattle.content_build.specs.declared.frame.Opening.{Opening}
 abbrev pub meaning : List Frame → List Opening → Partial
 meaning es hs = decode (cells_of es) (opens_view hs)
 
--- they stand for the partial tree
+-- they represent the partial tree
 abbrev pub Stands : List Frame → List Opening → Partial → Type 0
 Stands es hs s = Stood (cells_of es) (opens_view hs) s
 
--- they stand for slots that wait, with a finished tree behind them
+-- they represent slots that wait, with a finished tree after them
 abbrev pub IsWaiting : List Frame → List Opening → List Slot → Tree → Type 0
 IsWaiting es hs ps t = Waiting (cells_of es) (opens_view hs) ps t
 
--- they stand for what they are read as
+-- they represent what they are read as
 abbrev pub IsSound : List Frame → List Opening → Type 0
 IsSound es hs = Stands es hs (meaning es hs)
 
--- a call was refused, or they stand for what they are read as
+-- a call was refused, or they represent what they are read as
 abbrev pub IsKept : Bool → List Frame → List Opening → Type 0
 IsKept true es hs = Unit {0}
 IsKept false es hs = IsSound es hs

@@ -19,7 +19,7 @@ IsErrorOf refusal.Misplaced e = kind_of e ≡ Misplaced
 IsErrorOf refusal.Failed e = kind_of e ≡ Failed
 IsErrorOf refusal.NoMemory e = IsOutOfMemory e
 
--- what a call answers that leads to this, and what the tape stands for then
+-- what a call answers that leads to this, and what the tape represents then
 abbrev pub TakenTo : Option Partial → Result (Unit {0}) Refusal → List Frame → List Opening → Type 0
 TakenTo None (Ok u) es hs = ⊥
 TakenTo None (Err e) es hs = e ≡ refusal.Misplaced

@@ -1,4 +1,4 @@
--- The partial tree that a tape stands for.
+-- The partial tree that a tape represents.
 use Rattle.std.specs.Prelude.{Option}
 use Rattle.content_build.specs.Partial.{Partial}
 use Rattle.content_build.specs.Inner.Sound.{viewed}

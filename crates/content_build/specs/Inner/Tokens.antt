@@ -1,4 +1,4 @@
--- What the builder's private words for calls stand for.
+-- What the builder's private words for calls mean.
 use Rattle.content_tree.specs.Values.Text.{owned_text}
 use Rattle.content_tree.specs.Values.Tree as tree
 use Rattle.content_tree.specs.Values.Tree.{Tree}
@@ -26,7 +26,7 @@ leaf_tree (leaf.Bytes t) = tree.octets (owned_text t.now)
 leaf_tree leaf.Absent = tree.absent
 leaf_tree (leaf.Head h) = headed (head_of h) tree.no_data
 
--- what stands around one child
+-- what holds one child
 abbrev pub wrap_view : Wrap → token.Wrap
 wrap_view wrap.Present = token.in_some
 wrap_view (wrap.Head h) = token.in_head (head_of h)

@@ -52,7 +52,7 @@ PassesFirst test (e ∷ es) = test e.0 ≡ true
 abbrev pub field_entry : CowStr × NamedValue → Tree × Tree
 field_entry f = (text (text_of f.0), tree_of f.1)
 
--- the value whose key was handed out: a unit stands there
+-- the value whose key was handed out: its key is a unit
 abbrev pub keyless_entry : Option NamedValue → List (Tree × Tree)
 keyless_entry None = []
 keyless_entry (Some v) = (unit, tree_of v) ∷ []
@@ -62,7 +62,7 @@ abbrev pub entries_of : Left → List (Tree × Tree)
 entries_of (left.Pairs q) = map pair_tree q.items
 entries_of (left.Fields q) = map field_entry q.items
 
--- what a `FieldsByName` stands for
+-- what contracts see of a `FieldsByName`
 abbrev pub fields_left : FieldsByName → FieldsLeft
 fields_left f = record { entries = keyless_entry f.keyless ++ entries_of f.left; flags = flags_of f.flags }
 

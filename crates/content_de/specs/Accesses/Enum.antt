@@ -29,7 +29,7 @@ use Rattle.content_de.specs.declared.variant_access.Held as stood
 use Rattle.content_de.specs.declared.variant_access.Held.TheVariants as standing
 use Rattle.content_de.specs.declared.variant_access.VariantAccess.{VariantAccess}
 
--- what stands behind a tag: the whole node of an enum, nothing, or the value of a map's one entry
+-- what comes after a tag: the whole node of an enum, nothing, or the value of a map's one entry
 pub data Held : Type 0 where
   a_node : Tree → Held
   nothing : Held
@@ -67,7 +67,7 @@ held_of (standing.Node b) = a_node (enum_tree b.value)
 held_of standing.Nothing = nothing
 held_of (standing.Value v) = a_value (tree_of v)
 
--- what is held behind the tag
+-- what is held after the tag
 abbrev pub tagged_held : Tagged → Held
 tagged_held (tagged.Node b) = a_node (enum_tree b.value)
 tagged_held (tagged.Text t) = nothing
@@ -79,7 +79,7 @@ tagged_tag (tagged.Node b) = node_tag (enum_tree b.value)
 tagged_tag (tagged.Text t) = of_tree (tree.text (text_of t))
 tagged_tag (tagged.Entry k v) = of_tree (tree_of k)
 
--- what a `VariantAccess` stands for
+-- what contracts see of a `VariantAccess`
 abbrev pub variant_view : VariantAccess → VariantLeft
 variant_view a = record {
   requested = requested_name a.requested (held_of a.held);
@@ -87,7 +87,7 @@ variant_view a = record {
   flags = flags_of a.flags;
 }
 
--- what an `EnumAccess` stands for
+-- what contracts see of an `EnumAccess`
 abbrev pub enum_view : EnumAccess → EnumLeft
 enum_view a = record {
   tag = tagged_tag a.tagged;

@@ -39,7 +39,7 @@ entries_view (entries.Fields f) false = entries_of_fields f.place (fields_view f
 entries_view (entries.Fields f) true =
     without_key (entries_of_fields f.place (fields_view f.left.items))
 
--- what a `Map` stands for
+-- what contracts see of a `Map`
 abbrev pub map_view : Map → MapLeft
 map_view m = entries_under (flags_of m.flags) (entries_view m.entries m.key_taken)
 

@@ -13,7 +13,7 @@ use Rattle.content_de.specs.Accesses.Enum.{EnumLeft, enum_with, a_node, enum_vie
 use Rattle.content_de.specs.declared.node.Node.{Node}
 use Rattle.content_de.specs.declared.node.Node.TheVariants as node
 
--- a datum, or what stands inside
+-- a datum, or its parts
 pub data Shape : Type 0 where
   unit : Shape
   boolean : Bool → Shape
@@ -28,7 +28,7 @@ pub data Shape : Type 0 where
   map : MapLeft → Shape
   variant : EnumLeft → Shape
 
--- what a `Node` stands for
+-- what contracts see of a `Node`
 abbrev pub shape_of : Node → Shape
 shape_of node.Unit = unit
 shape_of (node.Bool b) = boolean b

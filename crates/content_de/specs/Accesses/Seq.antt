@@ -13,7 +13,7 @@ pub record SeqLeft : Type 0 where
   pub items : Trees
   pub flags : Flags
 
--- what a `Seq` stands for
+-- what contracts see of a `Seq`
 abbrev pub seq_view : Seq → SeqLeft
 seq_view s = record { items = trees_view s.items.items; flags = flags_of s.flags }
 
@@ -43,7 +43,7 @@ count (tree_then t ts) = count ts + 1
 abbrev pub seq_at : Subject → Outcome SeqLeft
 seq_at s = outcome_map (items_under s.flags) (items_from s.origin)
 
--- a tuple of so many elements
+-- a tuple of this many elements
 abbrev pub tuple_at : ℕ → Subject → Outcome SeqLeft
 tuple_at len s = outcome_map (items_under s.flags) (tuple_from len s.origin)
 

@@ -29,6 +29,6 @@ entry_refusal key value e = first_of (key e.0) (value e.1)
 abbrev pub EntryGives : {K V : Type 0} → Gives K → Gives V → Subject × Subject → K × V → Type 0
 EntryGives key value e p = key e.0 p.0 × value e.1 p.1
 
--- what is read of what stands inside, where the request is taken
+-- what is read of the parts, where the request is taken
 abbrev pub ReadsInside : {A : Type 0} → Refusal → Gives A → Outcome Subject → Result A Error → Type 0
 ReadsInside refusal gives o r = Reads (refusal_then o refusal) (λ a. IsTaken o (λ s. gives s a)) r

@@ -12,7 +12,7 @@ use Rattle.content_de.specs.Requests.Compounds.{items_from, tuple_from, entries_
 use Rattle.content_de.specs.Requests.Numbers.{number_from}
 use Rattle.content_de.specs.Reads.Read.{Refusal}
 
--- why the request that expects this refuses what stands there, or none; structs, variants and static texts aren't looked for
+-- why the request that expects this refuses what is read, or none; structs, variants and static texts aren't looked for
 abbrev pub refusal_by : Expected → Refusal
 refusal_by want.Unit s = refusal_of (unit_from s.origin)
 refusal_by want.Bool s = refusal_of (bool_from s.origin)

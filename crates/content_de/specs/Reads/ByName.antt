@@ -1,4 +1,4 @@
--- What a type reads by name: each field wherever it stands, and then what is left over.
+-- What a type reads by name: each field wherever it is, and then what is left over.
 use Rattle.std.specs.Prelude.{ℕ, List, [], ◌∷◌, ◌++◌, Option, Some, None, ⊤, codes, cond}
 use Rattle.std.specs.List.{list_any}
 use Rattle.std.specs.Str.{bytes_eq}

@@ -6,11 +6,11 @@ use Rattle.std.specs.List.{flat_map}
 abbrev pub quoted : List ℕ → List ℕ
 quoted name = codes "`" ++ (name ++ codes "`")
 
--- how a list of so many names begins, or that there are none
+-- how a list of this many names begins, or that there are none
 abbrev pub opening : List ℕ → ℕ → List ℕ
 opening none n = if nat_eq n 0 then none else (if nat_lt n 3 then codes "expected " else codes "expected one of ")
 
--- what stands between so many names
+-- what comes between two of this many names
 abbrev pub separator : ℕ → List ℕ
 separator n = if nat_eq n 2 then codes " or " else codes ", "
 

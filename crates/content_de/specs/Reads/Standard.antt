@@ -15,16 +15,16 @@ use Rattle.content_de.specs.Reads.Read.{Refusal, Gives, Memoryless, first_of}
 abbrev pub HasContent : List ℕ → Text → Type 0
 HasContent bytes t = t.content ≡ bytes
 
--- only what is borrowed can be lent; else this is the refusal
+-- a text that isn't borrowed is refused with this
 abbrev pub lent_or : List ℕ → Outcome Text → Option Cause
 lent_or text (refused c) = Some c
 lent_or text (taken t) = elim t.borrowed [ true ↦ None | false ↦ Some (custom text) ]
 
--- what an owned text refuses to lend
+-- the text of the refusal of an owned text
 abbrev pub not_borrowed_text : List ℕ
 not_borrowed_text = codes "expected a borrowed string"
 
--- what owned bytes refuse to lend
+-- the text of the refusal of owned bytes
 abbrev pub not_borrowed_bytes : List ℕ
 not_borrowed_bytes = codes "expected borrowed bytes"
 

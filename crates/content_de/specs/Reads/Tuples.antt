@@ -7,16 +7,16 @@ use Rattle.content_de.specs.Sources.Origin.{Subject}
 use Rattle.content_de.specs.Accesses.Seq.{SeqLeft, first_item, after_item}
 use Rattle.content_de.specs.Reads.Read.{Refusal, Gives, Memoryless, first_of}
 
--- the items ended after so many of so many
+-- fewer items than were expected
 abbrev pub too_few : (expected found : ℕ) → Cause
 too_few expected found =
     custom (codes "too few elements: expected " ++ (decimal expected ++ (codes ", found " ++ decimal found)))
 
--- more items than so many
+-- more items than were expected
 abbrev pub too_many : (expected : ℕ) → Cause
 too_many expected = custom (codes "too many elements: expected " ++ decimal expected)
 
--- no item is left after so many
+-- no item is left after those that were expected
 abbrev pub no_more : (expected : ℕ) → SeqLeft → Option Cause
 no_more expected s = elim s.items [ no_trees ↦ None | tree_then t ts ↦ Some (too_many expected) ]
 

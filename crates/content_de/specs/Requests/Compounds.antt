@@ -22,7 +22,7 @@ abbrev pub newtype_in : Tree → Option Tree
 newtype_in (tree.structure n d) = one_in d
 newtype_in t = None
 
--- what a newtype struct holds; any other tree stands for itself
+-- what a newtype struct holds; any other tree is read itself
 abbrev pub newtype_from : List ℕ → Subject → Outcome Subject
 newtype_from name s = elim s.origin [
   | of_tree t ↦ elim (newtype_in t) [ Some u ↦ taken (tree_under s.flags u) | None ↦ taken s ]

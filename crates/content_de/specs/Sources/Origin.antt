@@ -59,7 +59,7 @@ in_buffer s = record { origin = s.origin; flags = buffering s.flags }
 abbrev pub identifier_flags : Flags → Flags
 identifier_flags f = record { human_readable = true; coerces = f.coerces; buffered = f.buffered }
 
--- a key or a tag under the flags of what it stands in
+-- a key or a tag under the flags of what it is in
 abbrev pub subject_under : Flags → Origin → Subject
 subject_under f (of_tree t) = tree_under f t
 subject_under f (of_identifier n i) = record { origin = of_identifier n i; flags = identifier_flags f }

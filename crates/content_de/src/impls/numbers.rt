@@ -228,7 +228,7 @@ impl<'de> Deserialize<'de> for Number {
     }
 }
 
-/// The number that stands there, if it is one.
+/// The number that is read, if it is one.
 #[tactic(auto, using(crate::proofs::Values::values))]
 fn number_at<'de, 'n>(from: &Deserializer<'de, 'n>) -> Option<Number>
     ensures { result ≡ number_in (shape_at (subject from.now)) }

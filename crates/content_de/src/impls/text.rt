@@ -26,7 +26,7 @@ impl<'de> Deserialize<'de> for String {
     }
 }
 
-/// A text in its case: an owned one is moved, and a borrowed one lent. It takes no memory.
+/// A text, moved if it is owned, and else borrowed. It takes no memory.
 impl<'de> Deserialize<'de> for CowStr<'de> {
     ghost refusal = { λ s. refusal_of (text_from s.origin) };
 
@@ -39,7 +39,7 @@ impl<'de> Deserialize<'de> for CowStr<'de> {
     }
 }
 
-/// A text that is borrowed. An owned one is refused: it can't be lent past the reading.
+/// A text that is borrowed. An owned one is refused: it can't be borrowed past the reading.
 impl<'de> Deserialize<'de> for &'de str {
     ghost refusal = { λ s. lent_or not_borrowed_text (text_from s.origin) };
 
@@ -55,7 +55,7 @@ impl<'de> Deserialize<'de> for &'de str {
     }
 }
 
-/// Bytes that are borrowed. Owned ones are refused: they can't be lent past the reading.
+/// Bytes that are borrowed. Owned ones are refused: they can't be borrowed past the reading.
 impl<'de> Deserialize<'de> for &'de [u8] {
     ghost refusal = { λ s. lent_or not_borrowed_bytes (bytes_from s.origin) };
 

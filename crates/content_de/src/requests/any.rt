@@ -18,9 +18,9 @@ use content_tree::{NamedData, NamedStruct, NamedValue, Result};
 use std::alloc::Global;
 
 impl<'de, 'n> Deserializer<'de, 'n> {
-    /// What is found, whatever it is: a tuple is a sequence, a struct is what it holds, a variant
-    /// is expected under its own enum's name, and the name of a field or a variant is a text. It
-    /// takes no memory and is never refused.
+    /// Reads whatever is found: a tuple is a sequence, a struct is what it holds, a variant is
+    /// expected under its own enum's name, and the name of a field or a variant is a text. It takes
+    /// no memory and is never refused.
     pub fn deserialize_any(self, _alloc: Global) -> Result<Node<'de, 'n>>
     where
         'n: 'de,

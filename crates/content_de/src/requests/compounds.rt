@@ -17,13 +17,13 @@ use content_tree::{DataType, Expected, NamedValue, Result};
 use std::alloc::Global;
 
 /// Names of structs are never compared: they are for errors alone. Where what is found fits, none
-/// of these takes memory. What stands inside is read under the same flags.
+/// of these takes memory. The parts are read under the same flags.
 ///
 /// # Errors
 ///
 /// `Unexpected`, with what was found and what was expected; out of memory in its place.
 impl<'de, 'n> Deserializer<'de, 'n> {
-    /// A unit struct, or the unit.
+    /// Reads a unit struct, or the unit.
     pub fn deserialize_unit_struct(self, alloc: Global, name: &'static str) -> Result<()>
         ensures { Answers (λ u. u) (unit_struct_from name.entry.now (subject self.entry).origin)
             result }
@@ -41,8 +41,8 @@ impl<'de, 'n> Deserializer<'de, 'n> {
         }
     }
 
-    /// What a newtype struct holds. Any other tree stands for what it would hold; the name of a
-    /// field or a variant is refused.
+    /// Gives what a newtype struct holds. Any other tree is read as what it would hold; the name of
+    /// a field or a variant is refused.
     pub fn deserialize_newtype_struct(
         self,
         alloc: Global,
@@ -61,7 +61,7 @@ impl<'de, 'n> Deserializer<'de, 'n> {
         }
     }
 
-    /// The items of a sequence.
+    /// Gives the items of a sequence.
     pub fn deserialize_seq(self, alloc: Global) -> Result<Seq<'de, 'n>>
         ensures { Answers seq_view (seq_at (subject self.entry)) result }
     {
@@ -72,7 +72,7 @@ impl<'de, 'n> Deserializer<'de, 'n> {
         }
     }
 
-    /// The items of a tuple or a sequence. The length is for errors alone.
+    /// Gives the items of a tuple or a sequence. The length is for errors alone.
     pub fn deserialize_tuple(self, alloc: Global, len: usize) -> Result<Seq<'de, 'n>>
         ensures { Answers seq_view (tuple_at len (subject self.entry)) result }
     {
@@ -84,7 +84,7 @@ impl<'de, 'n> Deserializer<'de, 'n> {
         }
     }
 
-    /// The items of a tuple struct or a sequence. The length isn't compared.
+    /// Gives the items of a tuple struct or a sequence. The length isn't compared.
     pub fn deserialize_tuple_struct(
         self,
         alloc: Global,
@@ -107,7 +107,7 @@ impl<'de, 'n> Deserializer<'de, 'n> {
         }
     }
 
-    /// The entries of a map.
+    /// Gives the entries of a map.
     pub fn deserialize_map(self, alloc: Global) -> Result<Map<'de, 'n>>
         ensures { Answers map_view (map_at (subject self.entry)) result }
     {
@@ -118,8 +118,8 @@ impl<'de, 'n> Deserializer<'de, 'n> {
         }
     }
 
-    /// The fields of an object-like struct, or the entries of a map. Which fields were expected
-    /// isn't compared.
+    /// Gives the fields of an object-like struct, or the entries of a map. Which fields were
+    /// expected isn't compared.
     pub fn deserialize_struct(
         self,
         alloc: Global,

@@ -21,7 +21,7 @@ use std::alloc::Global;
 ///
 /// `Unexpected`, with what was found and what was expected; out of memory in its place.
 impl<'de, 'n> Deserializer<'de, 'n> {
-    /// A boolean.
+    /// Reads a boolean.
     pub fn deserialize_bool(self, alloc: Global) -> Result<bool>
         ensures { Answers (λ b. b) (bool_from (subject self.entry).origin) result }
     {
@@ -31,7 +31,7 @@ impl<'de, 'n> Deserializer<'de, 'n> {
         }
     }
 
-    /// A character.
+    /// Reads a character.
     pub fn deserialize_char(self, alloc: Global) -> Result<char>
         ensures { Answers (λ c. c) (char_from (subject self.entry).origin) result }
     {
@@ -41,8 +41,8 @@ impl<'de, 'n> Deserializer<'de, 'n> {
         }
     }
 
-    /// A text, moved out in its case. The name of a field or a variant is one, borrowed where it
-    /// is static.
+    /// Reads a text, borrowed or owned as it was. The name of a field or a variant is one, borrowed
+    /// where it is static.
     pub fn deserialize_str(self, alloc: Global) -> Result<CowStr<'de>>
     where
         'n: 'de,
@@ -64,7 +64,8 @@ impl<'de, 'n> Deserializer<'de, 'n> {
         self.deserialize_str(alloc)
     }
 
-    /// Bytes, moved out in their case. Those of the name of a field or a variant are some.
+    /// Reads bytes, borrowed or owned as they were. Those of the name of a field or a variant are
+    /// some.
     pub fn deserialize_bytes(self, alloc: Global) -> Result<CowBytes<'de>>
     where
         'n: 'de,
@@ -86,8 +87,8 @@ impl<'de, 'n> Deserializer<'de, 'n> {
         self.deserialize_bytes(alloc)
     }
 
-    /// The name of a field or a variant, moved out in its case: a text, the variant of an enum, or
-    /// such a name itself.
+    /// Reads the name of a field or a variant, borrowed or owned as it was: a text, the variant of
+    /// an enum, or such a name itself.
     pub fn deserialize_identifier(self, alloc: Global) -> Result<CowStr<'de>>
     where
         'n: 'de,
@@ -101,7 +102,7 @@ impl<'de, 'n> Deserializer<'de, 'n> {
         }
     }
 
-    /// The unit. The name of a field or a variant is one too.
+    /// Reads the unit. The name of a field or a variant is one too.
     pub fn deserialize_unit(self, alloc: Global) -> Result<()>
         ensures { Answers (λ u. u) (unit_from (subject self.entry).origin) result }
     {
@@ -111,14 +112,15 @@ impl<'de, 'n> Deserializer<'de, 'n> {
         }
     }
 
-    /// Whatever is found, dropped. It is never refused.
+    /// Reads whatever is found, and drops it. It is never refused.
     pub fn deserialize_ignored_any(self, _alloc: Global) -> Result<()>
         ensures { Answers (λ u. u) (taken tt) result }
     {
         Ok(())
     }
 
-    /// What an option holds, if anything; what is no option counts as held. It is never refused.
+    /// Reads an option: what it holds, if anything; what is no option counts as held. It is never
+    /// refused.
     pub fn deserialize_option(self, _alloc: Global) -> Result<Option<Deserializer<'de, 'n>>>
         ensures { Answers (option_map subject) (taken (held_by (subject self.entry))) result }
     {
@@ -134,7 +136,7 @@ impl<'de, 'n> Deserializer<'de, 'n> {
     }
 }
 
-/// The bytes of a name, in its case.
+/// The bytes of a name, borrowed or owned as it was.
 fn bytes_of_name<'n>(name: CowStr<'n>) -> CowBytes<'n>
     ensures { bytes_of result ≡ text_of name.entry }
 {

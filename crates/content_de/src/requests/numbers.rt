@@ -1,5 +1,5 @@
 //! Requests for numbers: a pair for each kind, as no trait leads from a type to its case of
-//! `Number` and a macro can't write methods.
+//! `Number`, and methods that a macro writes have no contracts.
 
 #![tactic(auto, using(crate::proofs::Values::values))]
 
@@ -26,7 +26,7 @@ use std::alloc::Global;
 ///
 /// `Unexpected`, with what was found and the kind that was expected; out of memory in its place.
 impl<'de, 'n> Deserializer<'de, 'n> {
-    /// The datum as a signed number of 8 bits.
+    /// Reads a signed number of 8 bits.
     pub fn deserialize_i8(self, alloc: Global) -> Result<i8>
         ensures { Answers (λ z. z) (number_from i8 (subject self.entry)) result }
     {
@@ -40,8 +40,8 @@ impl<'de, 'n> Deserializer<'de, 'n> {
         }
     }
 
-    /// The same for what isn't plainly of that kind. It stands apart, so that no error lies in
-    /// the frame of a request for what is.
+    /// The same for what isn't plainly of that kind. It isn't inlined, so that no error lies in the
+    /// frame of a request for what is.
     #[inline(never)]
     fn coerced_i8(self, alloc: Global) -> Result<i8>
         ensures { Answers (λ z. z) (number_from i8 (subject self.entry)) result }
@@ -55,7 +55,7 @@ impl<'de, 'n> Deserializer<'de, 'n> {
         }
     }
 
-    /// The datum as an unsigned number of 8 bits.
+    /// Reads an unsigned number of 8 bits.
     pub fn deserialize_u8(self, alloc: Global) -> Result<u8>
         ensures { Answers pos (number_from u8 (subject self.entry)) result }
     {
@@ -69,8 +69,8 @@ impl<'de, 'n> Deserializer<'de, 'n> {
         }
     }
 
-    /// The same for what isn't plainly of that kind. It stands apart, so that no error lies in
-    /// the frame of a request for what is.
+    /// The same for what isn't plainly of that kind. It isn't inlined, so that no error lies in the
+    /// frame of a request for what is.
     #[inline(never)]
     fn coerced_u8(self, alloc: Global) -> Result<u8>
         ensures { Answers pos (number_from u8 (subject self.entry)) result }
@@ -84,7 +84,7 @@ impl<'de, 'n> Deserializer<'de, 'n> {
         }
     }
 
-    /// The datum as a signed number of 16 bits.
+    /// Reads a signed number of 16 bits.
     pub fn deserialize_i16(self, alloc: Global) -> Result<i16>
         ensures { Answers (λ z. z) (number_from i16 (subject self.entry)) result }
     {
@@ -98,8 +98,8 @@ impl<'de, 'n> Deserializer<'de, 'n> {
         }
     }
 
-    /// The same for what isn't plainly of that kind. It stands apart, so that no error lies in
-    /// the frame of a request for what is.
+    /// The same for what isn't plainly of that kind. It isn't inlined, so that no error lies in the
+    /// frame of a request for what is.
     #[inline(never)]
     fn coerced_i16(self, alloc: Global) -> Result<i16>
         ensures { Answers (λ z. z) (number_from i16 (subject self.entry)) result }
@@ -113,7 +113,7 @@ impl<'de, 'n> Deserializer<'de, 'n> {
         }
     }
 
-    /// The datum as an unsigned number of 16 bits.
+    /// Reads an unsigned number of 16 bits.
     pub fn deserialize_u16(self, alloc: Global) -> Result<u16>
         ensures { Answers pos (number_from u16 (subject self.entry)) result }
     {
@@ -127,8 +127,8 @@ impl<'de, 'n> Deserializer<'de, 'n> {
         }
     }
 
-    /// The same for what isn't plainly of that kind. It stands apart, so that no error lies in
-    /// the frame of a request for what is.
+    /// The same for what isn't plainly of that kind. It isn't inlined, so that no error lies in the
+    /// frame of a request for what is.
     #[inline(never)]
     fn coerced_u16(self, alloc: Global) -> Result<u16>
         ensures { Answers pos (number_from u16 (subject self.entry)) result }
@@ -142,7 +142,7 @@ impl<'de, 'n> Deserializer<'de, 'n> {
         }
     }
 
-    /// The datum as a signed number of 32 bits.
+    /// Reads a signed number of 32 bits.
     pub fn deserialize_i32(self, alloc: Global) -> Result<i32>
         ensures { Answers (λ z. z) (number_from i32 (subject self.entry)) result }
     {
@@ -156,8 +156,8 @@ impl<'de, 'n> Deserializer<'de, 'n> {
         }
     }
 
-    /// The same for what isn't plainly of that kind. It stands apart, so that no error lies in
-    /// the frame of a request for what is.
+    /// The same for what isn't plainly of that kind. It isn't inlined, so that no error lies in the
+    /// frame of a request for what is.
     #[inline(never)]
     fn coerced_i32(self, alloc: Global) -> Result<i32>
         ensures { Answers (λ z. z) (number_from i32 (subject self.entry)) result }
@@ -171,7 +171,7 @@ impl<'de, 'n> Deserializer<'de, 'n> {
         }
     }
 
-    /// The datum as an unsigned number of 32 bits.
+    /// Reads an unsigned number of 32 bits.
     pub fn deserialize_u32(self, alloc: Global) -> Result<u32>
         ensures { Answers pos (number_from u32 (subject self.entry)) result }
     {
@@ -185,8 +185,8 @@ impl<'de, 'n> Deserializer<'de, 'n> {
         }
     }
 
-    /// The same for what isn't plainly of that kind. It stands apart, so that no error lies in
-    /// the frame of a request for what is.
+    /// The same for what isn't plainly of that kind. It isn't inlined, so that no error lies in the
+    /// frame of a request for what is.
     #[inline(never)]
     fn coerced_u32(self, alloc: Global) -> Result<u32>
         ensures { Answers pos (number_from u32 (subject self.entry)) result }
@@ -200,7 +200,7 @@ impl<'de, 'n> Deserializer<'de, 'n> {
         }
     }
 
-    /// The datum as a signed number of 64 bits.
+    /// Reads a signed number of 64 bits.
     pub fn deserialize_i64(self, alloc: Global) -> Result<i64>
         ensures { Answers (λ z. z) (number_from i64 (subject self.entry)) result }
     {
@@ -214,8 +214,8 @@ impl<'de, 'n> Deserializer<'de, 'n> {
         }
     }
 
-    /// The same for what isn't plainly of that kind. It stands apart, so that no error lies in
-    /// the frame of a request for what is.
+    /// The same for what isn't plainly of that kind. It isn't inlined, so that no error lies in the
+    /// frame of a request for what is.
     #[inline(never)]
     fn coerced_i64(self, alloc: Global) -> Result<i64>
         ensures { Answers (λ z. z) (number_from i64 (subject self.entry)) result }
@@ -229,8 +229,8 @@ impl<'de, 'n> Deserializer<'de, 'n> {
         }
     }
 
-    /// The datum as an unsigned number of 64 bits. The name of a field is its place, and that of a
-    /// variant its index.
+    /// Reads an unsigned number of 64 bits. The name of a field is its place, and that of a variant
+    /// its index.
     pub fn deserialize_u64(self, alloc: Global) -> Result<u64>
         ensures { Answers pos (number_from u64 (subject self.entry)) result }
     {
@@ -244,8 +244,8 @@ impl<'de, 'n> Deserializer<'de, 'n> {
         }
     }
 
-    /// The same for what isn't plainly of that kind. It stands apart, so that no error lies in
-    /// the frame of a request for what is.
+    /// The same for what isn't plainly of that kind. It isn't inlined, so that no error lies in the
+    /// frame of a request for what is.
     #[inline(never)]
     fn coerced_u64(self, alloc: Global) -> Result<u64>
         ensures { Answers pos (number_from u64 (subject self.entry)) result }
@@ -260,8 +260,7 @@ impl<'de, 'n> Deserializer<'de, 'n> {
         }
     }
 
-    /// The datum as a signed number of 128 bits. A name is refused by the text `i128 is not
-    /// supported`.
+    /// Reads a signed number of 128 bits. A name is refused by the text `i128 is not supported`.
     pub fn deserialize_i128(self, alloc: Global) -> Result<i128>
         ensures { Answers (λ z. z) (number_from i128 (subject self.entry)) result }
     {
@@ -275,8 +274,8 @@ impl<'de, 'n> Deserializer<'de, 'n> {
         }
     }
 
-    /// The same for what isn't plainly of that kind. It stands apart, so that no error lies in
-    /// the frame of a request for what is.
+    /// The same for what isn't plainly of that kind. It isn't inlined, so that no error lies in the
+    /// frame of a request for what is.
     #[inline(never)]
     fn coerced_i128(self, alloc: Global) -> Result<i128>
         ensures { Answers (λ z. z) (number_from i128 (subject self.entry)) result }
@@ -291,8 +290,7 @@ impl<'de, 'n> Deserializer<'de, 'n> {
         }
     }
 
-    /// The datum as an unsigned number of 128 bits. A name is refused by the text `u128 is not
-    /// supported`.
+    /// Reads an unsigned number of 128 bits. A name is refused by the text `u128 is not supported`.
     pub fn deserialize_u128(self, alloc: Global) -> Result<u128>
         ensures { Answers pos (number_from u128 (subject self.entry)) result }
     {
@@ -306,8 +304,8 @@ impl<'de, 'n> Deserializer<'de, 'n> {
         }
     }
 
-    /// The same for what isn't plainly of that kind. It stands apart, so that no error lies in
-    /// the frame of a request for what is.
+    /// The same for what isn't plainly of that kind. It isn't inlined, so that no error lies in the
+    /// frame of a request for what is.
     #[inline(never)]
     fn coerced_u128(self, alloc: Global) -> Result<u128>
         ensures { Answers pos (number_from u128 (subject self.entry)) result }

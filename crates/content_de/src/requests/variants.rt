@@ -20,9 +20,9 @@ use std::alloc::Global;
 type Pair<'de, 'n> = (NamedValue<'de, 'n>, NamedValue<'de, 'n>);
 
 impl<'de, 'n> Deserializer<'de, 'n> {
-    /// A variant of an enum: its own node, a text, or a map of exactly one entry. The name of the
-    /// enum is for errors alone, and the variants that were expected aren't compared. Where what
-    /// is found fits it takes no memory.
+    /// Gives a variant of an enum: its own node, a text, or a map of exactly one entry. The name of
+    /// the enum is for errors alone, and the variants that were expected aren't compared. Where
+    /// what is found fits it takes no memory.
     ///
     /// # Errors
     ///
@@ -68,7 +68,7 @@ fn single<'de, 'n>(
     Err(pairs)
 }
 
-/// The variant that a map of one entry stands for.
+/// The variant that a map of one entry is read as.
 #[tactic(auto, using(crate::proofs::Values::values, crate::proofs::Singles::not_single))]
 fn enum_of_pairs<'de, 'n>(
     alloc: Global,

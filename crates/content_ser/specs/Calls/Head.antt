@@ -16,7 +16,7 @@ abbrev pub headed : Head → TreeData → Tree
 headed (of_struct n) p = tree.structure (static_name n) p
 headed (of_variant n i v) p = tree.enumeration (static_name n) i (static_name v) p
 
--- the head that a `Head` stands for
+-- what contracts see of a `Head`
 abbrev pub head_of : Names → Head
 head_of (names.Struct n) = of_struct n.now
 head_of (names.Variant n i v) = of_variant n.now i v.now

@@ -32,7 +32,7 @@ pairs (key k ∷ items) = pair_then k (value_among tree.unit items) (pairs items
 pairs (entry k v ∷ items) = pair_then k (value_among v items) (pairs items)
 
 mutual
-  -- what stands before the rest spells the tree
+  -- what comes before the rest spells the tree
   pub data Spells : List Token → Tree → List Token → Type 0 where
     spells_leaf : {t : Tree} {rest : List Token} → Spells (leaf t ∷ rest) t rest
     spells_wrap : {w : Wrap} {calls rest : List Token} {t : Tree}

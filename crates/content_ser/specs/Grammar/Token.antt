@@ -7,7 +7,7 @@ use Rattle.content_ser.specs.Calls.Event as event
 use Rattle.content_ser.specs.Calls.Event.{Event}
 use Rattle.content_ser.specs.Calls.Head.{Head, of_struct, of_variant, headed}
 
--- what stands around one child
+-- what holds one child
 pub data Wrap : Type 0 where
   in_some : Wrap
   in_head : Head → Wrap

@@ -49,7 +49,7 @@ AnswersInVain refuses old (call_then c sc) (Err e) new =
     refuses after_failure old e new
     ⊎ (IsOutOfMemory e × (new ≡ old))
 
--- a script, which may turn on whether the serialiser is for people to read, sent to a serialiser
+-- a script, which may depend on whether the serialiser is human readable, sent to a serialiser
 pub record Sends {S : Type 0} (step : Step S) (refuses : RefusalRule S)
     (old : Seen S) (sc : Bool → Script) (r : Answer) (new : Seen S) : Type 0 where
   pub readable : new.readable ≡ old.readable

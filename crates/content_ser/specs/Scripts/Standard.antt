@@ -4,7 +4,7 @@ use Rattle.content_ser.specs.Calls.Event as event
 use Rattle.content_ser.specs.Calls.Event.{Event}
 use Rattle.content_ser.specs.Scripts.Script.{Script, done, call_then, and_then}
 
--- the script of each value, where the serialiser is for people to read or not
+-- the script of each value, where the serialiser is human readable or not
 abbrev pub ScriptOf : Type 0 → Type 0
 ScriptOf A = A → Bool → Script
 

@@ -1,4 +1,4 @@
--- Which fields the places in a sorted list stand for.
+-- Which fields the places in a sorted list mean.
 use Rattle.std.specs.Prelude.{◌≡◌, ℕ, List, [], ◌∷◌, map, slice_get, Some}
 use Rattle.std.specs.Borrow.{Bor}
 use Rattle.content_tree.specs.Values.Text.{text_content}

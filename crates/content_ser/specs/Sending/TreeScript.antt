@@ -34,12 +34,12 @@ abbrev pub newtype_call : Head → Event
 newtype_call (of_struct n) = event.newtype_struct n
 newtype_call (of_variant n i v) = event.newtype_variant n i v
 
--- its call before so many values by place
+-- its call before this many values by place
 abbrev pub tuple_call : Head → ℕ → Event
 tuple_call (of_struct n) len = event.tuple_struct n len
 tuple_call (of_variant n i v) len = event.tuple_variant n i v len
 
--- its call before so many values by key
+-- its call before this many values by key
 abbrev pub struct_call : Head → ℕ → Event
 struct_call (of_struct n) len = event.structure n len
 struct_call (of_variant n i v) len = event.struct_variant n i v len
@@ -104,6 +104,6 @@ abbrev mutual
   script_of_fields (tree.field_then k t fs) =
       and_then (key_script k) (and_then (script_of t) (script_of_fields fs))
 
--- what is sent for a tree, whether the serialiser is for people to read or not
+-- what is sent for a tree, whether the serialiser is human readable or not
 abbrev pub loose_script : Tree → Bool → Script
 loose_script t readable = script_of (loose t)

@@ -1,4 +1,4 @@
--- The image that a `Found` stands for.
+-- The image of a `Found`.
 use Rattle.std.specs.Prelude.{ℕ, List, [], ◌∷◌, map, Option, Some, None, string_bytes}
 use Rattle.std.specs.declared.alloc.Global.{Global}
 use Rattle.std.specs.declared.boxed.Box.{Box}
@@ -49,11 +49,11 @@ image_data_step (open_.NewType i) = image.one i
 image_data_step (open_.FoundData::Tuple v) = image.many (images_of v.items)
 image_data_step (open_.FoundData::Struct v) = image.named (image_fields_of (map (λ f. (string_bytes f.0, f.1)) v.items))
 
--- the image that a `Found` stands for
+-- the image of a `Found`
 abbrev pub image_view : Found → Image
 image_view = fold-Found Image ImageData image_step image_data_step
 
--- the content that a `FoundData` stands for
+-- the content of a `FoundData`
 abbrev pub image_data_view : FoundData → ImageData
 image_data_view = fold-FoundData Image ImageData image_step image_data_step
 

@@ -1,4 +1,4 @@
--- Images: what a `Found` stands for, and the image of a tree.
+-- Images: what contracts see of a `Found`, and the image of a tree.
 use Rattle.std.specs.Prelude.{ℕ, Bool, List}
 use Rattle.content_tree.specs.Values.Tree as tree
 use Rattle.content_tree.specs.Values.Tree.{Tree, TreeData, Trees, Pairs, Fields}

@@ -1,4 +1,4 @@
--- What stands right inside a tree, and what stands behind a key.
+-- What a tree contains, and the value of a key.
 use Rattle.std.specs.Prelude.{ℕ, ℤ, List, Bool, false, Option, Some, None, if◌then◌else◌}
 use Rattle.std.specs.Str.{bytes_eq}
 use Rattle.content_tree.specs.Values.Tree.{Tree, boolean, number, character, text, octets, seq}
@@ -57,7 +57,7 @@ abbrev pub or_else : {A : Type 0} → Option A → Option A → Option A
 or_else (Some a) o = Some a
 or_else None o = o
 
--- the value behind the last key that passes this test
+-- the value of the last key that passes this test
 abbrev pub last_value : (Tree → Bool) → Pairs → Option Tree
 last_value test no_pairs = None
 last_value test (pair_then k t ps) = or_else (last_value test ps) (if test k then Some t else None)
@@ -77,15 +77,15 @@ abbrev pub field_in : List ℕ → TreeData → Option Tree
 field_in key (named fs) = last_field key fs
 field_in key d = None
 
--- the value behind this text, of a map, a struct or a variant with fields
+-- the value of this text as key, in a map, a struct or a variant with fields
 abbrev pub lookup_text : List ℕ → Tree → Option Tree
 lookup_text key (map ps) = last_value (is_text key) ps
 lookup_text key (structure n d) = field_in key d
 lookup_text key (enumeration n i v d) = field_in key d
 lookup_text key t = None
 
--- the value behind a key: of a map behind the last key that equals it, of a struct or a variant
--- with fields behind the last of that name
+-- the value of a key: in a map that of the last key that equals it, in a struct or a variant
+-- with fields that of the last field of that name
 abbrev pub lookup : Tree → Tree → Option Tree
 lookup key (map ps) = last_value (λ k. same_tree k key) ps
 lookup (text key) (structure n d) = field_in key.content d

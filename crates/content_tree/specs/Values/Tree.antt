@@ -1,4 +1,4 @@
--- Trees: what a `Value` stands for.
+-- Trees: what contracts see of a `Value`.
 use Rattle.std.specs.Prelude.{ℕ, Bool}
 use Rattle.content_tree.specs.Values.Text.{Text, to_owned}
 use Rattle.content_tree.specs.declared.number.Number.{Number}

@@ -1,4 +1,4 @@
--- The tree that a `Value` stands for.
+-- The tree of a `Value`.
 use Rattle.std.specs.Prelude.{List, [], ◌∷◌, map, Option, Some, None}
 use Rattle.std.specs.declared.alloc.Global.{Global}
 use Rattle.std.specs.declared.boxed.Box.{Box}
@@ -60,7 +60,7 @@ struct_step s = tree.structure (text_of s.name) s.«data»
 abbrev pub enum_step : NamedEnum-F TreeData Tree Tree Tree → Tree
 enum_step e = tree.enumeration (text_of e.name) e.variant_index (text_of e.variant) e.«data»
 
--- the tree that a value stands for
+-- the tree of a value
 abbrev pub tree_of : NamedValue → Tree
 tree_of = fold-NamedValue TreeData Tree Tree Tree tree_data_step tree_step enum_step struct_step
 

@@ -1,6 +1,6 @@
 //! Images are compared case by case, and then by contents.
 
-// Two are equal exactly if they stand for the same image: `images_tie` and `contents_tie` of
+// Two are equal exactly if their images are the same: `images_tie` and `contents_tie` of
 // `proofs/SameImage.antt`.
 
 ghost use Rattle.std.specs.Prelude.{Some, refl};

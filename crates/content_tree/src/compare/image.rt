@@ -102,7 +102,7 @@ fn compare_held(a: &Option<Box<Found>>, b: &Option<Box<Found>>) -> Ordering
     }
 }
 
-/// Two names with what they hold: by name, then by contents.
+/// Two structs or variants: by name, then by contents.
 #[cycle(compare)]
 fn compare_named(
     name: &String,

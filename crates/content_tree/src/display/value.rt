@@ -22,16 +22,16 @@ use crate::quote::write_quoted;
 use crate::value::{NamedData, NamedEnum, NamedStruct, NamedValue};
 use std::fmt;
 
-/// Prints the image of a value: what [`NamedValue::display`] gives.
+/// Prints a value: what [`NamedValue::display`] gives.
 #[derive(Drop)]
 pub struct ValueDisplay<'v, 'a, 'n> {
     value: &'v NamedValue<'a, 'n>,
 }
 
 impl<'a, 'n> NamedValue<'a, 'n> {
-    /// What prints the image of the value, as [`into_found`](NamedValue::into_found) would give it:
-    /// the same text, with no image made and the value kept. It takes no memory; what it is printed
-    /// into may. The Rust crate hasn't this call.
+    /// Prints the value: the text of the image that [`into_found`](NamedValue::into_found) would
+    /// give, with no image made. It takes no memory; what it is printed into may. Not in
+    /// `serde-content`.
     ///
     /// ```rust
     /// let value = Value::Seq(vec![in alloc; Value::from(true), Value::from(255u8)]?);

@@ -38,7 +38,7 @@ pub record NamedBack {Y : Type 0} (script : Bool → Script) (refusal : FieldsLe
   pub of_flags : (f : Flags)
       → Spelled (FieldsSuch (λ fs. GivesOnly (refusal (named_under f (named_entries fs))) (λ y. given y (named_under f (named_entries fs))) such)) (script f.human_readable)
 
--- none of the names stands among no entries
+-- none of the names is among no entries
 pub skipped_free : (known : List (List ℕ)) (f : Flags) → others_skipped known (named_under f []) ≡ None
 skipped_free [] f = refl
 skipped_free (name ∷ known) f = skipped_free known f

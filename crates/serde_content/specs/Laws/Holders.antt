@@ -37,7 +37,7 @@ pub second_free : (a b : Option Cause) → first_of a b ≡ None → b ≡ None
 second_free None b e = e
 second_free (Some c) b e = absurd (cc e)
 
--- what stands for another value
+-- what is seen as another value
 pub seen_back : {A B : Type 0} {exists : A → Type 0} {script : ScriptOf A} {refusal : Refusal} {gives : Gives A} {eq : A → A → Bool} (see : B → A) → ComesBack exists script refusal gives eq
     → ComesBack (λ b. exists (see b)) (λ b. script (see b)) refusal (λ s b. gives s (see b)) (λ a b. eq (see a) (see b))
 seen_back see back = record {

@@ -159,7 +159,7 @@ natural_keeps k = number_keeps k (λ x. pos x)
 pub integer_keeps : (k : NumberKind) → CoercionKeeps (λ s. refusal_of (number_from k s)) (λ s x. number_from k s ≡ taken x)
 integer_keeps k = number_keeps k (λ x. x)
 
--- what number stands there doesn't turn on coercion
+-- what number is read doesn't depend on coercion
 same_number : (h : Bool) (o : Origin) → number_in (shape_at (under (flags h false) o)) ≡ number_in (shape_at (under (flags h true) o))
 same_number h (of_tree (tree.structure n tree.no_data)) = refl
 same_number h (of_tree (tree.structure n (tree.one t))) = refl

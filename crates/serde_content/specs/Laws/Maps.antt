@@ -1,4 +1,4 @@
--- Maps come back where their keys and values do: entries that are put in as they ascend stand as they came.
+-- Maps come back where their keys and values do: entries that are put in as they ascend stay as they came.
 use Rattle.std.specs.Prelude.{◌≡◌, Bool, true, false, ◌&&◌, List, [], ◌∷◌, ◌++◌, None, refl}
 use Rattle.std.specs.BTreeMap.{insert_entry}
 use Rattle.std.specs.Cmp.{IsTotalOrder, Equal-is}
@@ -34,7 +34,7 @@ use Rattle.serde_content.specs.Laws.Spelled.{spelled_then, spelled_such, such_sp
 use Rattle.serde_content.specs.Laws.Holders.{both_free, first_free, second_free}
 use Rattle.serde_content.specs.Laws.Series.{both_hold}
 
--- such pairs, spelled as entries, and the end, before the rest; nothing takes the place of a value that stands before them
+-- such pairs, spelled as entries, and the end, before the rest; nothing takes the place of a value before them
 abbrev pub EntriesSuch : (Pairs → Type 0) → List Token → List Token → Type 0
 EntriesSuch p calls rest = (items : List MapItem) × SpellsMapItems calls items rest × ((t : Tree) → value_among t items ≡ t) × p (pairs items)
 
@@ -80,7 +80,7 @@ BelowKey order old k = AllByRecursion (λ o. order o.0 k ≡ Less) old
 abbrev pub Below : {K V : Type 0} → (K → K → Ordering) → (old : List (K × V)) → List K → Type 0
 Below order old ks = AllByRecursion (λ o. AllByRecursion (λ k. order o.0 k ≡ Less) ks) old
 
--- an entry above all that stand comes last
+-- an entry above all that are there comes last
 inserted_last : {K V : Type 0} {order : K → K → Ordering} → IsTotalOrder order → (old : List (K × V)) (k : K) (v : V) → BelowKey order old k → insert_entry order old k v ≡ old ++ ((k, v) ∷ [])
 inserted_last total [] k v h = refl
 inserted_last total (o ∷ os) k v h =
@@ -97,7 +97,7 @@ below_later : {K V : Type 0} {order : K → K → Ordering} → IsTotalOrder ord
 below_later total x k v ks e first [] h = (all_follow (λ q below. sym (total.congr x k q e) ∙ below) ks first, tt)
 below_later total x k v ks e first (o ∷ os) h = (h.0.1, below_later total x k v ks e first os h.1)
 
--- entries that are read aren't refused, and put in after smaller ones they stand after these, each equal to one of these
+-- entries that are read aren't refused, and put in after smaller ones they come after these, each equal to one of these
 pub record EntriesBack {K V : Type 0} (key value : Refusal) (gives_key : Gives K) (gives_value : Gives V) (order : K → K → Ordering) (same : K × V → K × V → Bool) (f : Flags) (es : List (K × V)) (ps : Pairs) : Type 0 where
   pub free : entries_refusal key value f (entries_of_pairs ps) ≡ None
   pub only : (old new : List (K × V)) → Below order old (keys_of es) → EntriesGive gives_key gives_value order f (entries_of_pairs ps) old new

@@ -121,7 +121,7 @@ pub struct_keeps : {Y : Type 0} {refusal : MapLeft → Option Cause} {given : Y 
     → CoercionKeeps (struct_refusal name refusal) (λ s y. StructGives name (given y) s)
 struct_keeps name fields = record { of_origin = λ o h y p. let there = entries_kept fields (struct_from name o) h y (record { free = p.free; given = p.given }) in record { free = there.free; given = there.given } }
 
--- what stands in a newtype struct, or the tree itself
+-- what a newtype struct holds, or the tree itself
 newtype_kept : {A : Type 0} {refusal : Refusal} {gives : Gives A} → CoercionKeeps refusal gives → (t : Tree) (u : Option Tree) (h : Bool) (x : A)
     → MayGive (refusal_then (elim u [ Some v ↦ taken (tree_under (flags h false) v) | None ↦ taken (tree_under (flags h false) t) ]) refusal)
     (λ y. IsTaken (elim u [ Some v ↦ taken (tree_under (flags h false) v) | None ↦ taken (tree_under (flags h false) t) ]) (λ held. gives held y)) x

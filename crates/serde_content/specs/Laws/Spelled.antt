@@ -67,7 +67,7 @@ such_spelled {p} {sc} s =
 pub leaf_such : {p : Tree → Type 0} {c : Event} (t : Tree) → token.token_of c ≡ token.leaf t → p t → SpellsSuch p (call_then c done)
 leaf_such {p} {c} t is such = record { free = refl; whole = t; spelled = subst (λ k. Spells (k ∷ []) t []) (sym is) spells_leaf; such = such }
 
--- a call that stands around one tree
+-- a call that holds one tree
 pub wrapped_such : {p q : Tree → Type 0} {c : Event} {a : Script} (w : token.Wrap) → token.token_of c ≡ token.wrap w
     → ((t : Tree) → p t → q (token.wrapped w t)) → SpellsSuch p a → SpellsSuch q (call_then c a)
 wrapped_such {p} {q} w is such a =

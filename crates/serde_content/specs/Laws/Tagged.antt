@@ -1,4 +1,4 @@
--- The variants of an enum whose tag is a field come back where what stands beside it does.
+-- The variants of an enum whose tag is a field come back where what is next to it does.
 use Rattle.std.specs.Prelude.{◌≡◌, ℕ, Bool, true, false, List, map, Option, None, Some, option_map}
 use Rattle.std.specs.Prelude.{refl}
 use Rattle.std.specs.Map.{lookup, remove_entry}
@@ -25,7 +25,7 @@ use Rattle.serde_content.specs.Laws.Spelled.{fields_more_such}
 use Rattle.serde_content.specs.Laws.ByName.{NamedBack, NamedKeep, named_entries, named_under}
 use Rattle.serde_content.specs.Laws.ByName.{entries_by_name}
 
--- what stands beside the tag
+-- what is next to the tag
 abbrev pub beside_tag : Flags → Fields → FieldsLeft
 beside_tag f fs = named_under f (map (λ e. (key_tree e.0, e.1)) (entries_of_fields 1 fs))
 
@@ -43,7 +43,7 @@ abbrev pub IsTagged : (tag variant : List ℕ) → (Fields → Type 0) → Field
 IsTagged tag variant such fs =
     (others : Fields) × (fs ≡ tree.field_then (static_name tag) (tree.text (owned_text variant)) others) × such others
 
--- a value of this variant comes back, where its node is refused as what stands beside the tag is under these flags, and gives what that gives
+-- a value of this variant comes back, where its node is refused as what is next to the tag is under these flags, and gives what that gives
 pub tagged_back : {P Y : Type 0} {name tag variant : List ℕ} {len : ℕ} {rest : Bool → Script} {own : FieldsLeft → Option Cause} {given : P → FieldsLeft → Type 0} {such : P → Type 0}
     (refusal : Refusal) (gives : Gives Y) {passes : Y → Type 0} → NamedBack rest own given such → (f beside : Flags) → beside.human_readable ≡ f.human_readable
     → ((fs : Fields) → refusal (tree_under f (tagged_node name tag variant fs)) ≡ own (beside_tag beside fs))
@@ -65,7 +65,7 @@ tagged_back {P} {Y} {name} {tag} {variant} {len} {rest} {own} {given} {such} ref
     (leaf_such (tree.text (owned_text variant)) refl refl)
     (subst (λ h. Spelled (FieldsSuch (λ fs. GivesOnly (own (named_under beside (named_entries fs))) (λ z. given z (named_under beside (named_entries fs))) such)) (rest h)) same (fields.of_flags beside))))
 
--- a tag that is read as the variant's name, and what stands beside it
+-- a tag that is read as the variant's name, and what is next to it
 beside_kept : {P : Type 0} {own : FieldsLeft → Option Cause} {given : P → FieldsLeft → Type 0} (variant : List ℕ) (variants : List ℕ → FieldsLeft → Option Cause)
     → ((f : FieldsLeft) → variants variant f ≡ own f) → NamedKeep own given → (tag : Outcome Text) (es : List (Tree × Tree)) (h : Bool) (z : P)
     → refusal_then tag (λ t. variants t.content (named_under (flags h false) es)) ≡ None

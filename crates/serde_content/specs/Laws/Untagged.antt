@@ -144,7 +144,7 @@ struct_class name fields f t free = absurd (cc free)
 pub struct_takes : {name : List ℕ} {fields : MapLeft → Option Cause} → TakesOnly class_of records (λ s. refusal_then (struct_at name s) fields)
 struct_takes {name} {fields} = record { sees = λ f t free. struct_class name fields (buffering f) t free }
 
--- in a buffer, other than so many values are refused as these parts
+-- in a buffer, these parts refuse any other number of values
 pub record PartsCount (n : ℕ) (parts : SeqLeft → Option Cause) : Type 0 where
   pub of_items : (f : Flags) (ts : Trees) → parts (items_under (buffering f) ts) ≡ None → count ts ≡ n
 

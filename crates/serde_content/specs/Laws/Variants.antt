@@ -162,7 +162,7 @@ struct_variant_keeps fields = record {
       record { free = there.free; given = there.given };
 }
 
--- a tag that is read as the variant's name, and what stands behind it
+-- a tag that is read as the variant's name, and what comes after it
 tagged_kept : {P : Type 0} {own : VariantLeft → Option Cause} {given : P → VariantLeft → Type 0} (variant : List ℕ) (variants : List ℕ → VariantLeft → Option Cause)
     → ((v : VariantLeft) → variants variant v ≡ own v) → VariantKeeps own given → (name : List ℕ) (held : Held) (tag : Outcome Text) (h : Bool) (z : P)
     → refusal_then tag (λ t. variants t.content (left name held (flags h false))) ≡ None

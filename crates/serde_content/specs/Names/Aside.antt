@@ -1,2 +1,2 @@
--- Answers whose errors stand aside.
+-- Answers whose errors are put aside.
 pub use Rattle.content_ser.specs.Sending.Aside.{answer_of}

@@ -1,4 +1,4 @@
-//! A struct of a caller's own.
+//! A struct that is sent and read.
 
 ghost use Rattle.std.specs.Prelude.{codes, refl};
 ghost use Rattle.content_ser.specs.Laws.StandardScripts.{leaf_lawful};

@@ -1,4 +1,4 @@
-//! An enum of a caller's own, with a variant of each sort.
+//! An enum that is sent and read, with a variant of each sort.
 
 ghost use Rattle.std.specs.Prelude.{◌≡◌, ℕ, ℤ, codes, refl};
 ghost use Rattle.content_ser.specs.Laws.StandardScripts.{leaf_lawful};
@@ -104,7 +104,7 @@ impl Serialize for Shape {
     }
 }
 
-/// The variant that the tag names; further values stay unread, but in a buffer.
+/// The variant that the tag names; further values stay unread, but not where it is buffered.
 impl<'de> Deserialize<'de> for Shape {
     ghost refusal = { enum_refusal (codes "Shape")
         (variant_or (codes "Dot") unit_variant_refusal

@@ -5,6 +5,6 @@ use Rattle.content_build.specs.Limit.{fresh, run}
 use Rattle.content_build.proofs.Cutting.{NoCutTo}
 use Rattle.content_build.proofs.prefix.cut.Given as goal
 
--- the builder stands where the calls so far lead, and no beginning of them spells a tree
+-- the builder is where the calls so far lead, and no beginning of them spells a tree
 abbrev pub invariant-loop-at : goal.invariant-loop-at
 invariant-loop-at l = ((seen_of l.builder).failed ≡ false) × (run fresh (events_of (take l.at l.calls)) ≡ Some (seen_of l.builder).state) × NoCutTo l.at (events_of l.calls)

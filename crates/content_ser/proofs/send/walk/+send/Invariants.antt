@@ -41,7 +41,7 @@ invariant-send_entries-loop-key g l =
     → Sends g.S.Serializer.step g.S.Serializer.refuses (g.S.Serializer.seen l.serializer) (λ h. script_of_pairs (loose_field_pairs (fields_view (drop l.key-index l.key-items)))) r new
     → Sends g.S.Serializer.step g.S.Serializer.refuses (g.S.Serializer.seen l.initial.serializer) (λ h. script_of_pairs (loose_field_pairs (fields_view l.key-items))) r new
 
--- the places left stand for the entries left, and whatever ends those ends the whole
+-- the places left mean the entries left, and whatever ends those ends the whole
 abbrev pub invariant-send_sorted-loop-key : goal.invariant-send_sorted-loop-key
 invariant-send_sorted-loop-key g l =
     (es : List KeyedTree) × StandsFor l.fields.items l.key-iterator es
