@@ -7,7 +7,7 @@
 # - Each block of Rust or of definitions is in one file of a crate of crates.txt, word for word, paragraph by paragraph and
 #   in its order: `rt ci` proves that crate and runs its tests.
 # - The commands of docs/OWN_TYPES.md run in their order, beside a fresh copy of this repository, and make two with
-#   tools/new-project. The crate of the first is crates/shapes, byte for byte; the libraries, tools/derive and the lines of
+#   tools/new-project. The crate of the first is crates/shapes, byte for byte; the libraries, the tools and the lines of
 #   crates.txt are ours: so what `rt ci` proved is what a reader gets. The second is made with --cbor; its types are those
 #   of crates/check_derive. In both the tests run, unproved, and the gate's comparison of the module passes.
 # - The blocks of that page are in crates/shapes, byte for byte; those below "A struct" are the whole of src/point.rt.

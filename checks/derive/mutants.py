@@ -1,14 +1,16 @@
-"""Gives tools/derive declarations of which tokens are dropped, doubled and swapped: mutants.py TOP [COUNT].
+"""Gives tools/derive declarations of which tokens are dropped, doubled and swapped: mutants.py TOP [SEED].
 
-Each mutant must be taken, refused or found no Rust within a second, and what isn't taken must name a line of it."""
+Each mutant must be taken, refused or found no Rust within a second, and what isn't taken must name a line of it.
+Of those that are taken some are modules of a crate, which must pass `rt try`."""
 import random
 import re
 import signal
 import sys
 import traceback
-from collections import Counter
+from collections import Counter, defaultdict
+from itertools import zip_longest
 from pathlib import Path
-from typing import List
+from typing import Dict, Iterator, List
 
 top = Path(sys.argv[1])
 sys.dont_write_bytecode = True
@@ -16,7 +18,9 @@ sys.path.insert(0, str(top / "tools"))
 
 from serde_derive.declarations import Refusals  # noqa: E402
 from serde_derive.module import module  # noqa: E402
+from trial import drawn, refused  # noqa: E402
 
+COUNT, TRIED = 5000, 40
 OUTCOMES = {1: "no Rust", 2: "refused"}
 MORE = ["(", ")", "{", "}", "[", "]", "<", ">", ",", ";", "::", "#", "!", "'", '"', "r#", "/*", "*/", "///", "pub", "in", "self",
         "Self", "crate", "use", "enum", "struct", "type", "impl", "fn", "where", "=", "é", "\t", "\0", "1.0", "'a", "'b'", "b'",
@@ -80,18 +84,37 @@ def late(*_: object) -> None:
     raise Slow
 
 
+def in_turn(taken: Dict[int, List[str]]) -> Iterator[str]:
+    """The mutants that are taken, one of each block in turn."""
+    return (source for each in zip_longest(*taken.values()) for source in each if source)
+
+
+def tried(taken: Dict[int, List[str]]) -> bool:
+    """Has `rt try` compile some of them as one crate, and prints those that it refuses; whether it refuses any."""
+    modules = drawn(in_turn(taken), TRIED)
+    answer = refused(top, modules)
+    for name, source in modules.items():
+        if f"src/{name}.rt:" in answer:
+            print(f"{name}.rs:\n{source}")
+    print(answer.strip() or f"derive: {len(modules)} of the mutants taken pass `rt try`")
+    return bool(answer)
+
+
 def main() -> int:
-    count = int(sys.argv[2]) if len(sys.argv) > 2 else 5000
-    chance, ends, whole = random.Random(1), Counter(), sources()
+    chance = random.Random(int(sys.argv[2]) if len(sys.argv) > 2 else 1)
+    ends, whole, taken = Counter(), sources(), defaultdict(list)
     signal.signal(signal.SIGALRM, late)
-    for _ in range(count):
-        source = mutant(chance.choice(whole), chance)
+    for _ in range(COUNT):
+        block = chance.randrange(len(whole))
+        source = mutant(whole[block], chance)
         end = outcome(source)
         ends[end[:5] if end.startswith("fault") else end] += 1
         if end.startswith("fault"):
             print(f"{end}\n{source}\n")
+        elif end == "taken":
+            taken[block].append(source)
     print("derive: " + ", ".join(f"{number} mutants {end}" for end, number in sorted(ends.items())))
-    return 1 if ends["fault"] else 0
+    return 1 if tried(taken) or ends["fault"] else 0
 
 
 if __name__ == "__main__":

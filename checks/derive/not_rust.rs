@@ -66,3 +66,7 @@ struct A;
 
 // 1: `{` is not closed
 use a::{b;
+
+// 2: expected a name, found `5`
+#[derive(Serialize)]
+struct A(pub(in 5) u8);

@@ -426,3 +426,12 @@ struct A(Option<Box<crate::types::A>>);
 #[derive(Serialize)]
 struct A(inner::B, Option<inner::deep::C>);
 mod inner { #[derive(Serialize)] pub struct B(u8); }
+
+// 2: A: `pub(in crate::other)` names no module around this one: name one, or write `pub(crate)`
+// 2: A.0: `pub(in super::super)` names no module around this one: name one, or write `pub(crate)`
+// 2: A.1: `pub(in crate::types::inner)` names no module around this one: name one, or write `pub(crate)`
+// 4: B.x: `pub(in other)` names no module around this one: name one, or write `pub(crate)`
+#[derive(Serialize)]
+pub(in crate::other) struct A(pub(in super::super) u8, pub(in crate::types::inner) u8, pub(in crate::types) u8);
+#[derive(Serialize)]
+struct B { pub(in other) x: u8 }

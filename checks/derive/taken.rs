@@ -46,7 +46,7 @@ enum A {
 // + use crate::other; use crate::other::Thing; use crate::other::deep::Third as Drei;
 // - fmt
 // - Not documentation
-// + /// In an attribute. #[derive(Drop, Clone, Debug, PartialEq, Eq)] pub(in crate::a) struct A {
+// + /// In an attribute. #[derive(Drop, Clone, Debug, PartialEq, Eq)] pub(in super) struct A {
 // + /// Raw "text". pub(crate) x: (u8, Option<Vec<u32>>), /// A block /// of two lines. pub(self) y: Vec<u8>, z: BTreeMap<String, Thing>,
 //! A whole file.
 #![allow(dead_code)]
@@ -84,7 +84,7 @@ type Alias = Option<Vec<u32>>;
 #[rustfmt::skip]
 #[doc = "In an attribute."]
 #[doc(hidden)]
-pub(in crate::a) struct A {
+pub(in super) struct A {
     #[doc = r#"Raw "text"."#]
     #[expect(unused)]
     pub(crate) x: Id,
@@ -230,3 +230,7 @@ type Number = u8;
 /// A direction‮, a separator .
 #[derive(Serialize)]
 struct A(u8);
+
+// + pub(in crate::types) struct A(pub(in crate) u8, pub(in self) u8, pub(in super) u8, pub(self) u8, pub(super) u8);
+#[derive(Serialize)]
+pub(in crate::types) struct A(pub(in crate) u8, pub(in self) u8, pub(in super) u8, pub(self) u8, pub(super) u8);

@@ -211,7 +211,7 @@ def check_copies(project, crates):
     """What a project has besides its crate is ours, and so is each line of its crates.txt about a crate of ours."""
     for licence in ("LICENSE-APACHE", "LICENSE-MIT"):
         os.rename(f"{project}/crates/serde_content/{licence}", f"{project}/{licence}")
-    for file in ("HANDLES", ".gitignore", "tools/derive", "LICENSE-APACHE", "LICENSE-MIT"):
+    for file in ("HANDLES", ".gitignore", "tools/derive", "tools/warm", "LICENSE-APACHE", "LICENSE-MIT"):
         if not filecmp.cmp(f"{TOP}/{file}", f"{project}/{file}", shallow=False):
             fault(OWN_TYPES, f"{file} differs in what is made")
     for folder in ["tools/serde_derive", *[f"crates/{it}" for it in crates[:-1]]]:

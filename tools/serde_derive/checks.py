@@ -58,6 +58,24 @@ def check_attributes(item: Item) -> Iterator[Refused]:
     yield from (Refused(item.line, reason, item.name) for reason in reasons)
 
 
+def module_named(path: str, here: List[str]) -> List[str]:
+    """The module of a path that may begin with `crate`, `self` or `super`, from the module here."""
+    found = here
+    for word in path.split("::"):
+        found = ["crate"] if word == "crate" else found[:-1] if word == "super" else found + [word] * (word != "self")
+    return found
+
+
+def check_visible(item: Item, here: List[str]) -> Iterator[Refused]:
+    """Refuses what is public in a module that isn't around this one."""
+    for where, one in [(item.name, item), *placed(item)]:
+        path = re.match(r"pub\(in (.*)\)", one.visible)
+        found = module_named(path.group(1), here) if path else here
+        if not found or here[:len(found)] != found:
+            yield Refused(one.line, f"`{one.visible.strip()}` names no module around this one: name one, or write"
+                          " `pub(crate)`", where)
+
+
 def check_twice(items: List[Item]) -> Iterator[Refused]:
     """Refuses two types of one name, and two whose names differ in the case of letters alone."""
     seen = {}
@@ -96,11 +114,12 @@ def check_work(items: List[Item]) -> Iterator[Refused]:
             return
 
 
-def check(items: List[Item]) -> Iterator[Refused]:
-    """All that is refused before types are looked at."""
+def check(items: List[Item], module: List[str]) -> Iterator[Refused]:
+    """All that is refused before types are looked at, in the module of this path."""
     yield from check_twice(items)
     yield from check_values(items)
     for item in items:
         yield from check_parts(item)
         yield from check_names(item)
+        yield from check_visible(item, ["crate", *module])
         yield from check_attributes(item)

@@ -87,7 +87,7 @@ def tried(item: Item, refused: List[Refused], step) -> None:
 def settled(file: File, homes: Homes) -> Dict[str, Writer]:
     """The writers of a file's types, once all names and types are known; a Refusals says what is not covered."""
     refused, writers = file.refused, {}
-    for why in check(file.items):
+    for why in check(file.items, homes.module):
         refused.append(why)
         homes.items[why.where.split(".")[0]].covered = False
     homes.resolve()

@@ -23,7 +23,7 @@ class Parser(Attributes):
         self.notes: List[Tuple[int, str]] = []
 
     def visibility(self) -> str:
-        """`pub`, with what stands in its brackets, and a blank."""
+        """`pub`, with what is in its brackets, and a blank."""
         if not self.eat("pub"):
             return ""
         inside = self.after()
@@ -31,7 +31,10 @@ class Parser(Attributes):
         if self.next.text != "(" or not (inside.text == "in" or (one and inside.text in ("crate", "self", "super"))):
             return "pub "
         start = self.place
-        self.pass_one()
+        self.place += 2
+        if inside.text == "in":
+            self.path()
+        self.expect(")")
         return f"pub{self.shown(start)} "
 
     def type(self, depth: int = 0) -> Type:
