@@ -1,10 +1,11 @@
-"""The cases: types, flags and trees, all made from a seed. Half of the trees are whole values of the type as they are
-sent or as maps and texts, the others are damaged in one to three places."""
+"""The cases: types, flags and trees, all made from a seed. A quarter of the trees are whole values of the type, as they
+are sent, or with structs as maps, entries in another order or numbers of another kind. The others are damaged in one to
+three places."""
 import random
 import string
 
 from shapes import own
-from trees import KINDS, NONE, UNIT, bounds
+from trees import KINDS, NONE, UNIT, bounds, fits
 
 FLAGS = ["-", "c", "h", "hc"]
 LETTERS = string.ascii_letters + string.digits + ' "'
@@ -34,12 +35,23 @@ def names_of(item):
     return [*(one.wire for one in named), *tags, "zz"]
 
 
+def within(kind):
+    """The names of the types in a type, itself among them."""
+    return [own(kind), *(name for argument in kind.arguments for name in within(argument))]
+
+
 class Maker:
     """Makes values of types."""
 
     def __init__(self, shapes):
         self.shapes = shapes
         self.names = sorted({name for item in shapes.values() for name in names_of(item)})
+        self.near = {item.name: self.names_near(item) for item in shapes.values()}
+
+    def names_near(self, item):
+        """The names that are sent of a type and of those that it holds."""
+        held = [self.shapes[name] for field in item.fields() for name in within(field.type) if name in self.shapes]
+        return [name for near in [item, *held] for name in names_of(near)]
 
     def value(self, kind):
         """A value of a type, as it is sent."""
@@ -167,11 +179,28 @@ def plain_data(data):
     return ("seq", data[1]) if data[0] == "Tuple" else ("map", tuple((("str", name), held) for name, held in data[1]))
 
 
-class Damage:
-    """Changes nodes of trees."""
+def shuffled(tree):
+    """The entries of a struct or a map in another order."""
+    if tree[0] == "map":
+        return "map", tuple(random.sample(tree[1], len(tree[1])))
+    if tree[0] == "struct" and tree[2][0] == "Fields":
+        return "struct", tree[1], ("Fields", tuple(random.sample(tree[2][1], len(tree[2][1]))))
+    return tree
 
-    def __init__(self, maker):
+
+def recounted(tree):
+    """A number of another kind that has it."""
+    if tree[0] != "num":
+        return tree
+    return "num", pick([kind for kind in KINDS if fits(tree[2], kind)]), tree[2]
+
+
+class Damage:
+    """Changes nodes of trees of a type, oftenest with its own names."""
+
+    def __init__(self, maker, item):
         self.maker = maker
+        self.near = maker.near[item.name]
 
     def node(self, tree):
         """Another node."""
@@ -181,6 +210,8 @@ class Damage:
             ways += [self.listed] * 6 + [self.resorted] * 2
         if tree[0] in ("struct", "enum"):
             ways += [self.held] * 6 + [plainer, self.resorted, self.renamed, self.renamed]
+        if tree[0] == "enum":
+            ways += [lambda tree: ("str", tree[3])] * 2
         if tree[0] == "map" and tree[1]:
             ways += [self.keyed] * 4
         ways += {"num": [self.counted] * 6, "str": [self.spelled] * 6, "char": [lambda tree: ("str", tree[1])] * 2,
@@ -189,13 +220,17 @@ class Damage:
 
     def name(self):
         """A name that some type has, or none has."""
-        return pick(self.maker.names)
+        return pick(self.near if chance() < 0.8 else self.maker.names)
+
+    def variant(self, name):
+        """A variant of this name, if a type has it."""
+        return "enum", "kind", 0, name if name in self.maker.names else self.name(), ("Unit",)
 
     def other(self, _):
         """Another tree."""
         leaf = pick([UNIT, NONE, number(pick(KINDS)), ("bool", True), ("char", "q"), ("str", text()),
                      ("str", self.name()), ("bytes", (97,)), ("bytes", (255, 0)), ("seq", ()), ("map", ()),
-                     ("struct", "Marker", ("Unit",)), ("enum", "kind", 0, self.name(), ("Unit",))])
+                     ("struct", "Marker", ("Unit",)), self.variant("zz")])
         return leaf if chance() < 0.7 else self.maker.own(pick(list(self.maker.shapes.values())))
 
     def listed(self, tree):
@@ -245,7 +280,7 @@ class Damage:
         key, held = tree[1][place]
         name = key[1] if key[0] == "str" else self.name()
         new = pick([("str", self.name()), ("num", pick(["u8", "u64", "u8", "i32"]), pick([0, 1, 2, 3])),
-                    ("bytes", tuple(name.encode())), ("enum", "kind", 0, name, ("Unit",)), self.other(None)])
+                    ("bytes", tuple(name.encode())), self.variant(name), self.other(None)])
         return "map", (*tree[1][:place], (new, held), *tree[1][place + 1:])
 
     def counted(self, tree):
@@ -258,7 +293,7 @@ class Damage:
         """Another text, or something like it."""
         return pick([("str", self.name()), ("str", text()), ("bytes", tuple(tree[1].encode())),
                      ("char", (tree[1] + "q")[0]), ("num", pick(["u8", "u64", "u16"]), pick([0, 1, 9])),
-                     ("enum", "kind", 0, tree[1], ("Unit",)), ("map", ((tree, pick([UNIT, ("map", ())])),))])
+                     self.variant(tree[1]), ("map", ((tree, pick([UNIT, ("map", ())])),))])
 
 
 def moved(items, extra):
@@ -274,12 +309,12 @@ def made(shapes, seed, count):
     """The cases: the name of a type, flags and a tree."""
     random.seed(seed)
     maker = Maker(shapes)
-    damage = Damage(maker)
-    for _ in range(count):
-        name = pick(list(shapes))
-        tree = maker.own(shapes[name])
-        if chance() < 0.35:
-            tree = everywhere(tree, plainer)
+    items = list(shapes.values())
+    weights = [min(len(item.fields()) + len(item.variants) + 1, 8) for item in items]
+    for item in random.choices(items, weights, k=count):
+        tree, damage = maker.own(item), Damage(maker, item)
+        for change in (plainer, shuffled, recounted):
+            tree = everywhere(tree, change) if chance() < 0.3 else tree
         for _ in range(pick([0, 0, 1, 1, 1, 2, 2, 3])):
             tree = somewhere(tree, damage.node)
-        yield name, pick(FLAGS), tree
+        yield item.name, pick(FLAGS), tree

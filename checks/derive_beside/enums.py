@@ -136,12 +136,16 @@ class Enums(Structs):
 
     def tag_first(self, item, source, entries):
         """The variant by the first tag, and the other entries."""
-        others, tag = list(entries), item.serde["tag"]
-        place = place_of(others, tag)
+        return self.tag_of(item, source, [(self.text_of(key), key, tree) for key, tree in entries])
+
+    def tag_of(self, item, source, entries):
+        """The same of entries with their names."""
+        tag = item.serde["tag"]
+        place = place_of(entries, tag)
         if place is None:
             raise Refused(f"missing field `{tag}`")
-        _, held = others.pop(place)
-        return self.variant_of(item, source.of(held))[1], others
+        _, variant = self.variant_of(item, source.of(entries[place][2]))
+        return variant, entries[:place] + entries[place + 1:]
 
     def tag_within(self, item, source, entries):
         """The same as Serde finds it, in the order of entries."""
@@ -149,7 +153,7 @@ class Enums(Structs):
         for key, tree in entries:
             if self.text_of(key) != tag:
                 self.check_entry(source, key, tree, tag)
-                others.append((key, tree))
+                others.append((self.text_of(key), key, tree))
             elif variant is None:
                 variant = self.variant_of(item, source.of(tree))[1]
             else:
@@ -191,8 +195,8 @@ class Enums(Structs):
         tag = item.serde["tag"]
         if variant.data.style != "Unit":
             name, data, _ = self.holder(item, variant)
-            before = (tag,) if CLOSED in self.on else ()
-            return tagged(name, variant, tag, *self.fields(data.fields, source, others, data.closed, before))
+            before, entries = (tag,) if CLOSED in self.on else (), [(key, tree) for _, key, tree in others]
+            return tagged(name, variant, tag, *self.fields(data.fields, source, entries, data.closed, before))
         if CLOSED in self.on:
             self.check_left([tag], source, others, variant.data.closed)
         return tagged(item.wire, variant, tag)
@@ -222,21 +226,22 @@ class Enums(Structs):
 
     def tag_then_content(self, item, source, entries):
         """The first tag, the first content, and then what is left."""
-        variant, others = self.tag_first(item, source, entries)
+        named = [(self.tag_name(item, source.of(key)), key, tree) for key, tree in entries]
+        variant, left = self.tag_of(item, source, named)
         known = [item.serde["tag"], item.serde["content"]]
         if variant.data.style == "Unit" and UNIT_CONTENT in self.on:
             known.pop()
-        place = place_of(others, known[1]) if len(known) == 2 else None
+        place = place_of(left, known[1]) if len(known) == 2 else None
         value = self.no_content(item, variant) if place is None else \
-            self.content(item, variant, source.of(others.pop(place)[1]))
-        self.check_left(known, source, others, variant.data.closed)
+            self.content(item, variant, source.of(left.pop(place)[2]))
+        self.check_left(known, source, left, variant.data.closed)
         return value
 
     def tag_and_content(self, item, source, entries):
         """The same as Serde reads it, in the order of entries."""
         tag, variant, content, value = item.serde["tag"], None, None, None
         for key, tree in entries:
-            name = self.tag_name(item, source.of(key))
+            name = self.known_name(item, source.of(key))
             if name is not None and (content if name != tag else variant) is not None:
                 raise Refused(f"duplicate field `{name}`")
             if name == tag:
@@ -258,19 +263,22 @@ class Enums(Structs):
         return source.buffered("moved")
 
     def tag_name(self, item, source):
+        """The name that a key is, or none where a key of ours is none."""
+        if source.tree[0] in ("name", "str"):
+            return source.tree[1]
+        if NAMES in self.on:
+            return None
+        names = [quoted(item.serde[key]) for key in ("tag", "content")]
+        others = " or ".join(names) if item.variants[0].data.closed else f"{', '.join(names)}, or other ignored fields"
+        raise self.wrong(source, "a string", others)
+
+    def known_name(self, item, source):
         """The tag's or the content's name, if a key is one."""
-        names, closed = (item.serde["tag"], item.serde["content"]), item.variants[0].data.closed
-        either = " or ".join(map(quoted, names))
-        sort, *parts = source.tree
-        if sort not in ("name", "str"):
-            if NAMES in self.on and not closed:
-                return None
-            others = f"{', '.join(map(quoted, names))}, or other ignored fields"
-            raise self.wrong(source, "a string", either if closed else others)
-        if closed and parts[0] not in names:
-            raise Refused(f"unknown field `{parts[0]}`, expected {one_of(names)}" if CLOSED in self.on else
-                          f"invalid value: string {quoted(parts[0])}, expected {either}")
-        return parts[0] if parts[0] in names else None
+        name, known = self.tag_name(item, source), [item.serde["tag"], item.serde["content"]]
+        if item.variants[0].data.closed and name not in known:
+            raise self.unknown(name, source, known) if CLOSED in self.on or name is None else \
+                Refused(f"invalid value: string {quoted(name)}, expected {' or '.join(map(quoted, known))}")
+        return name if name in known else None
 
     def content(self, item, variant, source):
         """A variant by what its content is read from."""

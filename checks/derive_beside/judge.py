@@ -17,7 +17,7 @@ from lines import ALL  # noqa: E402
 from programs import write_programs  # noqa: E402
 from shapes import TOP, shapes_of  # noqa: E402
 from source import Refused, Source  # noqa: E402
-from trees import row  # noqa: E402
+from trees import printed, row  # noqa: E402
 
 sys.path.insert(0, str(TOP / "checks" / "beside"))
 
@@ -30,7 +30,7 @@ def answer(shapes, case, on):
     try:
         return "ok " + row(Enums(shapes, on).item(shapes[name], Source(tree, "c" in flags)))
     except Refused as refused:
-        return f"refused {refused}"
+        return f"refused {printed(str(refused))}"
 
 
 def judged(shapes, case, serde):

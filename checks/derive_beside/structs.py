@@ -1,7 +1,7 @@
 """How structs are read."""
 from leaves import Leaves
 from lines import BOXED, FLAT, ALIKE, NAMES, ORDER, PLACES, TEXTS
-from source import Refused, counted, one_of, seen, visited
+from source import Refused, counted, one_of, seen, unexpected, visited
 from trees import KINDS, NONE, UNIT
 
 
@@ -92,13 +92,17 @@ class Structs(Leaves):
         """The field that a key names, or none that is known."""
         names = [field.wire for field in fields]
         name = self.name(source, names, "field")
-        if name in names:
-            return name
-        if closed and name is not None:
-            raise Refused(f"unknown field `{name}`, expected {one_of([*before, *names])}")
-        if closed and NAMES in self.on:
-            raise self.wrong(source, "a string", "field identifier")
-        return None
+        if closed and name not in names:
+            raise self.unknown(name, source, [*before, *names])
+        return name if name in names else None
+
+    def unknown(self, name, source, known):
+        """The refusal of a key that is none of these names."""
+        if name is not None:
+            return Refused(f"unknown field `{name}`, expected {one_of(known)}")
+        if NAMES in self.on:
+            return self.wrong(source, "a string", "field identifier")
+        return Refused(f"invalid value: {unexpected(source.tree)}, expected field index 0 <= i < {len(known)}")
 
     def name(self, source, names, sort):
         """The name that a key or a tag is, or none where a field's index or a key of ours is none."""
@@ -127,25 +131,19 @@ class Structs(Leaves):
 
     def in_order(self, fields, source, entries, closed, before=()):
         """The fields in their order, and then what is left."""
-        left, values = list(entries), []
+        names, values = [field.wire for field in fields], []
+        left = [(self.name(source.of(key), names, "field"), key, tree) for key, tree in entries]
         for field in fields:
             place = place_of(left, field.wire)
-            if place is None:
-                values.append((field.wire, self.missing(field)))
-            else:
-                values.append((field.wire, self.read(field.type, source.of(left.pop(place)[1]))))
-        self.check_left([*before, *(field.wire for field in fields)], source, left, closed)
+            values.append((field.wire, self.missing(field) if place is None else
+                           self.read(field.type, source.of(left.pop(place)[2]))))
+        self.check_left([*before, *names], source, left, closed)
         return tuple(values)
 
     def check_left(self, known, source, left, closed):
-        """Refuses what may not be left of entries."""
-        if closed and left:
-            key = source.of(left[0][0])
-            if key.tree[0] not in ("name", "str"):
-                raise self.wrong(key, "a string", "field identifier")
-            name = key.tree[1]
-            raise Refused(f"duplicate field `{name}`" if name in known else
-                          f"unknown field `{name}`, expected {one_of(known)}")
+        """Refuses what may not be left of entries, each with its name."""
+        for name, key, _ in left if closed else ():
+            raise Refused(f"duplicate field `{name}`") if name in known else self.unknown(name, source.of(key), known)
         for name in known:
             if place_of(left, name) is not None:
                 raise Refused(f"duplicate field `{name}`")
@@ -239,7 +237,7 @@ def kind_of(fields, name):
 
 def place_of(entries, name):
     """Where the first entry of this name is, or none."""
-    return next((place for place, (key, _) in enumerate(entries) if key in (("name", name), ("str", name))), None)
+    return next((place for place, (found, _, _) in enumerate(entries) if found == name), None)
 
 
 def default(kind):

@@ -87,3 +87,8 @@ def image_data(data):
     if sort == "Tuple":
         return f"({listed(parts[0], image)})"
     return f" {{ {listed(parts[0], lambda field: f'{field[0]}: {image(field[1])}')} }}"
+
+
+def printed(text):
+    """A text of an error as rows have it."""
+    return "".join(chr(byte) if 32 <= byte < 127 and byte != 37 else f"%{byte:02X}" for byte in text.encode())
