@@ -1,10 +1,10 @@
 #!/usr/bin/env bash
-# checks/derive_beside.sh CRATE ROOM [SEED]: makes 12,000 random trees for the types of crates/check_derive,
+# checks/derive_beside.sh CRATE ROOM [SEED]: makes 20,000 random trees for the types of crates/check_derive,
 # checks/serde_texts/more.rs and checks/derive_beside/others.rs, whole and damaged, reads each as its type by what Serde
 # derives over the Rust crate serde-content 0.1.2, whose source is in the folder CRATE, and by what tools/derive writes,
 # and sends each value again. It prints how many answers are the same, how many differ as a line of docs/DIFFERENCES.md
 # says, for each line, and how many differ otherwise: the first ten of these, and status 1. It works in the folder ROOM,
-# which it makes and keeps. It is outside the gate, proves nothing, needs what checks/beside.sh does, and takes five
+# which it makes and keeps. It is outside the gate, proves nothing, needs what checks/beside.sh does, and takes three
 # minutes.
 set -euo pipefail
 top=$(cd "$(dirname "$0")/.." && pwd)
@@ -13,7 +13,7 @@ crate=$(cd "$1" && pwd)
 mkdir -p "$2"
 room=$(cd "$2" && pwd)
 files=("$top"/crates/check_derive/*.rs "$top/checks/serde_texts/more.rs" "$parts/others.rs")
-cases=("$room" "${3:-1}" 12000 "${files[@]}")
+cases=("$room" "${3:-1}" 20000 "${files[@]}")
 
 # shellcheck source=bench/common.sh
 . "$top/bench/common.sh"

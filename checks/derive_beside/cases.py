@@ -256,8 +256,7 @@ class Damage:
         if sort in ("seq", "tuple"):
             return pick([("tuple", parts[0]), ("seq", parts[0]), ("struct", self.name(), ("Tuple", parts[0]))])
         if sort == "map":
-            texts = all(key[0] == "str" for key, _ in parts[0])
-            fields = tuple((key[1], value) for key, value in parts[0]) if texts else ()
+            fields = tuple((key[1] if key[-1] in self.maker.names else self.name(), value) for key, value in parts[0])
             return pick([("struct", self.name(), ("Fields", fields)), ("seq", tuple(value for _, value in parts[0]))])
         held = inside_data(parts[-1])[0]
         return pick([("seq", tuple(held)), ("tuple", tuple(held)), ("struct", self.name(), parts[-1]),

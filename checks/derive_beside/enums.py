@@ -1,7 +1,7 @@
 """How enums are read."""
 from dataclasses import replace
 
-from lines import CLOSED, CONTENT_FIRST, ALIKE, NAMES, OF_TEXT, ORDER, PLACES, REFUSES, TEXTS, UNIT_CONTENT
+from lines import ALIKE, CLOSED, CONTENT_FIRST, NAMES, OF_TEXT, ORDER, PLACES, REFUSES, TEXTS, UNIT_CONTENT
 from shapes import own
 from source import Refused, counted, one_of, seen, unexpected, visited
 from structs import Structs, place_of
@@ -195,10 +195,9 @@ class Enums(Structs):
         tag = item.serde["tag"]
         if variant.data.style != "Unit":
             name, data, _ = self.holder(item, variant)
-            before, entries = (tag,) if CLOSED in self.on else (), [(key, tree) for _, key, tree in others]
-            return tagged(name, variant, tag, *self.fields(data.fields, source, entries, data.closed, before))
-        if CLOSED in self.on:
-            self.check_left([tag], source, others, variant.data.closed)
+            entries = [(key, tree) for _, key, tree in others]
+            return tagged(name, variant, tag, *self.fields(data.fields, source, entries, data.closed, (tag,)))
+        self.check_left([], source, others, variant.data.closed and CLOSED in self.on, (tag,))
         return tagged(item.wire, variant, tag)
 
     # Tagged adjacently.
@@ -228,13 +227,14 @@ class Enums(Structs):
         """The first tag, the first content, and then what is left."""
         named = [(self.tag_name(item, source.of(key)), key, tree) for key, tree in entries]
         variant, left = self.tag_of(item, source, named)
-        known = [item.serde["tag"], item.serde["content"]]
-        if variant.data.style == "Unit" and UNIT_CONTENT in self.on:
-            known.pop()
-        place = place_of(left, known[1]) if len(known) == 2 else None
-        value = self.no_content(item, variant) if place is None else \
-            self.content(item, variant, source.of(left.pop(place)[2]))
-        self.check_left(known, source, left, variant.data.closed)
+        tag, content = item.serde["tag"], item.serde["content"]
+        reads = variant.data.style != "Unit" or UNIT_CONTENT not in self.on
+        place = place_of(left, content) if reads else None
+        if place is None:
+            value = self.no_content(item, variant)
+        else:
+            value = self.content(item, variant, source.of(left.pop(place)[2]))
+        self.check_left([tag, content] if reads else [tag], source, left, variant.data.closed)
         return value
 
     def tag_and_content(self, item, source, entries):
@@ -275,10 +275,13 @@ class Enums(Structs):
     def known_name(self, item, source):
         """The tag's or the content's name, if a key is one."""
         name, known = self.tag_name(item, source), [item.serde["tag"], item.serde["content"]]
-        if item.variants[0].data.closed and name not in known:
-            raise self.unknown(name, source, known) if CLOSED in self.on or name is None else \
-                Refused(f"invalid value: string {quoted(name)}, expected {' or '.join(map(quoted, known))}")
-        return name if name in known else None
+        if name in known:
+            return name
+        if not item.variants[0].data.closed:
+            return None
+        if name is None or CLOSED in self.on:
+            raise self.unknown(name, source, known)
+        raise Refused(f"invalid value: string {quoted(name)}, expected {' or '.join(map(quoted, known))}")
 
     def content(self, item, variant, source):
         """A variant by what its content is read from."""

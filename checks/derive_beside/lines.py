@@ -1,7 +1,7 @@
 """The lines of docs/DIFFERENCES.md by which what tools/derive writes differs from Serde's derives: how each begins."""
 
 ORDER = "entries are read in their order"
-NAMES = "a key or a tag may be a variant; in a buffer bytes or an index"
+NAMES = "a key or a tag is a text or a variant; in a buffer bytes or an index too"
 CLOSED = "a tag with `deny_unknown_fields`"
 UNIT_CONTENT = "the content of a variant without value is `()` or `None`"
 CONTENT_FIRST = "content before its tag is buffered"

@@ -1,6 +1,7 @@
 """How structs are read."""
 from leaves import Leaves
-from lines import BOXED, FLAT, ALIKE, NAMES, ORDER, PLACES, TEXTS
+from lines import ALIKE, BOXED, CLOSED, FLAT, NAMES, ORDER, PLACES, TEXTS
+from shapes import own
 from source import Refused, counted, one_of, seen, unexpected, visited
 from trees import KINDS, NONE, UNIT
 
@@ -93,16 +94,17 @@ class Structs(Leaves):
         names = [field.wire for field in fields]
         name = self.name(source, names, "field")
         if closed and name not in names:
-            raise self.unknown(name, source, [*before, *names])
+            raise self.unknown(name, source, names, before)
         return name if name in names else None
 
-    def unknown(self, name, source, known):
+    def unknown(self, name, source, names, before=()):
         """The refusal of a key that is none of these names."""
         if name is not None:
+            known = [*before, *names] if CLOSED in self.on else names
             return Refused(f"unknown field `{name}`, expected {one_of(known)}")
         if NAMES in self.on:
             return self.wrong(source, "a string", "field identifier")
-        return Refused(f"invalid value: {unexpected(source.tree)}, expected field index 0 <= i < {len(known)}")
+        return Refused(f"invalid value: {unexpected(source.tree)}, expected field index 0 <= i < {len(names)}")
 
     def name(self, source, names, sort):
         """The name that a key or a tag is, or none where a field's index or a key of ours is none."""
@@ -135,16 +137,16 @@ class Structs(Leaves):
         left = [(self.name(source.of(key), names, "field"), key, tree) for key, tree in entries]
         for field in fields:
             place = place_of(left, field.wire)
-            values.append((field.wire, self.missing(field) if place is None else
-                           self.read(field.type, source.of(left.pop(place)[2]))))
-        self.check_left([*before, *names], source, left, closed)
+            value = self.missing(field) if place is None else self.read(field.type, source.of(left.pop(place)[2]))
+            values.append((field.wire, value))
+        self.check_left(names, source, left, closed, before)
         return tuple(values)
 
-    def check_left(self, known, source, left, closed):
+    def check_left(self, names, source, left, closed, before=()):
         """Refuses what may not be left of entries, each with its name."""
-        for name, key, _ in left if closed else ():
-            raise Refused(f"duplicate field `{name}`") if name in known else self.unknown(name, source.of(key), known)
-        for name in known:
+        if closed and left and left[0][0] not in (*before, *names):
+            raise self.unknown(left[0][0], source.of(left[0][1]), names, before)
+        for name in [left[0][0]] if closed and left else (*before, *names):
             if place_of(left, name) is not None:
                 raise Refused(f"duplicate field `{name}`")
 
@@ -167,42 +169,41 @@ class Structs(Leaves):
         if tree[0] != "map":
             raise self.wrong(source, "a map", f"struct {item.name}")
         if FLAT in self.on:
-            values = self.fields(self.leaves(item), source, tree[1], False)
+            values = self.fields(self.flat_fields(item), source, tree[1], False)
         else:
             values = self.collected(item, source, tree[1])
         return "map", tuple((("str", name), value) for name, value in values)
 
-    def leaves(self, item):
+    def flat_fields(self, item):
         """The fields, of one that is flattened those inside it."""
         return [leaf for field in item.data.fields for leaf in (
-            self.leaves(self.shapes[field.type.name]) if "flatten" in field.serde else [field])]
+            self.flat_fields(self.shapes[own(field.type)]) if "flatten" in field.serde else [field])]
 
     def collected(self, item, source, entries):
         """The fields as Serde reads them: its own first, then others out of what is left in a buffer."""
-        own = [field for field in item.data.fields if "flatten" not in field.serde]
+        its_own = [field for field in item.data.fields if "flatten" not in field.serde]
         values, left = {}, []
         for key, tree in entries:
-            name = self.own_name(own, source.of(key))
+            name = self.own_name(its_own, source.of(key))
             if name is None:
                 self.check_buffer(tree)
                 left.append((("str", key[3]) if key[0] == "enum" else key, tree))
             elif name in values:
                 raise Refused(f"duplicate field `{name}`")
             else:
-                values[name] = self.read(kind_of(own, name), source.of(tree))
-        for field in own:
-            values.setdefault(field.wire, None)
-            if values[field.wire] is None:
+                values[name] = self.read(kind_of(its_own, name), source.of(tree))
+        for field in its_own:
+            if field.wire not in values:
                 values[field.wire] = self.missing(field)
         return self.with_flat(item, source, values, left)
 
-    def own_name(self, own, source):
+    def own_name(self, its_own, source):
         """The name of a field of its own that a key is, or none."""
         key = source.tree
         if source.buffer and key[0] == "num" and key[1] in ("u8", "u64"):
             return None
         name = self.name(source, [], "field")
-        return name if name in [field.wire for field in own] else None
+        return name if name in [field.wire for field in its_own] else None
 
     def with_flat(self, item, source, values, left):
         """All fields in order, those of others out of what is left."""
@@ -211,7 +212,7 @@ class Structs(Leaves):
             if "flatten" not in field.serde:
                 every.append((field.wire, values[field.wire]))
                 continue
-            inner = self.shapes[field.type.name]
+            inner = self.shapes[own(field.type)]
             if inner.flattens():
                 every += self.collected(inner, source.buffered("kept"), left)
                 continue

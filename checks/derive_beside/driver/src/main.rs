@@ -1,5 +1,5 @@
-//! Answers each case of the standard input by what Serde derives, over the Rust crate: it reads a tree as a type, and
-//! sends the value again.
+//! Answers each case of the standard input by what Serde derives, over the Rust crate: it reads a
+//! tree as a type, and sends the value again.
 #![allow(dead_code)]
 
 mod choices;
