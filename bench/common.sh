@@ -1,6 +1,6 @@
 # shellcheck shell=bash
-# What the measurements, checks/serde_texts.sh and checks/beside.sh do alike; they source it. They work
-# in the folder $room, from the top of the repository in $top.
+# What the measurements, checks/serde_texts.sh, checks/beside.sh and checks/derive_beside.sh do alike;
+# they source it. They work in the folder $room, from the top of the repository in $top.
 
 # place_ours CRATE SOURCE LINE: a copy of the repository with one crate more, from the folder SOURCE,
 # whose line of crates.txt is LINE. Files there end in .in, since the gate stops at a .rt file that

@@ -5,10 +5,12 @@ judge.py count ROOM: counts the rows that agree, by line, and those that differ 
 ends with status 1 where there are any."""
 import re
 import sys
-from collections import Counter
 from pathlib import Path
 
-ROWS_A_FILE = 2500
+sys.dont_write_bytecode = True
+
+from verdicts import check_page, count, lines_of, write_rows  # noqa: E402
+
 SERDE_TEXTS = {
     r"invalid length (\d+), expected a tuple of size (\d+)": r"too few elements: expected \2, found \1",
     r"invalid type: string .*, expected a borrowed string": "expected a borrowed string",
@@ -111,14 +113,6 @@ RULES = {
 }
 
 
-def check_page(page):
-    """Ends where a rule has no line in the page."""
-    lines = Path(page).read_text().splitlines()
-    gone = [start for start in RULES if not any(line.startswith(f"| {start} |") for line in lines)]
-    if gone:
-        sys.exit("\n".join(f"{page} has no line on: {start}" for start in gone))
-
-
 def judged(case):
     """Our answer, and the lines by which it isn't the crate's."""
     starts = []
@@ -130,64 +124,16 @@ def judged(case):
     return case.answer, starts
 
 
-def lines_of(path):
-    """The lines of a file."""
-    return Path(path).read_text().split("\n")[:-1]
-
-
-def write_rows(page, room):
-    """Writes the rows, and of each the lines of the page that it falls under."""
-    check_page(page)
-    rows, named = [], []
-    for case, answer in zip(lines_of(room / "cases"), lines_of(room / "answers"), strict=True):
-        ours, starts = judged(Case(case, answer))
-        rows.append(f"{case}\t{ours}\n")
-        named.append("\t".join(starts) + "\n")
-    (room / "rows").mkdir(exist_ok=True)
-    for start in range(0, len(rows), ROWS_A_FILE):
-        (room / "rows" / f"{start:07}").write_text("".join(rows[start:start + ROWS_A_FILE]))
-    (room / "named").write_text("".join(named))
-
-
-def differing(room):
-    """What check_rows said of each row that it doesn't agree with, by the row's number."""
-    said, start = {}, 0
-    for line in lines_of(room / "said"):
-        if line.startswith("== "):
-            start = int(line.split()[1])
-        elif found := re.match(r"line (\d+): (.*)", line):
-            said[start + int(found[1]) - 1] = found[2]
-    return said
-
-
-def agreeing(room):
-    """How many rows check_rows says that it agrees with."""
-    return sum(int(count) for count in re.findall(r"(?m)^(\d+) rows agree", (room / "said").read_text()))
-
-
-def count(room):
-    """Prints how many cases have the same answer, fall under each line, or differ, and the first ten of these."""
-    named, said, cases = lines_of(room / "named"), differing(room), lines_of(room / "cases")
-    judged_rows = agreeing(room) + len(said)
-    if judged_rows != len(cases):
-        sys.exit(f"check_rows judged {judged_rows} rows of {len(cases)}")
-    agreed = [starts for place, starts in enumerate(named) if place not in said]
-    under = Counter(start for starts in agreed for start in starts.split("\t"))
-    print(f"{len(cases)} cases: {under['']} have the same answer, {len(said)} differ in what no line names")
-    for start in RULES:
-        print(f"{under[start]:7} differ as the line says: {start}")
-    for place in sorted(said)[:10]:
-        print(f"\n{cases[place]}\n{said[place]}")
-    return 1 if said else 0
-
-
 def main():
     """Writes the rows, or counts."""
     words = sys.argv[1:]
-    if words[0] == "rows":
-        write_rows(words[1], Path(words[2]))
-        return 0
-    return count(Path(words[1]))
+    if words[0] == "count":
+        return count(Path(words[1]), RULES)
+    page, room = words[1], Path(words[2])
+    check_page(page, RULES)
+    answers = zip(lines_of(room / "cases"), lines_of(room / "answers"), strict=True)
+    write_rows(room, lines_of(room / "cases"), (judged(Case(case, answer)) for case, answer in answers))
+    return 0
 
 
 sys.exit(main())

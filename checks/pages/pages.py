@@ -47,7 +47,7 @@ MOST_WORDS = {
     "docs/CALLING.md": 900,
     "docs/CALLS.md": 1500,
     "docs/CBOR.md": 850,
-    "docs/DIFFERENCES.md": 1000,
+    "docs/DIFFERENCES.md": 1060,
     "docs/HOSTILE_INPUT.md": 850,
     "docs/OWN_TYPES.md": 1500,
     "docs/READING.md": 1300,

@@ -1,0 +1,42 @@
+#!/usr/bin/env bash
+# checks/derive_beside.sh CRATE ROOM [SEED]: makes 20,000 random trees for the types of crates/check_derive,
+# checks/serde_texts/more.rs and checks/derive_beside/others.rs, whole and damaged, reads each as its type by what Serde
+# derives over the Rust crate serde-content 0.1.2, whose source is in the folder CRATE, and by what tools/derive writes,
+# and sends each value again. It prints how many answers are the same, how many differ as a line of docs/DIFFERENCES.md
+# says, for each line, and how many differ otherwise: the first ten of these, and status 1. It works in the folder ROOM,
+# which it makes and keeps. It is outside the gate, proves nothing, needs what checks/beside.sh does, and takes three
+# minutes.
+set -euo pipefail
+top=$(cd "$(dirname "$0")/.." && pwd)
+parts=$top/checks/derive_beside
+crate=$(cd "$1" && pwd)
+mkdir -p "$2"
+room=$(cd "$2" && pwd)
+files=("$top"/crates/check_derive/*.rs "$top/checks/serde_texts/more.rs" "$parts/others.rs")
+cases=("$room" "${3:-1}" 20000 "${files[@]}")
+
+# shellcheck source=bench/common.sh
+. "$top/bench/common.sh"
+
+place_ours derive_beside "$parts/here" 'derive_beside: content_de content_ser content_tree serde_content'
+here=$room/ours/crates/derive_beside
+for module in answer cursor failure flags named number piece printable quoted run show tree unfold; do
+    cp "$top/crates/check_rows/src/$module.rt" "$here/src/"
+done
+place_original "$crate" "$parts/driver"
+cp "$top"/checks/beside/driver/src/{cursor,trees}.rs "${files[@]}" "$room/driver/src/"
+for types in "${files[@]}"; do
+    module=$(basename "$types" .rs)
+    "$top/tools/derive" --crate derive_beside --module "$module" "$types" > "$here/src/$module.rt"
+done
+python3 "$parts/judge.py" programs "$room/driver/src" "$here/src" "${files[@]}"
+
+python3 "$parts/judge.py" cases "${cases[@]}"
+(cd "$room/driver" && cargo run --offline --quiet --release < "$room/cases" > "$room/answers") \
+    2> "$room/driver.log" || { tail -n 8 "$room/driver.log"; exit 1; }
+
+rm -rf "$room/rows"
+python3 "$parts/judge.py" rows "${cases[@]}"
+(cd "$here" && rt try --steps 1 --seconds 300 --cases "$room/rows") \
+    > "$room/said" 2> "$room/log" || { tail -n 5 "$room/log"; exit 1; }
+python3 "$parts/judge.py" count "$room"

@@ -1,0 +1,247 @@
+"""How structs are read."""
+from leaves import Leaves
+from lines import ALIKE, BOXED, CLOSED, FLAT, NAMES, ORDER, PLACES, TEXTS
+from shapes import own
+from source import Refused, counted, one_of, seen, unexpected, visited
+from trees import KINDS, NONE, UNIT
+
+
+class Structs(Leaves):
+    """Reads structs, and the fields of structs and variants."""
+
+    def struct(self, item, source):
+        """A struct."""
+        data = item.data
+        readers = {"Unit": self.unit_struct, "Newtype": self.newtype_struct, "Tuple": self.tuple_struct}
+        if data.style in readers:
+            return "struct", item.wire, readers[data.style](item, source)
+        if item.flattens():
+            return self.flattened(item, source)
+        values = self.named(item, data, source, f"struct {item.name}")
+        return "struct", item.wire, ("Fields", values)
+
+    def unit_struct(self, item, source):
+        """A struct without data."""
+        tree = self.seen(source)
+        empty = source.buffer == "moved" and tree in (("map", ()), ("seq", ())) and ALIKE not in self.on
+        if seen(tree) == UNIT or empty:
+            return ("Unit",)
+        if source.buffer == "moved" and TEXTS not in self.on:
+            raise Refused(f"invalid type: {visited(source.tree)}, expected unit struct {item.name}")
+        raise self.wrong(source, f"a unit struct named {item.wire}", f"unit struct {item.name}")
+
+    def newtype_struct(self, item, source):
+        """A struct around one value."""
+        inner = seen(source.tree)
+        held = source.of(inner[1]) if inner[0] == "newtype" else source
+        return "NewType", self.read(item.data.fields[0].type, held)
+
+    def tuple_struct(self, item, source):
+        """A struct of values by place."""
+        tree, kinds = self.seen(source), [field.type for field in item.data.fields]
+        if tree[0] == "struct" and tree[2][0] == "Tuple":
+            tree = seen(tree)
+        if tree[0] != "seq":
+            raise self.wrong(source, f"a tuple struct named {item.wire}", f"tuple struct {item.name}")
+        expecting = f"tuple struct {item.name} with {counted(len(kinds))}"
+        return "Tuple", self.parts(kinds, source, tree[1], expecting)
+
+    def named(self, item, data, source, expecting):
+        """The fields of a struct by name, each with its value."""
+        tree = self.seen(source)
+        if source.buffer and tree[0] == "seq" and PLACES not in self.on:
+            return self.by_place(data.fields, source, tree[1], expecting)
+        return self.fields(data.fields, source, self.entries(item, source, expecting), data.closed)
+
+    def entries(self, item, source, expecting):
+        """The entries of a struct or a map."""
+        tree = self.seen(source)
+        if tree[0] == "map":
+            return tree[1]
+        if tree[0] == "struct" and tree[2][0] == "Fields":
+            return seen(tree)[1]
+        raise self.wrong(source, f"an object-like struct named {item.wire}", expecting)
+
+    def by_place(self, fields, source, items, expecting, too_many=None):
+        """The fields out of a sequence."""
+        values = []
+        for place, field in enumerate(fields):
+            if place < len(items):
+                values.append((field.wire, self.read(field.type, source.of(items[place]))))
+            elif "default" in field.serde:
+                values.append((field.wire, default(field.type)))
+            else:
+                raise Refused(f"invalid length {place}, expected {expecting} with {counted(len(fields))}")
+        self.end(source, len(items), len(fields), too_many)
+        return tuple(values)
+
+    def fields(self, fields, source, entries, closed, before=()):
+        """The fields out of entries; `before` are other names that ours knows."""
+        if ORDER in self.on:
+            return self.in_order(fields, source, entries, closed, before)
+        values = {}
+        for key, tree in entries:
+            name = self.field_name(fields, source.of(key), closed, before)
+            if name in values:
+                raise Refused(f"duplicate field `{name}`")
+            if name is not None:
+                values[name] = self.read(kind_of(fields, name), source.of(tree))
+        return tuple((field.wire, values[field.wire] if field.wire in values else self.missing(field))
+                     for field in fields)
+
+    def field_name(self, fields, source, closed, before):
+        """The field that a key names, or none that is known."""
+        names = [field.wire for field in fields]
+        name = self.name(source, names, "field")
+        if closed and name not in names:
+            raise self.unknown(name, source, names, before)
+        return name if name in names else None
+
+    def unknown(self, name, source, names, before=()):
+        """The refusal of a key that is none of these names."""
+        if name is not None:
+            known = [*before, *names] if CLOSED in self.on else names
+            return Refused(f"unknown field `{name}`, expected {one_of(known)}")
+        if NAMES in self.on:
+            return self.wrong(source, "a string", "field identifier")
+        return Refused(f"invalid value: {unexpected(source.tree)}, expected field index 0 <= i < {len(names)}")
+
+    def name(self, source, names, sort):
+        """The name that a key or a tag is, or none where a field's index or a key of ours is none."""
+        key, *parts = source.tree
+        if key in ("name", "str"):
+            return parts[0]
+        if NAMES in self.on:
+            if sort == "field":
+                return None
+            raise self.wrong(source, "a string", "a string")
+        if not source.buffer and key == "enum":
+            return parts[2]
+        if source.buffer and key == "bytes":
+            return bytes(parts[0]).decode(errors="replace")
+        if source.buffer and key == "num" and parts[0] in ("u8", "u64"):
+            return self.name_at(parts[1], names, sort)
+        raise self.wrong(source, "a struct field name or an enum variant", f"{sort} identifier")
+
+    def name_at(self, index, names, sort):
+        """The name at an index."""
+        if index < len(names):
+            return names[index]
+        if sort == "field":
+            return None
+        raise Refused(f"invalid value: integer `{index}`, expected variant index 0 <= i < {len(names)}")
+
+    def in_order(self, fields, source, entries, closed, before=()):
+        """The fields in their order, and then what is left."""
+        names, values = [field.wire for field in fields], []
+        left = [(self.name(source.of(key), names, "field"), key, tree) for key, tree in entries]
+        for field in fields:
+            place = place_of(left, field.wire)
+            value = self.missing(field) if place is None else self.read(field.type, source.of(left.pop(place)[2]))
+            values.append((field.wire, value))
+        self.check_left(names, source, left, closed, before)
+        return tuple(values)
+
+    def check_left(self, names, source, left, closed, before=()):
+        """Refuses what may not be left of entries, each with its name."""
+        if closed and left and left[0][0] not in (*before, *names):
+            raise self.unknown(left[0][0], source.of(left[0][1]), names, before)
+        for name in [left[0][0]] if closed and left else (*before, *names):
+            if place_of(left, name) is not None:
+                raise Refused(f"duplicate field `{name}`")
+
+    def missing(self, field):
+        """What is read where a field has no entry."""
+        if "default" in field.serde:
+            return default(field.type)
+        kind = field.type
+        while kind.name == "Box" and BOXED not in self.on:
+            kind = kind.arguments[0]
+        if kind.name == "Option":
+            return NONE
+        raise Refused(f"missing field `{field.wire}`")
+
+    # A struct with fields of others.
+
+    def flattened(self, item, source):
+        """A struct of which some fields stand for those of others."""
+        tree = self.seen(source)
+        if tree[0] != "map":
+            raise self.wrong(source, "a map", f"struct {item.name}")
+        if FLAT in self.on:
+            values = self.fields(self.flat_fields(item), source, tree[1], False)
+        else:
+            values = self.collected(item, source, tree[1])
+        return "map", tuple((("str", name), value) for name, value in values)
+
+    def flat_fields(self, item):
+        """The fields, of one that is flattened those inside it."""
+        return [leaf for field in item.data.fields for leaf in (
+            self.flat_fields(self.shapes[own(field.type)]) if "flatten" in field.serde else [field])]
+
+    def collected(self, item, source, entries):
+        """The fields as Serde reads them: its own first, then others out of what is left in a buffer."""
+        its_own = [field for field in item.data.fields if "flatten" not in field.serde]
+        values, left = {}, []
+        for key, tree in entries:
+            name = self.own_name(its_own, source.of(key))
+            if name is None:
+                self.check_buffer(tree)
+                left.append((("str", key[3]) if key[0] == "enum" else key, tree))
+            elif name in values:
+                raise Refused(f"duplicate field `{name}`")
+            else:
+                values[name] = self.read(kind_of(its_own, name), source.of(tree))
+        for field in its_own:
+            if field.wire not in values:
+                values[field.wire] = self.missing(field)
+        return self.with_flat(item, source, values, left)
+
+    def own_name(self, its_own, source):
+        """The name of a field of its own that a key is, or none."""
+        key = source.tree
+        if source.buffer and key[0] == "num" and key[1] in ("u8", "u64"):
+            return None
+        name = self.name(source, [], "field")
+        return name if name in [field.wire for field in its_own] else None
+
+    def with_flat(self, item, source, values, left):
+        """All fields in order, those of others out of what is left."""
+        every = []
+        for field in item.data.fields:
+            if "flatten" not in field.serde:
+                every.append((field.wire, values[field.wire]))
+                continue
+            inner = self.shapes[own(field.type)]
+            if inner.flattens():
+                every += self.collected(inner, source.buffered("kept"), left)
+                continue
+            names = [leaf.wire for leaf in inner.data.fields]
+            taken = [entry for entry in left if self.text_of(entry[0]) in names]
+            left = [entry for entry in left if entry not in taken]
+            every += self.fields(inner.data.fields, source.buffered("moved"), taken, inner.data.closed)
+        return tuple(every)
+
+    def text_of(self, key):
+        """The text that a key is, or none."""
+        if key[0] in ("name", "str"):
+            return key[1]
+        if key[0] == "bytes" and NAMES not in self.on:
+            return bytes(key[1]).decode(errors="replace")
+        return None
+
+
+def kind_of(fields, name):
+    """The type of the field of this name."""
+    return next(field.type for field in fields if field.wire == name)
+
+
+def place_of(entries, name):
+    """Where the first entry of this name is, or none."""
+    return next((place for place, (found, _, _) in enumerate(entries) if found == name), None)
+
+
+def default(kind):
+    """What is read for a field that may be missing."""
+    made = {"bool": ("bool", False), "String": ("str", ""), "Option": NONE, "Vec": ("seq", ()), "BTreeMap": ("map", ())}
+    return ("num", kind.name, 0) if kind.name in KINDS else made[kind.name]
