@@ -138,7 +138,7 @@ pub enum Held {
     Line(Bill),
 }
 
-/// A tag beside fields of every sort.
+/// A tag next to fields of every sort.
 #[derive(Serialize, Deserialize)]
 #[serde(tag = "type", rename_all = "snake_case")]
 pub enum Event {
@@ -152,7 +152,7 @@ pub enum Event {
     Table { by: BTreeMap<String, Plain>, id: Id },
 }
 
-/// A tag beside a value of every sort.
+/// A tag next to a value of every sort.
 #[derive(Serialize, Deserialize)]
 #[serde(tag = "type", content = "value", rename_all = "lowercase")]
 pub enum Reply {

@@ -164,7 +164,7 @@ class Structs(Leaves):
     # A struct with fields of others.
 
     def flattened(self, item, source):
-        """A struct of which some fields stand for those of others."""
+        """A struct with flattened fields."""
         tree = self.seen(source)
         if tree[0] != "map":
             raise self.wrong(source, "a map", f"struct {item.name}")
