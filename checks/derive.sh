@@ -1,6 +1,6 @@
 #!/usr/bin/env bash
 # checks/derive.sh: compares what tools/derive writes for each file of declarations in crates/check_derive and crates/shapes
-# with the module that `rt ci` proves; and what it answers to the declarations in checks/derive, which it takes, refuses or
+# with the module that `rt ci` proves (one has a sample of checks/derive/matrix.py); and what it answers to the declarations in checks/derive, which it takes, refuses or
 # finds no Rust, and to 5,000 mutants of them. The modules of 40 mutants that it takes are compiled by `rt try`, which checks
 # Rust's types and proves nothing. Its status is 1 where one differs. It needs python3, git and the kit, and takes a
 # processor minute. `python3 checks/derive/mutants.py . SEED` tries other mutants.
@@ -10,6 +10,8 @@ cd "$top/crates/check_derive"
 for module in types choices sorts inlined; do
     "$top/tools/derive" --crate check_derive --module $module --cbor $module.rs --check src/$module.rt
 done
+"$top/tools/derive" --crate check_derive --module sample sample.rs --check src/sample.rt
+python3 "$top/checks/derive/matrix.py" --sample | diff sample.rs -
 "$top/tools/derive" --crate shapes --module types "$top/crates/shapes/types.rs" --check "$top/crates/shapes/src/types.rt"
 python3 "$top/checks/derive/cases.py" "$top"
 python3 "$top/checks/derive/mutants.py" "$top"

@@ -3,6 +3,7 @@ type, of which the last item is the one that is tried.
 
   python3 checks/derive/matrix.py            prints the names of all types
   python3 checks/derive/matrix.py NAME       prints the declarations of one
+  python3 checks/derive/matrix.py --sample   prints crates/check_derive/sample.rs: one file of some
 """
 import sys
 from itertools import cycle, islice
@@ -22,6 +23,9 @@ WORDS = ["name", "codes", "data", "record", "variants", "tree", "kind", "gives",
          "module", "elim", "tag", "fields", "alloc", "names", "refl", "script", "value", "parts", "serializer", "variant"]
 OWN = (f"{ALL}\npub struct Own {{ pub a: u8, pub b: String }}\n\n{ALL}\npub enum Deeper {{ A, B(Own) }}\n\n"
        f"{ALL}\npub struct Deep {{ pub own: Own, pub deeper: Vec<Deeper> }}\n\n")
+SAMPLE = """unit struct_mixed_12 struct_byte_9 closed_6 sent_20 read_12 place_mixed_9 external_mixed_4 external_units_4
+internal_fields_2 internal_mixed_2 adjacent_one_2 untagged_4 untagged_places name_of_struct_40 names_of_fields_20
+names_of_variants_40 name_of_tag_20 word_data word_in_variant_record flat""".split()
 CASES = ["lowercase", "UPPERCASE", "PascalCase", "camelCase", "snake_case", "SCREAMING_SNAKE_CASE", "kebab-case",
          "SCREAMING-KEBAB-CASE"]
 
@@ -135,16 +139,35 @@ def types() -> Dict[str, str]:
     return made
 
 
+HEAD = "//! {}.\n\nuse serde::{{Deserialize, Serialize}};\nuse std::collections::BTreeMap;\n\n"
+
+
+def bodies() -> Dict[str, str]:
+    """The declaration of each type, by name."""
+    return {**structs(), **enums(), **names(), **types()}
+
+
 def matrix() -> Dict[str, str]:
-    """The declarations of each type, by name."""
-    made = {**structs(), **enums(), **names(), **types()}
-    head = "//! One type.\n\nuse serde::{Deserialize, Serialize};\nuse std::collections::BTreeMap;\n\n"
-    return {name: head + (OWN if "Own" in text or "Deep" in text else "") + text + "\n" for name, text in made.items()}
+    """The file of each type, by name."""
+    return {name: HEAD.format("One type") + (OWN if "Own" in text or "Deep" in text else "") + text + "\n"
+            for name, text in bodies().items()}
+
+
+def sample() -> str:
+    """One file of some types, each called as in the matrix."""
+    every = bodies()
+    called = {name: "".join(map(str.capitalize, name.split("_"))) for name in SAMPLE}
+    texts = [every[name].replace("Tried", called[name]).strip() for name in SAMPLE]
+    return HEAD.format("Types of every sort and size") + OWN + "\n\n".join(texts) + "\n"
 
 
 def main() -> None:
-    made = matrix()
-    print(made[sys.argv[1]] if len(sys.argv) > 1 else "\n".join(made), end="" if len(sys.argv) > 1 else "\n")
+    if sys.argv[1:] == ["--sample"]:
+        print(sample(), end="")
+    elif sys.argv[1:]:
+        print(matrix()[sys.argv[1]], end="")
+    else:
+        print("\n".join(bodies()))
 
 
 if __name__ == "__main__":

@@ -3,5 +3,6 @@
 
 pub mod choices;
 pub mod inlined;
+pub mod sample;
 pub mod sorts;
 pub mod types;

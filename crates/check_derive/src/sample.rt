@@ -1,0 +1,5340 @@
+//! Types of every sort and size.
+//!
+//! Written by `tools/derive` from `sample.rs`: change that file, and write this one anew.
+
+ghost use Rattle.std.specs.Prelude.{◌≡◌, ◌∷◌, [], ℕ, ℤ, Bool, Option, None, Some, IsSome, codes};
+ghost use Rattle.std.specs.Prelude.{string_bytes, refl, ⊤};
+ghost use Rattle.content_tree.specs.Values.Text.{static_name};
+ghost use Rattle.content_tree.specs.Errors.Cause.{custom};
+ghost use Rattle.content_ser.specs.Scripts.Sends.{Sends};
+ghost use Rattle.content_ser.specs.Scripts.Standard.{tuple_script, element_first};
+ghost use Rattle.content_ser.specs.Scripts.Own.{field_first, tuple_field_first, end_script};
+ghost use Rattle.content_ser.specs.Scripts.Own.{unit_struct_script, unit_variant_script};
+ghost use Rattle.content_ser.specs.Scripts.Own.{newtype_variant_script, tuple_struct_script};
+ghost use Rattle.content_ser.specs.Scripts.Own.{tuple_variant_script, struct_script};
+ghost use Rattle.content_ser.specs.Scripts.Own.{struct_variant_script};
+ghost use Rattle.content_ser.specs.Laws.StandardScripts.{leaf_lawful, option_lawful, seq_lawful};
+ghost use Rattle.content_ser.specs.Laws.StandardScripts.{tuple_lawful, element_fits, end_fits};
+ghost use Rattle.content_ser.specs.Laws.OwnScripts.{field_fits, struct_end_fits, tuple_field_fits};
+ghost use Rattle.content_ser.specs.Laws.OwnScripts.{tuple_end_fits, unit_struct_lawful};
+ghost use Rattle.content_ser.specs.Laws.OwnScripts.{unit_variant_lawful, newtype_variant_lawful};
+ghost use Rattle.content_ser.specs.Laws.OwnScripts.{tuple_struct_lawful, tuple_variant_lawful};
+ghost use Rattle.content_ser.specs.Laws.OwnScripts.{struct_lawful, struct_variant_lawful};
+ghost use Rattle.content_de.specs.Outcomes.{refusal_of, taken, IsTaken};
+ghost use Rattle.content_de.specs.Requests.Leaves.{bool_from, char_from, text_from};
+ghost use Rattle.content_de.specs.Reads.Standard.{HasContent};
+ghost use Rattle.content_de.specs.Sources.Origin.{tree_under, in_buffer, buffering};
+ghost use Rattle.content_de.specs.Reads.Tuples.{part_then, end_of_parts, PartThen, NoPart};
+ghost use Rattle.content_de.specs.Accesses.ByName.{fields_left};
+ghost use Rattle.content_de.specs.Reads.Read.{Reads};
+ghost use Rattle.content_de.specs.Reads.Attempts.{IsTakenAs, or_next};
+ghost use Rattle.content_de.specs.Reads.ByName.{read_by_name, named_then, named_or_then};
+ghost use Rattle.content_de.specs.Reads.ByName.{others_skipped, no_others, ReadByName, NamedThen};
+ghost use Rattle.content_de.specs.Reads.ByName.{NamedOrThen, NoOthers};
+ghost use Rattle.content_de.specs.Reads.Tagged.{tag_then, TagThen, tag_then_buffered};
+ghost use Rattle.content_de.specs.Reads.Tagged.{TagThenBuffered};
+ghost use Rattle.content_de.specs.Reads.Own.{enum_refusal, EnumGives, unit_struct_refusal};
+ghost use Rattle.content_de.specs.Reads.Own.{unit_variant_refusal, UnitVariantGives};
+ghost use Rattle.content_de.specs.Reads.Own.{newtype_variant_refusal, NewtypeVariantGives};
+ghost use Rattle.content_de.specs.Reads.Own.{tuple_struct_refusal, TupleStructGives};
+ghost use Rattle.content_de.specs.Reads.Own.{tuple_variant_refusal, TupleVariantGives};
+ghost use Rattle.content_de.specs.Reads.Own.{struct_refusal, StructGives, struct_variant_refusal};
+ghost use Rattle.content_de.specs.Reads.Own.{StructVariantGives};
+ghost use Rattle.serde_content.specs.Literals.{name};
+ghost use Rattle.serde_content.specs.Variants.{index_among, variants};
+ghost use Rattle.serde_content.specs.RoundTrip.{ComesBack, CoercionKeeps};
+ghost use Rattle.serde_content.specs.Laws.Leaves.{heedless_keeps, natural_keeps, integer_keeps};
+ghost use Rattle.serde_content.specs.Laws.Leaves.{bool_back, char_back, text_back, u8_back};
+ghost use Rattle.serde_content.specs.Laws.Leaves.{u64_back, i32_back, i64_back};
+ghost use Rattle.serde_content.specs.Laws.Holders.{seen_back, seen_keeps, option_back};
+ghost use Rattle.serde_content.specs.Laws.Holders.{option_keeps, seq_back, seq_keeps};
+ghost use Rattle.serde_content.specs.Laws.Spelled.{leaf_such};
+ghost use Rattle.serde_content.specs.Laws.Series.{both_hold, tuple_field_back, tuple_struct_back};
+ghost use Rattle.serde_content.specs.Laws.Series.{parts_end, part_keeps, tuple_struct_keeps};
+ghost use Rattle.serde_content.specs.Laws.Series.{parts_end_keeps};
+ghost use Rattle.serde_content.specs.Laws.Records.{struct_back, struct_keeps};
+ghost use Rattle.serde_content.specs.Laws.ByName.{by_name_back, named_back, named_or_back};
+ghost use Rattle.serde_content.specs.Laws.ByName.{skipped_back, by_name_keeps, named_keeps};
+ghost use Rattle.serde_content.specs.Laws.ByName.{named_or_keeps, skipped_keeps};
+ghost use Rattle.serde_content.specs.Laws.Flattened.{flattened_script, flattened_first};
+ghost use Rattle.serde_content.specs.Laws.Flattened.{flattened_fits, flattened_end_fits};
+ghost use Rattle.serde_content.specs.Laws.Flattened.{flattened_lawful, flattened_refusal};
+ghost use Rattle.serde_content.specs.Laws.Flattened.{FlattenedGives, flattened_end_back};
+ghost use Rattle.serde_content.specs.Laws.Flattened.{flattened_named_back, flattened_named_or_back};
+ghost use Rattle.serde_content.specs.Laws.Flattened.{flattened_back, flattened_keeps};
+ghost use Rattle.serde_content.specs.Laws.Tagged.{tagged_script, tagged_back, tag_keeps};
+ghost use Rattle.serde_content.specs.Laws.Tagged.{tag_keeps_buffered};
+ghost use Rattle.serde_content.specs.Laws.Untagged.{such_seen, first_taken, later_taken};
+ghost use Rattle.serde_content.specs.Laws.Untagged.{taken_by_one, not_refused, bool_takes};
+ghost use Rattle.serde_content.specs.Laws.Untagged.{number_takes, text_takes, seq_takes};
+ghost use Rattle.serde_content.specs.Laws.Variants.{variant_back, other_variant, variant_kept};
+ghost use Rattle.serde_content.specs.Laws.Variants.{unit_variant_back, unit_variant_keeps};
+ghost use Rattle.serde_content.specs.Laws.Variants.{newtype_variant_back, newtype_variant_keeps};
+ghost use Rattle.serde_content.specs.Laws.Variants.{tuple_variant_back, tuple_variant_keeps};
+ghost use Rattle.serde_content.specs.Laws.Variants.{struct_variant_back, struct_variant_keeps};
+ghost use Rattle.std.specs.declared.alloc.Global.{Global};
+ghost use Rattle.std.specs.declared.string.String.{String};
+ghost use Rattle.content_tree.specs.Values.Ranges as kind;
+ghost use Rattle.content_tree.specs.Values.Tree as tree;
+ghost use Rattle.check_derive.specs.declared.sample.Deeper.TheVariants as deeper;
+ghost use Rattle.check_derive.specs.declared.sample.ExternalMixed4.TheVariants as external_mixed4;
+ghost use Rattle.check_derive.specs.declared.sample.ExternalUnits4.TheVariants as external_units4;
+ghost use Rattle.check_derive.specs.declared.sample.InternalFields2.TheVariants as internal_fields2;
+ghost use Rattle.check_derive.specs.declared.sample.InternalMixed2.TheVariants as internal_mixed2;
+ghost use Rattle.check_derive.specs.declared.sample.AdjacentOne2.TheVariants as adjacent_one2;
+ghost use Rattle.check_derive.specs.declared.sample.Untagged4.TheVariants as untagged4;
+ghost use Rattle.check_derive.specs.declared.sample.UntaggedPlaces.TheVariants as untagged_places;
+ghost use Rattle.check_derive.specs.declared.sample.NamesOfVariants40.TheVariants as names_of_variants40;
+ghost use Rattle.check_derive.specs.declared.sample.NameOfTag20.TheVariants as name_of_tag20;
+ghost use Rattle.check_derive.specs.declared.sample.WordInVariantRecord.TheVariants as word_in_variant_record;
+
+use serde_content::de::{Deserialize, FieldsByName, VariantAccess};
+use serde_content::derive_support::{
+    Names, OneOfFour, OneOfThree, OthersRefused, OthersSkipped, PartsEnd, ReadField, ReadFieldOr,
+    ReadFields, ReadPart, ReadParts, SendElement, SendEnd, SendEntry, SendField, SendOpen,
+    SendPart, SendTag, TaggedVariants, Variants, first_of_four, first_of_three, no_such_variant,
+    read_adjacent, read_enum, read_tagged, send_row, variant_index,
+};
+use serde_content::ser::{Call, Parts, Serialize, Serializer};
+use serde_content::{Deserializer, Result, RoundTrip};
+use std::alloc::Global;
+
+#[derive(Drop, PartialEq, Eq)]
+pub struct Own {
+    pub a: u8,
+    pub b: String,
+}
+
+/// The names of its fields.
+#[derive(Drop)]
+struct FieldsOfOwn;
+
+impl Names for FieldsOfOwn {
+    ghost names = { name "a" ∷ name "b" ∷ [] };
+
+    #[tactic(auto, unfolding(serde_content::specs::Literals::name))]
+    fn names() -> &'static [&'static str] {
+        &["a", "b"]
+    }
+}
+
+type Field1OfOwn = ReadField<FieldsOfOwn, 0, u8, Field2OfOwn>;
+
+type Field2OfOwn = ReadField<FieldsOfOwn, 1, String, OthersSkipped<FieldsOfOwn>>;
+
+/// Reads the fields, in any order.
+fn read_own<'de, 'n: 'de>(alloc: Global, fields: FieldsByName<'de, 'n>) -> Result<Own>
+    ensures { Reads (
+        (named_then (name "a") (⟦<u8 as Deserialize<'de>>⟧.refusal)
+        (named_then (name "b") (⟦<String as Deserialize<'de>>⟧.refusal)
+        (others_skipped (name "a" ∷ name "b" ∷ []))))
+        (fields_left fields.entry))
+        (λ z.
+        (NamedThen (name "a") (⟦<u8 as Deserialize<'de>>⟧.gives) z.a
+        (NamedThen (name "b") (⟦<String as Deserialize<'de>>⟧.gives) z.b
+        NoOthers))
+        (fields_left fields.entry)) result }
+{
+    let row: Field1OfOwn = ReadFields::read(alloc, fields)?;
+    let ReadField(a, row, _) = row;
+    let ReadField(b, _, _) = row;
+    Ok(Own { a, b })
+}
+
+impl Serialize for Own {
+    ghost script = { λ p. struct_script (name "Own") 2
+        (field_first (name "a") (⟦<u8 as Serialize>⟧.script p.a)
+        (field_first (name "b") (⟦<String as Serialize>⟧.script p.b)
+        end_script)) };
+
+    ghost lawful = { λ p readable. struct_lawful
+        (field_fits (leaf_lawful refl)
+        (field_fits (leaf_lawful refl)
+        struct_end_fits)) };
+
+    fn serialize<S: Serializer>(&self, alloc: Global, serializer: &mut S) -> Result<()> {
+        let row = SendEnd;
+        let row = SendField(FieldsOfOwn, 1, &self.b, row);
+        let row = SendField(FieldsOfOwn, 0, &self.a, row);
+        let row = SendOpen(Call::Struct(name_own(), 2), row);
+        send_row(alloc, serializer, &row)
+    }
+}
+
+impl<'de> Deserialize<'de> for Own {
+    ghost refusal = { struct_refusal (name "Own") (read_by_name
+        (named_then (name "a") (⟦<u8 as Deserialize<'de>>⟧.refusal)
+        (named_then (name "b") (⟦<String as Deserialize<'de>>⟧.refusal)
+        (others_skipped (name "a" ∷ name "b" ∷ []))))) };
+
+    ghost gives = { λ s p. StructGives (name "Own") (ReadByName
+        (NamedThen (name "a") (⟦<u8 as Deserialize<'de>>⟧.gives) p.a
+        (NamedThen (name "b") (⟦<String as Deserialize<'de>>⟧.gives) p.b
+        NoOthers))) s };
+
+    fn deserialize<'n: 'de>(alloc: Global, from: Deserializer<'de, 'n>) -> Result<Own> {
+        let fields = from
+            .deserialize_struct(alloc, name_own(), FieldsOfOwn::names())?
+            .by_name();
+        read_own(alloc, fields)
+    }
+}
+
+impl<'de> RoundTrip<'de> for Own {
+    fn known(&self) {}
+
+    ghost comes_back = { record {
+      of_value = λ p real f. struct_back (by_name_back
+          (named_back (name "a") u8_back p.a tt (λ q. q.a)
+          (named_back (name "b") text_back p.b tt (λ q. q.b)
+          (skipped_back (name "a" ∷ name "b" ∷ [])))))
+          f (λ q h. both_hold h.0 h.1.0);
+    } };
+
+    ghost keeps = { struct_keeps (name "Own") (by_name_keeps
+        (named_keeps (name "a") (λ q. q.a) (natural_keeps kind.u8)
+        (named_keeps (name "b") (λ q. q.b)
+        (heedless_keeps (λ o. refusal_of (text_from o))
+        (λ o (x : String Global). IsTaken (text_from o) (HasContent (string_bytes x))))
+        (skipped_keeps (name "a" ∷ name "b" ∷ []))))) };
+}
+
+#[derive(Drop, PartialEq, Eq)]
+pub enum Deeper {
+    A,
+    B(Own),
+}
+
+/// The names of its variants.
+#[derive(Drop)]
+struct NamesOfDeeper;
+
+impl Names for NamesOfDeeper {
+    ghost names = { name "A" ∷ name "B" ∷ [] };
+
+    #[tactic(auto, unfolding(serde_content::specs::Literals::name))]
+    fn names() -> &'static [&'static str] {
+        &["A", "B"]
+    }
+}
+
+impl Serialize for Deeper {
+    ghost use Rattle.check_derive.specs.contracts.sample.OwnSerialize.TheImpl.Laws as own_serialize;
+
+    ghost script = { elim [
+      | deeper.A ↦ unit_variant_script (name "Deeper") 0 (name "A")
+      | deeper.B x1 ↦ newtype_variant_script (name "Deeper") 1 (name "B")
+          (⟦<Own as Serialize>⟧.script x1)
+    ] };
+
+    ghost lawful = { elim [
+      | deeper.A ↦ λ readable. unit_variant_lawful
+      | deeper.B x1 ↦ λ readable. newtype_variant_lawful
+          (own_serialize.lawful-law x1 readable)
+    ] };
+
+    fn serialize<S: Serializer>(&self, alloc: Global, serializer: &mut S) -> Result<()> {
+        match self {
+            Deeper::A => Call::UnitVariant(name_deeper(), 0, name_a()).send(serializer),
+            Deeper::B(x1) => Call::NewtypeVariant(name_deeper(), 1, name_b()).around(
+                x1, alloc, serializer,
+            ),
+        }
+    }
+}
+
+impl<'de> Variants<'de> for Deeper {
+    ghost name = { name "Deeper" };
+
+    ghost refusal = { variants (
+        (name "A", unit_variant_refusal)
+        ∷ (name "B", newtype_variant_refusal (⟦<Own as Deserialize<'de>>⟧.refusal))
+        ∷ []) };
+
+    ghost named = { elim [
+      | deeper.A ↦ name "A"
+      | deeper.B x1 ↦ name "B"
+    ] };
+
+    ghost held = { elim [
+      | deeper.A ↦ UnitVariantGives
+      | deeper.B x1 ↦ NewtypeVariantGives (⟦<Own as Deserialize<'de>>⟧.gives) x1
+    ] };
+
+    #[tactic(auto, unfolding(serde_content::specs::Literals::name))]
+    fn name() -> &'static str {
+        "Deeper"
+    }
+
+    fn names() -> &'static [&'static str] {
+        NamesOfDeeper::names()
+    }
+
+    fn read_variant<'n: 'de>(
+        alloc: Global,
+        tag: &str,
+        variant: VariantAccess<'de, 'n>,
+    ) -> Result<Deeper> {
+        match variant_index(tag, &NamesOfDeeper) {
+            Some(0) => {
+                variant.unit_variant(alloc)?;
+                Ok(Deeper::A)
+            }
+            Some(1) => Ok(Deeper::B(variant.newtype_variant(alloc)?)),
+            _ => Err(no_such_variant(alloc, tag, &NamesOfDeeper)),
+        }
+    }
+}
+
+impl<'de> Deserialize<'de> for Deeper {
+    ghost refusal = { enum_refusal (name "Deeper") ⟦<Deeper as Variants<'de>>⟧.refusal };
+
+    ghost gives = { λ s y. EnumGives (name "Deeper")
+        (⟦<Deeper as Variants<'de>>⟧.named y)
+        (⟦<Deeper as Variants<'de>>⟧.held y) s };
+
+    fn deserialize<'n: 'de>(alloc: Global, from: Deserializer<'de, 'n>) -> Result<Deeper> {
+        read_enum(alloc, from)
+    }
+}
+
+impl<'de> RoundTrip<'de> for Deeper {
+    ghost use Rattle.check_derive.specs.contracts.sample.OwnRoundTrip.TheImpl.Laws as own_round_trip;
+
+    fn known(&self) {}
+
+    ghost comes_back = { record {
+      of_value = elim [
+        | deeper.A ↦ λ real f. variant_back Self.refusal Self.gives unit_variant_back
+            f (unfold name index_among in λ d. refl)
+            (unfold name index_among in λ d only. elim [
+              | deeper.A ↦ λ it. refl
+              | deeper.B y1 ↦ λ it. other_variant it.0 refl
+            ])
+        | deeper.B x1 ↦ λ real f. variant_back Self.refusal Self.gives
+            (newtype_variant_back own_round_trip.comes_back-law x1 tt)
+            f (unfold name index_among in λ d. refl)
+            (unfold name index_among in λ d only. elim [
+              | deeper.A ↦ λ it. other_variant it.0 refl
+              | deeper.B y1 ↦ λ it. only y1 it.1
+            ])
+      ];
+    } };
+
+    ghost keeps = { record {
+      of_origin = λ o people. elim [
+        | deeper.A ↦ λ p.
+            let q = variant_kept {own = unit_variant_refusal} (name "Deeper") (name "A")
+            ⟦<Deeper as Variants<'de>>⟧.refusal (unfold name index_among in λ v. refl)
+            unit_variant_keeps
+            o people tt p.free p.given in
+            record { free = q.0; given = q.1 }
+        | deeper.B x1 ↦ λ p.
+            let q = variant_kept {own = (newtype_variant_refusal
+            (⟦<Own as Deserialize<'de>>⟧.refusal))} (name "Deeper") (name "B")
+            ⟦<Deeper as Variants<'de>>⟧.refusal (unfold name index_among in λ v. refl)
+            (newtype_variant_keeps own_round_trip.keeps-law)
+            o people x1 p.free p.given in
+            record { free = q.0; given = q.1 }
+      ];
+    } };
+}
+
+#[derive(Drop, PartialEq, Eq)]
+pub struct Deep {
+    pub own: Own,
+    pub deeper: Vec<Deeper>,
+}
+
+/// The names of its fields.
+#[derive(Drop)]
+struct FieldsOfDeep;
+
+impl Names for FieldsOfDeep {
+    ghost names = { name "own" ∷ name "deeper" ∷ [] };
+
+    #[tactic(auto, unfolding(serde_content::specs::Literals::name))]
+    fn names() -> &'static [&'static str] {
+        &["own", "deeper"]
+    }
+}
+
+type Field1OfDeep = ReadField<FieldsOfDeep, 0, Own, Field2OfDeep>;
+
+type Field2OfDeep = ReadField<FieldsOfDeep, 1, Vec<Deeper>, OthersSkipped<FieldsOfDeep>>;
+
+/// Reads the fields, in any order.
+fn read_deep<'de, 'n: 'de>(alloc: Global, fields: FieldsByName<'de, 'n>) -> Result<Deep>
+    ensures { Reads (
+        (named_then (name "own") (⟦<Own as Deserialize<'de>>⟧.refusal)
+        (named_then (name "deeper") (⟦<Vec<Deeper> as Deserialize<'de>>⟧.refusal)
+        (others_skipped (name "own" ∷ name "deeper" ∷ []))))
+        (fields_left fields.entry))
+        (λ z.
+        (NamedThen (name "own") (⟦<Own as Deserialize<'de>>⟧.gives) z.own
+        (NamedThen (name "deeper") (⟦<Vec<Deeper> as Deserialize<'de>>⟧.gives) z.deeper
+        NoOthers))
+        (fields_left fields.entry)) result }
+{
+    let row: Field1OfDeep = ReadFields::read(alloc, fields)?;
+    let ReadField(own, row, _) = row;
+    let ReadField(deeper, _, _) = row;
+    Ok(Deep { own, deeper })
+}
+
+impl Serialize for Deep {
+    ghost use Rattle.check_derive.specs.contracts.sample.OwnSerialize.TheImpl.Laws as own_serialize;
+    ghost use Rattle.check_derive.specs.contracts.sample.DeeperSerialize.TheImpl.Laws as deeper_serialize;
+
+    ghost script = { λ p. struct_script (name "Deep") 2
+        (field_first (name "own") (⟦<Own as Serialize>⟧.script p.own)
+        (field_first (name "deeper") (⟦<Vec<Deeper> as Serialize>⟧.script p.deeper)
+        end_script)) };
+
+    ghost lawful = { λ p readable. struct_lawful
+        (field_fits (own_serialize.lawful-law p.own readable)
+        (field_fits (seq_lawful (λ x h. deeper_serialize.lawful-law x h) p.deeper.items
+        readable)
+        struct_end_fits)) };
+
+    fn serialize<S: Serializer>(&self, alloc: Global, serializer: &mut S) -> Result<()> {
+        let row = SendEnd;
+        let row = SendField(FieldsOfDeep, 1, &self.deeper, row);
+        let row = SendField(FieldsOfDeep, 0, &self.own, row);
+        let row = SendOpen(Call::Struct(name_deep(), 2), row);
+        send_row(alloc, serializer, &row)
+    }
+}
+
+impl<'de> Deserialize<'de> for Deep {
+    ghost refusal = { struct_refusal (name "Deep") (read_by_name
+        (named_then (name "own") (⟦<Own as Deserialize<'de>>⟧.refusal)
+        (named_then (name "deeper") (⟦<Vec<Deeper> as Deserialize<'de>>⟧.refusal)
+        (others_skipped (name "own" ∷ name "deeper" ∷ []))))) };
+
+    ghost gives = { λ s p. StructGives (name "Deep") (ReadByName
+        (NamedThen (name "own") (⟦<Own as Deserialize<'de>>⟧.gives) p.own
+        (NamedThen (name "deeper") (⟦<Vec<Deeper> as Deserialize<'de>>⟧.gives) p.deeper
+        NoOthers))) s };
+
+    fn deserialize<'n: 'de>(alloc: Global, from: Deserializer<'de, 'n>) -> Result<Deep> {
+        let fields = from
+            .deserialize_struct(alloc, name_deep(), FieldsOfDeep::names())?
+            .by_name();
+        read_deep(alloc, fields)
+    }
+}
+
+impl<'de> RoundTrip<'de> for Deep {
+    ghost use Rattle.check_derive.specs.contracts.sample.OwnRoundTrip.TheImpl.Laws as own_round_trip;
+    ghost use Rattle.check_derive.specs.contracts.sample.DeeperRoundTrip.TheImpl.Laws as deeper_round_trip;
+
+    ghost exists = { λ p. ⟦<Vec<Deeper> as RoundTrip<'de>>⟧.exists p.deeper };
+
+    fn known(&self) {
+        self.deeper.known();
+    }
+
+    ghost comes_back = { record {
+      of_value = λ p real f. struct_back (by_name_back
+          (named_back (name "own") own_round_trip.comes_back-law p.own tt (λ q. q.own)
+          (named_back (name "deeper") (let law : ComesBack
+          (⟦<Vec<Deeper> as RoundTrip<'de>>⟧.exists) (⟦<Vec<Deeper> as Serialize>⟧.script)
+          (⟦<Vec<Deeper> as Deserialize<'de>>⟧.refusal)
+          (⟦<Vec<Deeper> as Deserialize<'de>>⟧.gives) (⟦<Vec<Deeper> as PartialEq>⟧.eq) =
+          (seen_back (λ v. v.items) (seq_back deeper_round_trip.comes_back-law)) in law)
+          p.deeper real (λ q. q.deeper)
+          (skipped_back (name "own" ∷ name "deeper" ∷ [])))))
+          f (λ q h. both_hold h.0 h.1.0);
+    } };
+
+    ghost keeps = { struct_keeps (name "Deep") (by_name_keeps
+        (named_keeps (name "own") (λ q. q.own) own_round_trip.keeps-law
+        (named_keeps (name "deeper") (λ q. q.deeper)
+        (let law : CoercionKeeps (⟦<Vec<Deeper> as Deserialize<'de>>⟧.refusal)
+        (⟦<Vec<Deeper> as Deserialize<'de>>⟧.gives) =
+        (seen_keeps (λ v. v.items) (seq_keeps deeper_round_trip.keeps-law)) in law)
+        (skipped_keeps (name "own" ∷ name "deeper" ∷ []))))) };
+}
+
+#[derive(Drop, PartialEq, Eq)]
+pub struct Unit;
+
+impl Serialize for Unit {
+    ghost script = { λ p. unit_struct_script (name "Unit") };
+
+    ghost lawful = { λ p readable. unit_struct_lawful };
+
+    fn serialize<S: Serializer>(&self, _alloc: Global, serializer: &mut S) -> Result<()> {
+        Call::UnitStruct(name_unit()).send(serializer)
+    }
+}
+
+impl<'de> Deserialize<'de> for Unit {
+    ghost refusal = { unit_struct_refusal (name "Unit") };
+
+    ghost gives = { λ s p. ⊤ };
+
+    fn deserialize<'n: 'de>(alloc: Global, from: Deserializer<'de, 'n>) -> Result<Unit> {
+        from.deserialize_unit_struct(alloc, name_unit())?;
+        Ok(Unit)
+    }
+}
+
+impl<'de> RoundTrip<'de> for Unit {
+    fn known(&self) {}
+
+    ghost comes_back = { record {
+      of_value = λ p real f. leaf_such
+          (tree.structure (static_name (name "Unit")) tree.no_data) refl
+          (record { free = refl; only = λ q h. refl });
+    } };
+
+    ghost keeps = { heedless_keeps _ _ };
+}
+
+#[derive(Drop, PartialEq, Eq)]
+pub struct StructMixed12 {
+    pub f0: String,
+    pub f1: u8,
+    pub f2: Option<u8>,
+    pub f3: bool,
+    pub f4: i32,
+    pub f5: Vec<u8>,
+    pub f6: char,
+    pub f7: u64,
+    pub f8: String,
+    pub f9: u8,
+    pub f10: Option<u8>,
+    pub f11: bool,
+}
+
+/// The names of its fields.
+#[derive(Drop)]
+struct FieldsOfStructMixed12;
+
+impl Names for FieldsOfStructMixed12 {
+    ghost names = { name "f0" ∷ name "f1" ∷ name "f2" ∷ name "f3" ∷ name "f4" ∷
+        name "f5" ∷ name "f6" ∷ name "f7" ∷ name "f8" ∷ name "f9" ∷ name "f10" ∷ name "f11"
+        ∷ [] };
+
+    #[tactic(auto, unfolding(serde_content::specs::Literals::name))]
+    fn names() -> &'static [&'static str] {
+        &[
+            "f0", "f1", "f2", "f3", "f4", "f5", "f6", "f7", "f8", "f9", "f10", "f11",
+        ]
+    }
+}
+
+type Field1OfStructMixed12 = ReadField<FieldsOfStructMixed12, 0, String, Field2OfStructMixed12>;
+
+type Field2OfStructMixed12 = ReadField<FieldsOfStructMixed12, 1, u8, Field3OfStructMixed12>;
+
+type Field3OfStructMixed12 = ReadFieldOr<
+    FieldsOfStructMixed12,
+    2,
+    Option<u8>,
+    Field4OfStructMixed12,
+>;
+
+type Field4OfStructMixed12 = ReadField<FieldsOfStructMixed12, 3, bool, Field5OfStructMixed12>;
+
+type Field5OfStructMixed12 = ReadField<FieldsOfStructMixed12, 4, i32, Field6OfStructMixed12>;
+
+type Field6OfStructMixed12 = ReadField<FieldsOfStructMixed12, 5, Vec<u8>, Field7OfStructMixed12>;
+
+type Field7OfStructMixed12 = ReadField<FieldsOfStructMixed12, 6, char, Field8OfStructMixed12>;
+
+type Field8OfStructMixed12 = ReadField<FieldsOfStructMixed12, 7, u64, From9OfStructMixed12>;
+
+type Field9OfStructMixed12 = ReadField<FieldsOfStructMixed12, 8, String, Field10OfStructMixed12>;
+
+type Field10OfStructMixed12 = ReadField<FieldsOfStructMixed12, 9, u8, Field11OfStructMixed12>;
+
+type Field11OfStructMixed12 = ReadFieldOr<
+    FieldsOfStructMixed12,
+    10,
+    Option<u8>,
+    Field12OfStructMixed12,
+>;
+
+type Field12OfStructMixed12 = ReadField<
+    FieldsOfStructMixed12,
+    11,
+    bool,
+    OthersSkipped<FieldsOfStructMixed12>,
+>;
+
+/// Values from place 9 on.
+#[derive(Drop)]
+struct From9OfStructMixed12(String, u8, Option<u8>, bool);
+
+impl<'de> ReadFields<'de> for From9OfStructMixed12 {
+    ghost refusal = { (named_then (name "f8") (⟦<String as Deserialize<'de>>⟧.refusal)
+        (named_then (name "f9") (⟦<u8 as Deserialize<'de>>⟧.refusal)
+        (named_or_then (name "f10") (⟦<Option<u8> as Deserialize<'de>>⟧.refusal)
+        (named_then (name "f11") (⟦<bool as Deserialize<'de>>⟧.refusal)
+        (others_skipped (name "f0" ∷ name "f1" ∷ name "f2" ∷ name "f3" ∷ name "f4" ∷
+        name "f5" ∷ name "f6" ∷ name "f7" ∷ name "f8" ∷ name "f9" ∷ name "f10" ∷ name "f11"
+        ∷ [])))))) };
+
+    ghost gives = { λ z.
+        (NamedThen (name "f8") (⟦<String as Deserialize<'de>>⟧.gives) z.0
+        (NamedThen (name "f9") (⟦<u8 as Deserialize<'de>>⟧.gives) z.1
+        (NamedOrThen (name "f10") (λ (x : (Option ℕ)). x ≡ None)
+        (⟦<Option<u8> as Deserialize<'de>>⟧.gives) z.2
+        (NamedThen (name "f11") (⟦<bool as Deserialize<'de>>⟧.gives) z.3
+        NoOthers)))) };
+
+    fn read<'n: 'de>(alloc: Global, fields: FieldsByName<'de, 'n>) -> Result<Self> {
+        let row: Field9OfStructMixed12 = ReadFields::read(alloc, fields)?;
+        let ReadField(x1, row, _) = row;
+        let ReadField(x2, row, _) = row;
+        let ReadFieldOr(x3, row, _) = row;
+        let ReadField(x4, _, _) = row;
+        Ok(From9OfStructMixed12(x1, x2, x3, x4))
+    }
+}
+
+/// Reads the fields, in any order.
+fn read_struct_mixed12<'de, 'n: 'de>(
+    alloc: Global,
+    fields: FieldsByName<'de, 'n>,
+) -> Result<StructMixed12>
+    ensures { Reads (
+        (named_then (name "f0") (⟦<String as Deserialize<'de>>⟧.refusal)
+        (named_then (name "f1") (⟦<u8 as Deserialize<'de>>⟧.refusal)
+        (named_or_then (name "f2") (⟦<Option<u8> as Deserialize<'de>>⟧.refusal)
+        (named_then (name "f3") (⟦<bool as Deserialize<'de>>⟧.refusal)
+        (named_then (name "f4") (⟦<i32 as Deserialize<'de>>⟧.refusal)
+        (named_then (name "f5") (⟦<Vec<u8> as Deserialize<'de>>⟧.refusal)
+        (named_then (name "f6") (⟦<char as Deserialize<'de>>⟧.refusal)
+        (named_then (name "f7") (⟦<u64 as Deserialize<'de>>⟧.refusal)
+        (named_then (name "f8") (⟦<String as Deserialize<'de>>⟧.refusal)
+        (named_then (name "f9") (⟦<u8 as Deserialize<'de>>⟧.refusal)
+        (named_or_then (name "f10") (⟦<Option<u8> as Deserialize<'de>>⟧.refusal)
+        (named_then (name "f11") (⟦<bool as Deserialize<'de>>⟧.refusal)
+        (others_skipped (name "f0" ∷ name "f1" ∷ name "f2" ∷ name "f3" ∷ name "f4" ∷
+        name "f5" ∷ name "f6" ∷ name "f7" ∷ name "f8" ∷ name "f9" ∷ name "f10" ∷ name "f11"
+        ∷ []))))))))))))))
+        (fields_left fields.entry))
+        (λ z.
+        (NamedThen (name "f0") (⟦<String as Deserialize<'de>>⟧.gives) z.f0
+        (NamedThen (name "f1") (⟦<u8 as Deserialize<'de>>⟧.gives) z.f1
+        (NamedOrThen (name "f2") (λ (x : (Option ℕ)). x ≡ None)
+        (⟦<Option<u8> as Deserialize<'de>>⟧.gives) z.f2
+        (NamedThen (name "f3") (⟦<bool as Deserialize<'de>>⟧.gives) z.f3
+        (NamedThen (name "f4") (⟦<i32 as Deserialize<'de>>⟧.gives) z.f4
+        (NamedThen (name "f5") (⟦<Vec<u8> as Deserialize<'de>>⟧.gives) z.f5
+        (NamedThen (name "f6") (⟦<char as Deserialize<'de>>⟧.gives) z.f6
+        (NamedThen (name "f7") (⟦<u64 as Deserialize<'de>>⟧.gives) z.f7
+        (NamedThen (name "f8") (⟦<String as Deserialize<'de>>⟧.gives) z.f8
+        (NamedThen (name "f9") (⟦<u8 as Deserialize<'de>>⟧.gives) z.f9
+        (NamedOrThen (name "f10") (λ (x : (Option ℕ)). x ≡ None)
+        (⟦<Option<u8> as Deserialize<'de>>⟧.gives) z.f10
+        (NamedThen (name "f11") (⟦<bool as Deserialize<'de>>⟧.gives) z.f11
+        NoOthers))))))))))))
+        (fields_left fields.entry)) result }
+{
+    let row: Field1OfStructMixed12 = ReadFields::read(alloc, fields)?;
+    let ReadField(f0, row, _) = row;
+    let ReadField(f1, row, _) = row;
+    let ReadFieldOr(f2, row, _) = row;
+    let ReadField(f3, row, _) = row;
+    let ReadField(f4, row, _) = row;
+    let ReadField(f5, row, _) = row;
+    let ReadField(f6, row, _) = row;
+    let ReadField(f7, row, _) = row;
+    let From9OfStructMixed12(f8, f9, f10, f11) = row;
+    Ok(StructMixed12 {
+        f0,
+        f1,
+        f2,
+        f3,
+        f4,
+        f5,
+        f6,
+        f7,
+        f8,
+        f9,
+        f10,
+        f11,
+    })
+}
+
+impl Serialize for StructMixed12 {
+    ghost script = { λ p. struct_script (name "StructMixed12") 12
+        (field_first (name "f0") (⟦<String as Serialize>⟧.script p.f0)
+        (field_first (name "f1") (⟦<u8 as Serialize>⟧.script p.f1)
+        (field_first (name "f2") (⟦<Option<u8> as Serialize>⟧.script p.f2)
+        (field_first (name "f3") (⟦<bool as Serialize>⟧.script p.f3)
+        (field_first (name "f4") (⟦<i32 as Serialize>⟧.script p.f4)
+        (field_first (name "f5") (⟦<Vec<u8> as Serialize>⟧.script p.f5)
+        (field_first (name "f6") (⟦<char as Serialize>⟧.script p.f6)
+        (field_first (name "f7") (⟦<u64 as Serialize>⟧.script p.f7)
+        (field_first (name "f8") (⟦<String as Serialize>⟧.script p.f8)
+        (field_first (name "f9") (⟦<u8 as Serialize>⟧.script p.f9)
+        (field_first (name "f10") (⟦<Option<u8> as Serialize>⟧.script p.f10)
+        (field_first (name "f11") (⟦<bool as Serialize>⟧.script p.f11)
+        end_script)))))))))))) };
+
+    ghost lawful = { λ p readable. struct_lawful
+        (field_fits (leaf_lawful refl)
+        (field_fits (leaf_lawful refl)
+        (field_fits (option_lawful (λ x h. leaf_lawful refl) p.f2 readable)
+        (field_fits (leaf_lawful refl)
+        (field_fits (leaf_lawful refl)
+        (field_fits (seq_lawful (λ x h. leaf_lawful refl) p.f5.items readable)
+        (field_fits (leaf_lawful refl)
+        (field_fits (leaf_lawful refl)
+        (field_fits (leaf_lawful refl)
+        (field_fits (leaf_lawful refl)
+        (field_fits (option_lawful (λ x h. leaf_lawful refl) p.f10 readable)
+        (field_fits (leaf_lawful refl)
+        struct_end_fits)))))))))))) };
+
+    fn serialize<S: Serializer>(&self, alloc: Global, serializer: &mut S) -> Result<()> {
+        let row = SendEnd;
+        let row = SendField(FieldsOfStructMixed12, 11, &self.f11, row);
+        let row = SendField(FieldsOfStructMixed12, 10, &self.f10, row);
+        let row = SendField(FieldsOfStructMixed12, 9, &self.f9, row);
+        let row = SendField(FieldsOfStructMixed12, 8, &self.f8, row);
+        let row = SendField(FieldsOfStructMixed12, 7, &self.f7, row);
+        let row = SendField(FieldsOfStructMixed12, 6, &self.f6, row);
+        let row = SendField(FieldsOfStructMixed12, 5, &self.f5, row);
+        let row = SendField(FieldsOfStructMixed12, 4, &self.f4, row);
+        let row = SendField(FieldsOfStructMixed12, 3, &self.f3, row);
+        let row = SendField(FieldsOfStructMixed12, 2, &self.f2, row);
+        let row = SendField(FieldsOfStructMixed12, 1, &self.f1, row);
+        let row = SendField(FieldsOfStructMixed12, 0, &self.f0, row);
+        let row = SendOpen(Call::Struct(name_struct_mixed12(), 12), row);
+        send_row(alloc, serializer, &row)
+    }
+}
+
+impl<'de> Deserialize<'de> for StructMixed12 {
+    ghost refusal = { struct_refusal (name "StructMixed12") (read_by_name
+        (named_then (name "f0") (⟦<String as Deserialize<'de>>⟧.refusal)
+        (named_then (name "f1") (⟦<u8 as Deserialize<'de>>⟧.refusal)
+        (named_or_then (name "f2") (⟦<Option<u8> as Deserialize<'de>>⟧.refusal)
+        (named_then (name "f3") (⟦<bool as Deserialize<'de>>⟧.refusal)
+        (named_then (name "f4") (⟦<i32 as Deserialize<'de>>⟧.refusal)
+        (named_then (name "f5") (⟦<Vec<u8> as Deserialize<'de>>⟧.refusal)
+        (named_then (name "f6") (⟦<char as Deserialize<'de>>⟧.refusal)
+        (named_then (name "f7") (⟦<u64 as Deserialize<'de>>⟧.refusal)
+        (named_then (name "f8") (⟦<String as Deserialize<'de>>⟧.refusal)
+        (named_then (name "f9") (⟦<u8 as Deserialize<'de>>⟧.refusal)
+        (named_or_then (name "f10") (⟦<Option<u8> as Deserialize<'de>>⟧.refusal)
+        (named_then (name "f11") (⟦<bool as Deserialize<'de>>⟧.refusal)
+        (others_skipped (name "f0" ∷ name "f1" ∷ name "f2" ∷ name "f3" ∷ name "f4" ∷
+        name "f5" ∷ name "f6" ∷ name "f7" ∷ name "f8" ∷ name "f9" ∷ name "f10" ∷ name "f11"
+        ∷ []))))))))))))))) };
+
+    ghost gives = { λ s p. StructGives (name "StructMixed12") (ReadByName
+        (NamedThen (name "f0") (⟦<String as Deserialize<'de>>⟧.gives) p.f0
+        (NamedThen (name "f1") (⟦<u8 as Deserialize<'de>>⟧.gives) p.f1
+        (NamedOrThen (name "f2") (λ (x : (Option ℕ)). x ≡ None)
+        (⟦<Option<u8> as Deserialize<'de>>⟧.gives) p.f2
+        (NamedThen (name "f3") (⟦<bool as Deserialize<'de>>⟧.gives) p.f3
+        (NamedThen (name "f4") (⟦<i32 as Deserialize<'de>>⟧.gives) p.f4
+        (NamedThen (name "f5") (⟦<Vec<u8> as Deserialize<'de>>⟧.gives) p.f5
+        (NamedThen (name "f6") (⟦<char as Deserialize<'de>>⟧.gives) p.f6
+        (NamedThen (name "f7") (⟦<u64 as Deserialize<'de>>⟧.gives) p.f7
+        (NamedThen (name "f8") (⟦<String as Deserialize<'de>>⟧.gives) p.f8
+        (NamedThen (name "f9") (⟦<u8 as Deserialize<'de>>⟧.gives) p.f9
+        (NamedOrThen (name "f10") (λ (x : (Option ℕ)). x ≡ None)
+        (⟦<Option<u8> as Deserialize<'de>>⟧.gives) p.f10
+        (NamedThen (name "f11") (⟦<bool as Deserialize<'de>>⟧.gives) p.f11
+        NoOthers))))))))))))) s };
+
+    fn deserialize<'n: 'de>(alloc: Global, from: Deserializer<'de, 'n>) -> Result<StructMixed12> {
+        let fields = from
+            .deserialize_struct(alloc, name_struct_mixed12(), FieldsOfStructMixed12::names())?
+            .by_name();
+        read_struct_mixed12(alloc, fields)
+    }
+}
+
+impl<'de> RoundTrip<'de> for StructMixed12 {
+    ghost exists = { λ p. ⟦<Option<u8> as RoundTrip<'de>>⟧.exists p.f2 ×
+        ⟦<Vec<u8> as RoundTrip<'de>>⟧.exists p.f5 × ⟦<Option<u8> as RoundTrip<'de>>⟧.exists
+        p.f10 };
+
+    fn known(&self) {
+        self.f2.known();
+        self.f5.known();
+        self.f10.known();
+    }
+
+    ghost comes_back = { record {
+      of_value = λ p real f. struct_back (by_name_back
+          (named_back (name "f0") text_back p.f0 tt (λ q. q.f0)
+          (named_back (name "f1") u8_back p.f1 tt (λ q. q.f1)
+          (named_or_back (name "f2") (λ (x : (Option ℕ)). x ≡ None)
+          (let law : ComesBack (⟦<Option<u8> as RoundTrip<'de>>⟧.exists)
+          (⟦<Option<u8> as Serialize>⟧.script) (⟦<Option<u8> as Deserialize<'de>>⟧.refusal)
+          (⟦<Option<u8> as Deserialize<'de>>⟧.gives) (⟦<Option<u8> as PartialEq>⟧.eq) =
+          (option_back u8_back) in law) p.f2 real.0 (λ q. q.f2)
+          (named_back (name "f3") bool_back p.f3 tt (λ q. q.f3)
+          (named_back (name "f4") i32_back p.f4 tt (λ q. q.f4)
+          (named_back (name "f5") (let law : ComesBack (⟦<Vec<u8> as RoundTrip<'de>>⟧.exists)
+          (⟦<Vec<u8> as Serialize>⟧.script) (⟦<Vec<u8> as Deserialize<'de>>⟧.refusal)
+          (⟦<Vec<u8> as Deserialize<'de>>⟧.gives) (⟦<Vec<u8> as PartialEq>⟧.eq) =
+          (seen_back (λ v. v.items) (seq_back u8_back)) in law) p.f5 real.1 (λ q. q.f5)
+          (named_back (name "f6") char_back p.f6 tt (λ q. q.f6)
+          (named_back (name "f7") u64_back p.f7 tt (λ q. q.f7)
+          (named_back (name "f8") text_back p.f8 tt (λ q. q.f8)
+          (named_back (name "f9") u8_back p.f9 tt (λ q. q.f9)
+          (named_or_back (name "f10") (λ (x : (Option ℕ)). x ≡ None)
+          (let law : ComesBack (⟦<Option<u8> as RoundTrip<'de>>⟧.exists)
+          (⟦<Option<u8> as Serialize>⟧.script) (⟦<Option<u8> as Deserialize<'de>>⟧.refusal)
+          (⟦<Option<u8> as Deserialize<'de>>⟧.gives) (⟦<Option<u8> as PartialEq>⟧.eq) =
+          (option_back u8_back) in law) p.f10 real.2 (λ q. q.f10)
+          (named_back (name "f11") bool_back p.f11 tt (λ q. q.f11)
+          (skipped_back (name "f0" ∷ name "f1" ∷ name "f2" ∷ name "f3" ∷ name "f4" ∷ name "f5"
+          ∷ name "f6" ∷ name "f7" ∷ name "f8" ∷ name "f9" ∷ name "f10" ∷ name "f11" ∷
+          [])))))))))))))))
+          f (λ q h. both_hold h.0 (both_hold h.1.0
+          (both_hold h.1.1.0 (both_hold h.1.1.1.0
+          (both_hold h.1.1.1.1.0 (both_hold h.1.1.1.1.1.0
+          (both_hold h.1.1.1.1.1.1.0 (both_hold h.1.1.1.1.1.1.1.0
+          (both_hold h.1.1.1.1.1.1.1.1.0
+          (both_hold h.1.1.1.1.1.1.1.1.1.0
+          (both_hold h.1.1.1.1.1.1.1.1.1.1.0 h.1.1.1.1.1.1.1.1.1.1.1.0)))))))))));
+    } };
+
+    ghost keeps = { struct_keeps (name "StructMixed12") (by_name_keeps
+        (named_keeps (name "f0") (λ q. q.f0)
+        (heedless_keeps (λ o. refusal_of (text_from o))
+        (λ o (x : String Global). IsTaken (text_from o) (HasContent (string_bytes x))))
+        (named_keeps (name "f1") (λ q. q.f1) (natural_keeps kind.u8)
+        (named_or_keeps (name "f2") (λ (x : (Option ℕ)). x ≡ None) (λ q. q.f2)
+        (let law : CoercionKeeps (⟦<Option<u8> as Deserialize<'de>>⟧.refusal)
+        (⟦<Option<u8> as Deserialize<'de>>⟧.gives) = (option_keeps (natural_keeps kind.u8))
+        in law)
+        (named_keeps (name "f3") (λ q. q.f3)
+        (heedless_keeps (λ o. refusal_of (bool_from o))
+        (λ o (x : Bool). bool_from o ≡ taken x))
+        (named_keeps (name "f4") (λ q. q.f4) (integer_keeps kind.i32)
+        (named_keeps (name "f5") (λ q. q.f5)
+        (let law : CoercionKeeps (⟦<Vec<u8> as Deserialize<'de>>⟧.refusal)
+        (⟦<Vec<u8> as Deserialize<'de>>⟧.gives) =
+        (seen_keeps (λ v. v.items) (seq_keeps (natural_keeps kind.u8))) in law)
+        (named_keeps (name "f6") (λ q. q.f6)
+        (heedless_keeps (λ o. refusal_of (char_from o))
+        (λ o (x : ℕ). char_from o ≡ taken x))
+        (named_keeps (name "f7") (λ q. q.f7) (natural_keeps kind.u64)
+        (named_keeps (name "f8") (λ q. q.f8)
+        (heedless_keeps (λ o. refusal_of (text_from o))
+        (λ o (x : String Global). IsTaken (text_from o) (HasContent (string_bytes x))))
+        (named_keeps (name "f9") (λ q. q.f9) (natural_keeps kind.u8)
+        (named_or_keeps (name "f10") (λ (x : (Option ℕ)). x ≡ None) (λ q. q.f10)
+        (let law : CoercionKeeps (⟦<Option<u8> as Deserialize<'de>>⟧.refusal)
+        (⟦<Option<u8> as Deserialize<'de>>⟧.gives) = (option_keeps (natural_keeps kind.u8))
+        in law)
+        (named_keeps (name "f11") (λ q. q.f11)
+        (heedless_keeps (λ o. refusal_of (bool_from o))
+        (λ o (x : Bool). bool_from o ≡ taken x))
+        (skipped_keeps (name "f0" ∷ name "f1" ∷ name "f2" ∷ name "f3" ∷ name "f4" ∷
+        name "f5" ∷ name "f6" ∷ name "f7" ∷ name "f8" ∷ name "f9" ∷ name "f10" ∷ name "f11"
+        ∷ []))))))))))))))) };
+}
+
+#[derive(Drop, PartialEq, Eq)]
+pub struct StructByte9 {
+    pub f0: u8,
+    pub f1: u8,
+    pub f2: u8,
+    pub f3: u8,
+    pub f4: u8,
+    pub f5: u8,
+    pub f6: u8,
+    pub f7: u8,
+    pub f8: u8,
+}
+
+/// The names of its fields.
+#[derive(Drop)]
+struct FieldsOfStructByte9;
+
+impl Names for FieldsOfStructByte9 {
+    ghost names = { name "f0" ∷ name "f1" ∷ name "f2" ∷ name "f3" ∷ name "f4" ∷
+        name "f5" ∷ name "f6" ∷ name "f7" ∷ name "f8" ∷ [] };
+
+    #[tactic(auto, unfolding(serde_content::specs::Literals::name))]
+    fn names() -> &'static [&'static str] {
+        &["f0", "f1", "f2", "f3", "f4", "f5", "f6", "f7", "f8"]
+    }
+}
+
+type Field1OfStructByte9 = ReadField<FieldsOfStructByte9, 0, u8, Field2OfStructByte9>;
+
+type Field2OfStructByte9 = ReadField<FieldsOfStructByte9, 1, u8, Field3OfStructByte9>;
+
+type Field3OfStructByte9 = ReadField<FieldsOfStructByte9, 2, u8, Field4OfStructByte9>;
+
+type Field4OfStructByte9 = ReadField<FieldsOfStructByte9, 3, u8, Field5OfStructByte9>;
+
+type Field5OfStructByte9 = ReadField<FieldsOfStructByte9, 4, u8, Field6OfStructByte9>;
+
+type Field6OfStructByte9 = ReadField<FieldsOfStructByte9, 5, u8, Field7OfStructByte9>;
+
+type Field7OfStructByte9 = ReadField<FieldsOfStructByte9, 6, u8, Field8OfStructByte9>;
+
+type Field8OfStructByte9 = ReadField<FieldsOfStructByte9, 7, u8, From9OfStructByte9>;
+
+type Field9OfStructByte9 = ReadField<
+    FieldsOfStructByte9,
+    8,
+    u8,
+    OthersSkipped<FieldsOfStructByte9>,
+>;
+
+/// Values from place 9 on.
+#[derive(Drop)]
+struct From9OfStructByte9(u8);
+
+impl<'de> ReadFields<'de> for From9OfStructByte9 {
+    ghost refusal = { (named_then (name "f8") (⟦<u8 as Deserialize<'de>>⟧.refusal)
+        (others_skipped (name "f0" ∷ name "f1" ∷ name "f2" ∷ name "f3" ∷ name "f4" ∷
+        name "f5" ∷ name "f6" ∷ name "f7" ∷ name "f8" ∷ []))) };
+
+    ghost gives = { λ z.
+        (NamedThen (name "f8") (⟦<u8 as Deserialize<'de>>⟧.gives) z.0
+        NoOthers) };
+
+    fn read<'n: 'de>(alloc: Global, fields: FieldsByName<'de, 'n>) -> Result<Self> {
+        let row: Field9OfStructByte9 = ReadFields::read(alloc, fields)?;
+        let ReadField(x1, _, _) = row;
+        Ok(From9OfStructByte9(x1))
+    }
+}
+
+/// Reads the fields, in any order.
+fn read_struct_byte9<'de, 'n: 'de>(
+    alloc: Global,
+    fields: FieldsByName<'de, 'n>,
+) -> Result<StructByte9>
+    ensures { Reads (
+        (named_then (name "f0") (⟦<u8 as Deserialize<'de>>⟧.refusal)
+        (named_then (name "f1") (⟦<u8 as Deserialize<'de>>⟧.refusal)
+        (named_then (name "f2") (⟦<u8 as Deserialize<'de>>⟧.refusal)
+        (named_then (name "f3") (⟦<u8 as Deserialize<'de>>⟧.refusal)
+        (named_then (name "f4") (⟦<u8 as Deserialize<'de>>⟧.refusal)
+        (named_then (name "f5") (⟦<u8 as Deserialize<'de>>⟧.refusal)
+        (named_then (name "f6") (⟦<u8 as Deserialize<'de>>⟧.refusal)
+        (named_then (name "f7") (⟦<u8 as Deserialize<'de>>⟧.refusal)
+        (named_then (name "f8") (⟦<u8 as Deserialize<'de>>⟧.refusal)
+        (others_skipped (name "f0" ∷ name "f1" ∷ name "f2" ∷ name "f3" ∷ name "f4" ∷
+        name "f5" ∷ name "f6" ∷ name "f7" ∷ name "f8" ∷ [])))))))))))
+        (fields_left fields.entry))
+        (λ z.
+        (NamedThen (name "f0") (⟦<u8 as Deserialize<'de>>⟧.gives) z.f0
+        (NamedThen (name "f1") (⟦<u8 as Deserialize<'de>>⟧.gives) z.f1
+        (NamedThen (name "f2") (⟦<u8 as Deserialize<'de>>⟧.gives) z.f2
+        (NamedThen (name "f3") (⟦<u8 as Deserialize<'de>>⟧.gives) z.f3
+        (NamedThen (name "f4") (⟦<u8 as Deserialize<'de>>⟧.gives) z.f4
+        (NamedThen (name "f5") (⟦<u8 as Deserialize<'de>>⟧.gives) z.f5
+        (NamedThen (name "f6") (⟦<u8 as Deserialize<'de>>⟧.gives) z.f6
+        (NamedThen (name "f7") (⟦<u8 as Deserialize<'de>>⟧.gives) z.f7
+        (NamedThen (name "f8") (⟦<u8 as Deserialize<'de>>⟧.gives) z.f8
+        NoOthers)))))))))
+        (fields_left fields.entry)) result }
+{
+    let row: Field1OfStructByte9 = ReadFields::read(alloc, fields)?;
+    let ReadField(f0, row, _) = row;
+    let ReadField(f1, row, _) = row;
+    let ReadField(f2, row, _) = row;
+    let ReadField(f3, row, _) = row;
+    let ReadField(f4, row, _) = row;
+    let ReadField(f5, row, _) = row;
+    let ReadField(f6, row, _) = row;
+    let ReadField(f7, row, _) = row;
+    let From9OfStructByte9(f8) = row;
+    Ok(StructByte9 {
+        f0,
+        f1,
+        f2,
+        f3,
+        f4,
+        f5,
+        f6,
+        f7,
+        f8,
+    })
+}
+
+impl Serialize for StructByte9 {
+    ghost script = { λ p. struct_script (name "StructByte9") 9
+        (field_first (name "f0") (⟦<u8 as Serialize>⟧.script p.f0)
+        (field_first (name "f1") (⟦<u8 as Serialize>⟧.script p.f1)
+        (field_first (name "f2") (⟦<u8 as Serialize>⟧.script p.f2)
+        (field_first (name "f3") (⟦<u8 as Serialize>⟧.script p.f3)
+        (field_first (name "f4") (⟦<u8 as Serialize>⟧.script p.f4)
+        (field_first (name "f5") (⟦<u8 as Serialize>⟧.script p.f5)
+        (field_first (name "f6") (⟦<u8 as Serialize>⟧.script p.f6)
+        (field_first (name "f7") (⟦<u8 as Serialize>⟧.script p.f7)
+        (field_first (name "f8") (⟦<u8 as Serialize>⟧.script p.f8)
+        end_script))))))))) };
+
+    ghost lawful = { λ p readable. struct_lawful
+        (field_fits (leaf_lawful refl)
+        (field_fits (leaf_lawful refl)
+        (field_fits (leaf_lawful refl)
+        (field_fits (leaf_lawful refl)
+        (field_fits (leaf_lawful refl)
+        (field_fits (leaf_lawful refl)
+        (field_fits (leaf_lawful refl)
+        (field_fits (leaf_lawful refl)
+        (field_fits (leaf_lawful refl)
+        struct_end_fits))))))))) };
+
+    fn serialize<S: Serializer>(&self, alloc: Global, serializer: &mut S) -> Result<()> {
+        let row = SendEnd;
+        let row = SendField(FieldsOfStructByte9, 8, &self.f8, row);
+        let row = SendField(FieldsOfStructByte9, 7, &self.f7, row);
+        let row = SendField(FieldsOfStructByte9, 6, &self.f6, row);
+        let row = SendField(FieldsOfStructByte9, 5, &self.f5, row);
+        let row = SendField(FieldsOfStructByte9, 4, &self.f4, row);
+        let row = SendField(FieldsOfStructByte9, 3, &self.f3, row);
+        let row = SendField(FieldsOfStructByte9, 2, &self.f2, row);
+        let row = SendField(FieldsOfStructByte9, 1, &self.f1, row);
+        let row = SendField(FieldsOfStructByte9, 0, &self.f0, row);
+        let row = SendOpen(Call::Struct(name_struct_byte9(), 9), row);
+        send_row(alloc, serializer, &row)
+    }
+}
+
+impl<'de> Deserialize<'de> for StructByte9 {
+    ghost refusal = { struct_refusal (name "StructByte9") (read_by_name
+        (named_then (name "f0") (⟦<u8 as Deserialize<'de>>⟧.refusal)
+        (named_then (name "f1") (⟦<u8 as Deserialize<'de>>⟧.refusal)
+        (named_then (name "f2") (⟦<u8 as Deserialize<'de>>⟧.refusal)
+        (named_then (name "f3") (⟦<u8 as Deserialize<'de>>⟧.refusal)
+        (named_then (name "f4") (⟦<u8 as Deserialize<'de>>⟧.refusal)
+        (named_then (name "f5") (⟦<u8 as Deserialize<'de>>⟧.refusal)
+        (named_then (name "f6") (⟦<u8 as Deserialize<'de>>⟧.refusal)
+        (named_then (name "f7") (⟦<u8 as Deserialize<'de>>⟧.refusal)
+        (named_then (name "f8") (⟦<u8 as Deserialize<'de>>⟧.refusal)
+        (others_skipped (name "f0" ∷ name "f1" ∷ name "f2" ∷ name "f3" ∷ name "f4" ∷
+        name "f5" ∷ name "f6" ∷ name "f7" ∷ name "f8" ∷ [])))))))))))) };
+
+    ghost gives = { λ s p. StructGives (name "StructByte9") (ReadByName
+        (NamedThen (name "f0") (⟦<u8 as Deserialize<'de>>⟧.gives) p.f0
+        (NamedThen (name "f1") (⟦<u8 as Deserialize<'de>>⟧.gives) p.f1
+        (NamedThen (name "f2") (⟦<u8 as Deserialize<'de>>⟧.gives) p.f2
+        (NamedThen (name "f3") (⟦<u8 as Deserialize<'de>>⟧.gives) p.f3
+        (NamedThen (name "f4") (⟦<u8 as Deserialize<'de>>⟧.gives) p.f4
+        (NamedThen (name "f5") (⟦<u8 as Deserialize<'de>>⟧.gives) p.f5
+        (NamedThen (name "f6") (⟦<u8 as Deserialize<'de>>⟧.gives) p.f6
+        (NamedThen (name "f7") (⟦<u8 as Deserialize<'de>>⟧.gives) p.f7
+        (NamedThen (name "f8") (⟦<u8 as Deserialize<'de>>⟧.gives) p.f8
+        NoOthers)))))))))) s };
+
+    fn deserialize<'n: 'de>(alloc: Global, from: Deserializer<'de, 'n>) -> Result<StructByte9> {
+        let fields = from
+            .deserialize_struct(alloc, name_struct_byte9(), FieldsOfStructByte9::names())?
+            .by_name();
+        read_struct_byte9(alloc, fields)
+    }
+}
+
+impl<'de> RoundTrip<'de> for StructByte9 {
+    fn known(&self) {}
+
+    ghost comes_back = { record {
+      of_value = λ p real f. struct_back (by_name_back
+          (named_back (name "f0") u8_back p.f0 tt (λ q. q.f0)
+          (named_back (name "f1") u8_back p.f1 tt (λ q. q.f1)
+          (named_back (name "f2") u8_back p.f2 tt (λ q. q.f2)
+          (named_back (name "f3") u8_back p.f3 tt (λ q. q.f3)
+          (named_back (name "f4") u8_back p.f4 tt (λ q. q.f4)
+          (named_back (name "f5") u8_back p.f5 tt (λ q. q.f5)
+          (named_back (name "f6") u8_back p.f6 tt (λ q. q.f6)
+          (named_back (name "f7") u8_back p.f7 tt (λ q. q.f7)
+          (named_back (name "f8") u8_back p.f8 tt (λ q. q.f8)
+          (skipped_back (name "f0" ∷ name "f1" ∷ name "f2" ∷ name "f3" ∷ name "f4" ∷ name "f5"
+          ∷ name "f6" ∷ name "f7" ∷ name "f8" ∷ []))))))))))))
+          f (λ q h. both_hold h.0 (both_hold h.1.0
+          (both_hold h.1.1.0 (both_hold h.1.1.1.0
+          (both_hold h.1.1.1.1.0 (both_hold h.1.1.1.1.1.0
+          (both_hold h.1.1.1.1.1.1.0 (both_hold h.1.1.1.1.1.1.1.0 h.1.1.1.1.1.1.1.1.0))))))));
+    } };
+
+    ghost keeps = { struct_keeps (name "StructByte9") (by_name_keeps
+        (named_keeps (name "f0") (λ q. q.f0) (natural_keeps kind.u8)
+        (named_keeps (name "f1") (λ q. q.f1) (natural_keeps kind.u8)
+        (named_keeps (name "f2") (λ q. q.f2) (natural_keeps kind.u8)
+        (named_keeps (name "f3") (λ q. q.f3) (natural_keeps kind.u8)
+        (named_keeps (name "f4") (λ q. q.f4) (natural_keeps kind.u8)
+        (named_keeps (name "f5") (λ q. q.f5) (natural_keeps kind.u8)
+        (named_keeps (name "f6") (λ q. q.f6) (natural_keeps kind.u8)
+        (named_keeps (name "f7") (λ q. q.f7) (natural_keeps kind.u8)
+        (named_keeps (name "f8") (λ q. q.f8) (natural_keeps kind.u8)
+        (skipped_keeps (name "f0" ∷ name "f1" ∷ name "f2" ∷ name "f3" ∷ name "f4" ∷
+        name "f5" ∷ name "f6" ∷ name "f7" ∷ name "f8" ∷ [])))))))))))) };
+}
+
+#[derive(Drop)]
+pub struct Closed6 {
+    pub f0: String,
+    pub f1: u8,
+    pub f2: Option<u8>,
+    pub f3: bool,
+    pub f4: i32,
+    pub f5: Vec<u8>,
+}
+
+/// The names of its fields.
+#[derive(Drop)]
+struct FieldsOfClosed6;
+
+impl Names for FieldsOfClosed6 {
+    ghost names = { name "f0" ∷ name "f1" ∷ name "f2" ∷ name "f3" ∷ name "f4" ∷
+        name "f5" ∷ [] };
+
+    #[tactic(auto, unfolding(serde_content::specs::Literals::name))]
+    fn names() -> &'static [&'static str] {
+        &["f0", "f1", "f2", "f3", "f4", "f5"]
+    }
+}
+
+type Field1OfClosed6 = ReadField<FieldsOfClosed6, 0, String, Field2OfClosed6>;
+
+type Field2OfClosed6 = ReadField<FieldsOfClosed6, 1, u8, Field3OfClosed6>;
+
+type Field3OfClosed6 = ReadFieldOr<FieldsOfClosed6, 2, Option<u8>, Field4OfClosed6>;
+
+type Field4OfClosed6 = ReadField<FieldsOfClosed6, 3, bool, Field5OfClosed6>;
+
+type Field5OfClosed6 = ReadField<FieldsOfClosed6, 4, i32, Field6OfClosed6>;
+
+type Field6OfClosed6 = ReadField<FieldsOfClosed6, 5, Vec<u8>, OthersRefused<FieldsOfClosed6>>;
+
+/// Reads the fields, in any order.
+fn read_closed6<'de, 'n: 'de>(alloc: Global, fields: FieldsByName<'de, 'n>) -> Result<Closed6>
+    ensures { Reads (
+        (named_then (name "f0") (⟦<String as Deserialize<'de>>⟧.refusal)
+        (named_then (name "f1") (⟦<u8 as Deserialize<'de>>⟧.refusal)
+        (named_or_then (name "f2") (⟦<Option<u8> as Deserialize<'de>>⟧.refusal)
+        (named_then (name "f3") (⟦<bool as Deserialize<'de>>⟧.refusal)
+        (named_then (name "f4") (⟦<i32 as Deserialize<'de>>⟧.refusal)
+        (named_then (name "f5") (⟦<Vec<u8> as Deserialize<'de>>⟧.refusal)
+        (no_others (name "f0" ∷ name "f1" ∷ name "f2" ∷ name "f3" ∷ name "f4" ∷ name "f5" ∷
+        []))))))))
+        (fields_left fields.entry))
+        (λ z.
+        (NamedThen (name "f0") (⟦<String as Deserialize<'de>>⟧.gives) z.f0
+        (NamedThen (name "f1") (⟦<u8 as Deserialize<'de>>⟧.gives) z.f1
+        (NamedOrThen (name "f2") (λ (x : (Option ℕ)). x ≡ None)
+        (⟦<Option<u8> as Deserialize<'de>>⟧.gives) z.f2
+        (NamedThen (name "f3") (⟦<bool as Deserialize<'de>>⟧.gives) z.f3
+        (NamedThen (name "f4") (⟦<i32 as Deserialize<'de>>⟧.gives) z.f4
+        (NamedThen (name "f5") (⟦<Vec<u8> as Deserialize<'de>>⟧.gives) z.f5
+        NoOthers))))))
+        (fields_left fields.entry)) result }
+{
+    let row: Field1OfClosed6 = ReadFields::read(alloc, fields)?;
+    let ReadField(f0, row, _) = row;
+    let ReadField(f1, row, _) = row;
+    let ReadFieldOr(f2, row, _) = row;
+    let ReadField(f3, row, _) = row;
+    let ReadField(f4, row, _) = row;
+    let ReadField(f5, _, _) = row;
+    Ok(Closed6 {
+        f0,
+        f1,
+        f2,
+        f3,
+        f4,
+        f5,
+    })
+}
+
+impl Serialize for Closed6 {
+    ghost script = { λ p. struct_script (name "Closed6") 6
+        (field_first (name "f0") (⟦<String as Serialize>⟧.script p.f0)
+        (field_first (name "f1") (⟦<u8 as Serialize>⟧.script p.f1)
+        (field_first (name "f2") (⟦<Option<u8> as Serialize>⟧.script p.f2)
+        (field_first (name "f3") (⟦<bool as Serialize>⟧.script p.f3)
+        (field_first (name "f4") (⟦<i32 as Serialize>⟧.script p.f4)
+        (field_first (name "f5") (⟦<Vec<u8> as Serialize>⟧.script p.f5)
+        end_script)))))) };
+
+    ghost lawful = { λ p readable. struct_lawful
+        (field_fits (leaf_lawful refl)
+        (field_fits (leaf_lawful refl)
+        (field_fits (option_lawful (λ x h. leaf_lawful refl) p.f2 readable)
+        (field_fits (leaf_lawful refl)
+        (field_fits (leaf_lawful refl)
+        (field_fits (seq_lawful (λ x h. leaf_lawful refl) p.f5.items readable)
+        struct_end_fits)))))) };
+
+    fn serialize<S: Serializer>(&self, alloc: Global, serializer: &mut S) -> Result<()> {
+        let row = SendEnd;
+        let row = SendField(FieldsOfClosed6, 5, &self.f5, row);
+        let row = SendField(FieldsOfClosed6, 4, &self.f4, row);
+        let row = SendField(FieldsOfClosed6, 3, &self.f3, row);
+        let row = SendField(FieldsOfClosed6, 2, &self.f2, row);
+        let row = SendField(FieldsOfClosed6, 1, &self.f1, row);
+        let row = SendField(FieldsOfClosed6, 0, &self.f0, row);
+        let row = SendOpen(Call::Struct(name_closed6(), 6), row);
+        send_row(alloc, serializer, &row)
+    }
+}
+
+impl<'de> Deserialize<'de> for Closed6 {
+    ghost refusal = { struct_refusal (name "Closed6") (read_by_name
+        (named_then (name "f0") (⟦<String as Deserialize<'de>>⟧.refusal)
+        (named_then (name "f1") (⟦<u8 as Deserialize<'de>>⟧.refusal)
+        (named_or_then (name "f2") (⟦<Option<u8> as Deserialize<'de>>⟧.refusal)
+        (named_then (name "f3") (⟦<bool as Deserialize<'de>>⟧.refusal)
+        (named_then (name "f4") (⟦<i32 as Deserialize<'de>>⟧.refusal)
+        (named_then (name "f5") (⟦<Vec<u8> as Deserialize<'de>>⟧.refusal)
+        (no_others (name "f0" ∷ name "f1" ∷ name "f2" ∷ name "f3" ∷ name "f4" ∷ name "f5" ∷
+        []))))))))) };
+
+    ghost gives = { λ s p. StructGives (name "Closed6") (ReadByName
+        (NamedThen (name "f0") (⟦<String as Deserialize<'de>>⟧.gives) p.f0
+        (NamedThen (name "f1") (⟦<u8 as Deserialize<'de>>⟧.gives) p.f1
+        (NamedOrThen (name "f2") (λ (x : (Option ℕ)). x ≡ None)
+        (⟦<Option<u8> as Deserialize<'de>>⟧.gives) p.f2
+        (NamedThen (name "f3") (⟦<bool as Deserialize<'de>>⟧.gives) p.f3
+        (NamedThen (name "f4") (⟦<i32 as Deserialize<'de>>⟧.gives) p.f4
+        (NamedThen (name "f5") (⟦<Vec<u8> as Deserialize<'de>>⟧.gives) p.f5
+        NoOthers))))))) s };
+
+    fn deserialize<'n: 'de>(alloc: Global, from: Deserializer<'de, 'n>) -> Result<Closed6> {
+        let fields = from
+            .deserialize_struct(alloc, name_closed6(), FieldsOfClosed6::names())?
+            .by_name();
+        read_closed6(alloc, fields)
+    }
+}
+
+#[derive(Drop)]
+pub struct Sent20 {
+    pub f0: String,
+    pub f1: u8,
+    pub f2: Option<u8>,
+    pub f3: bool,
+    pub f4: i32,
+    pub f5: Vec<u8>,
+    pub f6: char,
+    pub f7: u64,
+    pub f8: String,
+    pub f9: u8,
+    pub f10: Option<u8>,
+    pub f11: bool,
+    pub f12: i32,
+    pub f13: Vec<u8>,
+    pub f14: char,
+    pub f15: u64,
+    pub f16: String,
+    pub f17: u8,
+    pub f18: Option<u8>,
+    pub f19: bool,
+}
+
+/// The names of its fields.
+#[derive(Drop)]
+struct FieldsOfSent20;
+
+impl Names for FieldsOfSent20 {
+    ghost names = { name "f0" ∷ name "f1" ∷ name "f2" ∷ name "f3" ∷ name "f4" ∷
+        name "f5" ∷ name "f6" ∷ name "f7" ∷ name "f8" ∷ name "f9" ∷ name "f10" ∷ name "f11"
+        ∷ name "f12" ∷ name "f13" ∷ name "f14" ∷ name "f15" ∷ name "f16" ∷ name "f17" ∷
+        name "f18" ∷ name "f19" ∷ [] };
+
+    #[tactic(auto, unfolding(serde_content::specs::Literals::name))]
+    fn names() -> &'static [&'static str] {
+        &[
+            "f0", "f1", "f2", "f3", "f4", "f5", "f6", "f7", "f8", "f9", "f10", "f11", "f12", "f13",
+            "f14", "f15", "f16", "f17", "f18", "f19",
+        ]
+    }
+}
+
+impl Serialize for Sent20 {
+    ghost script = { λ p. struct_script (name "Sent20") 20
+        (field_first (name "f0") (⟦<String as Serialize>⟧.script p.f0)
+        (field_first (name "f1") (⟦<u8 as Serialize>⟧.script p.f1)
+        (field_first (name "f2") (⟦<Option<u8> as Serialize>⟧.script p.f2)
+        (field_first (name "f3") (⟦<bool as Serialize>⟧.script p.f3)
+        (field_first (name "f4") (⟦<i32 as Serialize>⟧.script p.f4)
+        (field_first (name "f5") (⟦<Vec<u8> as Serialize>⟧.script p.f5)
+        (field_first (name "f6") (⟦<char as Serialize>⟧.script p.f6)
+        (field_first (name "f7") (⟦<u64 as Serialize>⟧.script p.f7)
+        (field_first (name "f8") (⟦<String as Serialize>⟧.script p.f8)
+        (field_first (name "f9") (⟦<u8 as Serialize>⟧.script p.f9)
+        (field_first (name "f10") (⟦<Option<u8> as Serialize>⟧.script p.f10)
+        (field_first (name "f11") (⟦<bool as Serialize>⟧.script p.f11)
+        (field_first (name "f12") (⟦<i32 as Serialize>⟧.script p.f12)
+        (field_first (name "f13") (⟦<Vec<u8> as Serialize>⟧.script p.f13)
+        (field_first (name "f14") (⟦<char as Serialize>⟧.script p.f14)
+        (field_first (name "f15") (⟦<u64 as Serialize>⟧.script p.f15)
+        (field_first (name "f16") (⟦<String as Serialize>⟧.script p.f16)
+        (field_first (name "f17") (⟦<u8 as Serialize>⟧.script p.f17)
+        (field_first (name "f18") (⟦<Option<u8> as Serialize>⟧.script p.f18)
+        (field_first (name "f19") (⟦<bool as Serialize>⟧.script p.f19)
+        end_script)))))))))))))))))))) };
+
+    ghost lawful = { λ p readable. struct_lawful
+        (field_fits (leaf_lawful refl)
+        (field_fits (leaf_lawful refl)
+        (field_fits (option_lawful (λ x h. leaf_lawful refl) p.f2 readable)
+        (field_fits (leaf_lawful refl)
+        (field_fits (leaf_lawful refl)
+        (field_fits (seq_lawful (λ x h. leaf_lawful refl) p.f5.items readable)
+        (field_fits (leaf_lawful refl)
+        (field_fits (leaf_lawful refl)
+        (field_fits (leaf_lawful refl)
+        (field_fits (leaf_lawful refl)
+        (field_fits (option_lawful (λ x h. leaf_lawful refl) p.f10 readable)
+        (field_fits (leaf_lawful refl)
+        (field_fits (leaf_lawful refl)
+        (field_fits (seq_lawful (λ x h. leaf_lawful refl) p.f13.items readable)
+        (field_fits (leaf_lawful refl)
+        (field_fits (leaf_lawful refl)
+        (field_fits (leaf_lawful refl)
+        (field_fits (leaf_lawful refl)
+        (field_fits (option_lawful (λ x h. leaf_lawful refl) p.f18 readable)
+        (field_fits (leaf_lawful refl)
+        struct_end_fits)))))))))))))))))))) };
+
+    fn serialize<S: Serializer>(&self, alloc: Global, serializer: &mut S) -> Result<()> {
+        let row = SendEnd;
+        let row = SendField(FieldsOfSent20, 19, &self.f19, row);
+        let row = SendField(FieldsOfSent20, 18, &self.f18, row);
+        let row = SendField(FieldsOfSent20, 17, &self.f17, row);
+        let row = SendField(FieldsOfSent20, 16, &self.f16, row);
+        let row = SendField(FieldsOfSent20, 15, &self.f15, row);
+        let row = SendField(FieldsOfSent20, 14, &self.f14, row);
+        let row = SendField(FieldsOfSent20, 13, &self.f13, row);
+        let row = SendField(FieldsOfSent20, 12, &self.f12, row);
+        let row = SendField(FieldsOfSent20, 11, &self.f11, row);
+        let row = SendField(FieldsOfSent20, 10, &self.f10, row);
+        let row = SendField(FieldsOfSent20, 9, &self.f9, row);
+        let row = SendField(FieldsOfSent20, 8, &self.f8, row);
+        let row = SendField(FieldsOfSent20, 7, &self.f7, row);
+        let row = SendField(FieldsOfSent20, 6, &self.f6, row);
+        let row = SendField(FieldsOfSent20, 5, &self.f5, row);
+        let row = SendField(FieldsOfSent20, 4, &self.f4, row);
+        let row = SendField(FieldsOfSent20, 3, &self.f3, row);
+        let row = SendField(FieldsOfSent20, 2, &self.f2, row);
+        let row = SendField(FieldsOfSent20, 1, &self.f1, row);
+        let row = SendField(FieldsOfSent20, 0, &self.f0, row);
+        let row = SendOpen(Call::Struct(name_sent20(), 20), row);
+        send_row(alloc, serializer, &row)
+    }
+}
+
+#[derive(Drop)]
+pub struct Read12 {
+    pub f0: String,
+    pub f1: u8,
+    pub f2: Option<u8>,
+    pub f3: bool,
+    pub f4: i32,
+    pub f5: Vec<u8>,
+    pub f6: char,
+    pub f7: u64,
+    pub f8: String,
+    pub f9: u8,
+    pub f10: Option<u8>,
+    pub f11: bool,
+}
+
+/// The names of its fields.
+#[derive(Drop)]
+struct FieldsOfRead12;
+
+impl Names for FieldsOfRead12 {
+    ghost names = { name "f0" ∷ name "f1" ∷ name "f2" ∷ name "f3" ∷ name "f4" ∷
+        name "f5" ∷ name "f6" ∷ name "f7" ∷ name "f8" ∷ name "f9" ∷ name "f10" ∷ name "f11"
+        ∷ [] };
+
+    #[tactic(auto, unfolding(serde_content::specs::Literals::name))]
+    fn names() -> &'static [&'static str] {
+        &[
+            "f0", "f1", "f2", "f3", "f4", "f5", "f6", "f7", "f8", "f9", "f10", "f11",
+        ]
+    }
+}
+
+type Field1OfRead12 = ReadField<FieldsOfRead12, 0, String, Field2OfRead12>;
+
+type Field2OfRead12 = ReadField<FieldsOfRead12, 1, u8, Field3OfRead12>;
+
+type Field3OfRead12 = ReadFieldOr<FieldsOfRead12, 2, Option<u8>, Field4OfRead12>;
+
+type Field4OfRead12 = ReadField<FieldsOfRead12, 3, bool, Field5OfRead12>;
+
+type Field5OfRead12 = ReadField<FieldsOfRead12, 4, i32, Field6OfRead12>;
+
+type Field6OfRead12 = ReadField<FieldsOfRead12, 5, Vec<u8>, Field7OfRead12>;
+
+type Field7OfRead12 = ReadField<FieldsOfRead12, 6, char, Field8OfRead12>;
+
+type Field8OfRead12 = ReadField<FieldsOfRead12, 7, u64, From9OfRead12>;
+
+type Field9OfRead12 = ReadField<FieldsOfRead12, 8, String, Field10OfRead12>;
+
+type Field10OfRead12 = ReadField<FieldsOfRead12, 9, u8, Field11OfRead12>;
+
+type Field11OfRead12 = ReadFieldOr<FieldsOfRead12, 10, Option<u8>, Field12OfRead12>;
+
+type Field12OfRead12 = ReadField<FieldsOfRead12, 11, bool, OthersSkipped<FieldsOfRead12>>;
+
+/// Values from place 9 on.
+#[derive(Drop)]
+struct From9OfRead12(String, u8, Option<u8>, bool);
+
+impl<'de> ReadFields<'de> for From9OfRead12 {
+    ghost refusal = { (named_then (name "f8") (⟦<String as Deserialize<'de>>⟧.refusal)
+        (named_then (name "f9") (⟦<u8 as Deserialize<'de>>⟧.refusal)
+        (named_or_then (name "f10") (⟦<Option<u8> as Deserialize<'de>>⟧.refusal)
+        (named_then (name "f11") (⟦<bool as Deserialize<'de>>⟧.refusal)
+        (others_skipped (name "f0" ∷ name "f1" ∷ name "f2" ∷ name "f3" ∷ name "f4" ∷
+        name "f5" ∷ name "f6" ∷ name "f7" ∷ name "f8" ∷ name "f9" ∷ name "f10" ∷ name "f11"
+        ∷ [])))))) };
+
+    ghost gives = { λ z.
+        (NamedThen (name "f8") (⟦<String as Deserialize<'de>>⟧.gives) z.0
+        (NamedThen (name "f9") (⟦<u8 as Deserialize<'de>>⟧.gives) z.1
+        (NamedOrThen (name "f10") (λ (x : (Option ℕ)). x ≡ None)
+        (⟦<Option<u8> as Deserialize<'de>>⟧.gives) z.2
+        (NamedThen (name "f11") (⟦<bool as Deserialize<'de>>⟧.gives) z.3
+        NoOthers)))) };
+
+    fn read<'n: 'de>(alloc: Global, fields: FieldsByName<'de, 'n>) -> Result<Self> {
+        let row: Field9OfRead12 = ReadFields::read(alloc, fields)?;
+        let ReadField(x1, row, _) = row;
+        let ReadField(x2, row, _) = row;
+        let ReadFieldOr(x3, row, _) = row;
+        let ReadField(x4, _, _) = row;
+        Ok(From9OfRead12(x1, x2, x3, x4))
+    }
+}
+
+/// Reads the fields, in any order.
+fn read_read12<'de, 'n: 'de>(alloc: Global, fields: FieldsByName<'de, 'n>) -> Result<Read12>
+    ensures { Reads (
+        (named_then (name "f0") (⟦<String as Deserialize<'de>>⟧.refusal)
+        (named_then (name "f1") (⟦<u8 as Deserialize<'de>>⟧.refusal)
+        (named_or_then (name "f2") (⟦<Option<u8> as Deserialize<'de>>⟧.refusal)
+        (named_then (name "f3") (⟦<bool as Deserialize<'de>>⟧.refusal)
+        (named_then (name "f4") (⟦<i32 as Deserialize<'de>>⟧.refusal)
+        (named_then (name "f5") (⟦<Vec<u8> as Deserialize<'de>>⟧.refusal)
+        (named_then (name "f6") (⟦<char as Deserialize<'de>>⟧.refusal)
+        (named_then (name "f7") (⟦<u64 as Deserialize<'de>>⟧.refusal)
+        (named_then (name "f8") (⟦<String as Deserialize<'de>>⟧.refusal)
+        (named_then (name "f9") (⟦<u8 as Deserialize<'de>>⟧.refusal)
+        (named_or_then (name "f10") (⟦<Option<u8> as Deserialize<'de>>⟧.refusal)
+        (named_then (name "f11") (⟦<bool as Deserialize<'de>>⟧.refusal)
+        (others_skipped (name "f0" ∷ name "f1" ∷ name "f2" ∷ name "f3" ∷ name "f4" ∷
+        name "f5" ∷ name "f6" ∷ name "f7" ∷ name "f8" ∷ name "f9" ∷ name "f10" ∷ name "f11"
+        ∷ []))))))))))))))
+        (fields_left fields.entry))
+        (λ z.
+        (NamedThen (name "f0") (⟦<String as Deserialize<'de>>⟧.gives) z.f0
+        (NamedThen (name "f1") (⟦<u8 as Deserialize<'de>>⟧.gives) z.f1
+        (NamedOrThen (name "f2") (λ (x : (Option ℕ)). x ≡ None)
+        (⟦<Option<u8> as Deserialize<'de>>⟧.gives) z.f2
+        (NamedThen (name "f3") (⟦<bool as Deserialize<'de>>⟧.gives) z.f3
+        (NamedThen (name "f4") (⟦<i32 as Deserialize<'de>>⟧.gives) z.f4
+        (NamedThen (name "f5") (⟦<Vec<u8> as Deserialize<'de>>⟧.gives) z.f5
+        (NamedThen (name "f6") (⟦<char as Deserialize<'de>>⟧.gives) z.f6
+        (NamedThen (name "f7") (⟦<u64 as Deserialize<'de>>⟧.gives) z.f7
+        (NamedThen (name "f8") (⟦<String as Deserialize<'de>>⟧.gives) z.f8
+        (NamedThen (name "f9") (⟦<u8 as Deserialize<'de>>⟧.gives) z.f9
+        (NamedOrThen (name "f10") (λ (x : (Option ℕ)). x ≡ None)
+        (⟦<Option<u8> as Deserialize<'de>>⟧.gives) z.f10
+        (NamedThen (name "f11") (⟦<bool as Deserialize<'de>>⟧.gives) z.f11
+        NoOthers))))))))))))
+        (fields_left fields.entry)) result }
+{
+    let row: Field1OfRead12 = ReadFields::read(alloc, fields)?;
+    let ReadField(f0, row, _) = row;
+    let ReadField(f1, row, _) = row;
+    let ReadFieldOr(f2, row, _) = row;
+    let ReadField(f3, row, _) = row;
+    let ReadField(f4, row, _) = row;
+    let ReadField(f5, row, _) = row;
+    let ReadField(f6, row, _) = row;
+    let ReadField(f7, row, _) = row;
+    let From9OfRead12(f8, f9, f10, f11) = row;
+    Ok(Read12 {
+        f0,
+        f1,
+        f2,
+        f3,
+        f4,
+        f5,
+        f6,
+        f7,
+        f8,
+        f9,
+        f10,
+        f11,
+    })
+}
+
+impl<'de> Deserialize<'de> for Read12 {
+    ghost refusal = { struct_refusal (name "Read12") (read_by_name
+        (named_then (name "f0") (⟦<String as Deserialize<'de>>⟧.refusal)
+        (named_then (name "f1") (⟦<u8 as Deserialize<'de>>⟧.refusal)
+        (named_or_then (name "f2") (⟦<Option<u8> as Deserialize<'de>>⟧.refusal)
+        (named_then (name "f3") (⟦<bool as Deserialize<'de>>⟧.refusal)
+        (named_then (name "f4") (⟦<i32 as Deserialize<'de>>⟧.refusal)
+        (named_then (name "f5") (⟦<Vec<u8> as Deserialize<'de>>⟧.refusal)
+        (named_then (name "f6") (⟦<char as Deserialize<'de>>⟧.refusal)
+        (named_then (name "f7") (⟦<u64 as Deserialize<'de>>⟧.refusal)
+        (named_then (name "f8") (⟦<String as Deserialize<'de>>⟧.refusal)
+        (named_then (name "f9") (⟦<u8 as Deserialize<'de>>⟧.refusal)
+        (named_or_then (name "f10") (⟦<Option<u8> as Deserialize<'de>>⟧.refusal)
+        (named_then (name "f11") (⟦<bool as Deserialize<'de>>⟧.refusal)
+        (others_skipped (name "f0" ∷ name "f1" ∷ name "f2" ∷ name "f3" ∷ name "f4" ∷
+        name "f5" ∷ name "f6" ∷ name "f7" ∷ name "f8" ∷ name "f9" ∷ name "f10" ∷ name "f11"
+        ∷ []))))))))))))))) };
+
+    ghost gives = { λ s p. StructGives (name "Read12") (ReadByName
+        (NamedThen (name "f0") (⟦<String as Deserialize<'de>>⟧.gives) p.f0
+        (NamedThen (name "f1") (⟦<u8 as Deserialize<'de>>⟧.gives) p.f1
+        (NamedOrThen (name "f2") (λ (x : (Option ℕ)). x ≡ None)
+        (⟦<Option<u8> as Deserialize<'de>>⟧.gives) p.f2
+        (NamedThen (name "f3") (⟦<bool as Deserialize<'de>>⟧.gives) p.f3
+        (NamedThen (name "f4") (⟦<i32 as Deserialize<'de>>⟧.gives) p.f4
+        (NamedThen (name "f5") (⟦<Vec<u8> as Deserialize<'de>>⟧.gives) p.f5
+        (NamedThen (name "f6") (⟦<char as Deserialize<'de>>⟧.gives) p.f6
+        (NamedThen (name "f7") (⟦<u64 as Deserialize<'de>>⟧.gives) p.f7
+        (NamedThen (name "f8") (⟦<String as Deserialize<'de>>⟧.gives) p.f8
+        (NamedThen (name "f9") (⟦<u8 as Deserialize<'de>>⟧.gives) p.f9
+        (NamedOrThen (name "f10") (λ (x : (Option ℕ)). x ≡ None)
+        (⟦<Option<u8> as Deserialize<'de>>⟧.gives) p.f10
+        (NamedThen (name "f11") (⟦<bool as Deserialize<'de>>⟧.gives) p.f11
+        NoOthers))))))))))))) s };
+
+    fn deserialize<'n: 'de>(alloc: Global, from: Deserializer<'de, 'n>) -> Result<Read12> {
+        let fields = from
+            .deserialize_struct(alloc, name_read12(), FieldsOfRead12::names())?
+            .by_name();
+        read_read12(alloc, fields)
+    }
+}
+
+#[derive(Drop, PartialEq, Eq)]
+pub struct PlaceMixed9(
+    pub String,
+    pub u8,
+    pub Option<u8>,
+    pub bool,
+    pub i32,
+    pub Vec<u8>,
+    pub char,
+    pub u64,
+    pub String,
+);
+
+type Part1OfPlaceMixed9 = ReadPart<9, 0, String, Part2OfPlaceMixed9>;
+
+type Part2OfPlaceMixed9 = ReadPart<9, 1, u8, Part3OfPlaceMixed9>;
+
+type Part3OfPlaceMixed9 = ReadPart<9, 2, Option<u8>, Part4OfPlaceMixed9>;
+
+type Part4OfPlaceMixed9 = ReadPart<9, 3, bool, Part5OfPlaceMixed9>;
+
+type Part5OfPlaceMixed9 = ReadPart<9, 4, i32, Part6OfPlaceMixed9>;
+
+type Part6OfPlaceMixed9 = ReadPart<9, 5, Vec<u8>, Part7OfPlaceMixed9>;
+
+type Part7OfPlaceMixed9 = ReadPart<9, 6, char, Part8OfPlaceMixed9>;
+
+type Part8OfPlaceMixed9 = ReadPart<9, 7, u64, From9OfPlaceMixed9>;
+
+type Part9OfPlaceMixed9 = ReadPart<9, 8, String, PartsEnd<9>>;
+
+/// Values from place 9 on.
+#[derive(Drop)]
+struct From9OfPlaceMixed9(String);
+
+impl<'de> ReadParts<'de> for From9OfPlaceMixed9 {
+    ghost refusal = { (part_then 9 8 (⟦<String as Deserialize<'de>>⟧.refusal)
+        (end_of_parts 9)) };
+
+    ghost gives = { λ z.
+        (PartThen (⟦<String as Deserialize<'de>>⟧.gives) z.0
+        NoPart) };
+
+    fn read<'n: 'de>(alloc: Global, parts: serde_content::de::Seq<'de, 'n>) -> Result<Self> {
+        let row: Part9OfPlaceMixed9 = ReadParts::read(alloc, parts)?;
+        let ReadPart(x1, _) = row;
+        Ok(From9OfPlaceMixed9(x1))
+    }
+}
+
+impl Serialize for PlaceMixed9 {
+    ghost script = { λ p. tuple_struct_script (name "PlaceMixed9") 9
+        (tuple_field_first (⟦<String as Serialize>⟧.script p.0)
+        (tuple_field_first (⟦<u8 as Serialize>⟧.script p.1)
+        (tuple_field_first (⟦<Option<u8> as Serialize>⟧.script p.2)
+        (tuple_field_first (⟦<bool as Serialize>⟧.script p.3)
+        (tuple_field_first (⟦<i32 as Serialize>⟧.script p.4)
+        (tuple_field_first (⟦<Vec<u8> as Serialize>⟧.script p.5)
+        (tuple_field_first (⟦<char as Serialize>⟧.script p.6)
+        (tuple_field_first (⟦<u64 as Serialize>⟧.script p.7)
+        (tuple_field_first (⟦<String as Serialize>⟧.script p.8)
+        end_script))))))))) };
+
+    ghost lawful = { λ p readable. tuple_struct_lawful
+        (tuple_field_fits (leaf_lawful refl)
+        (tuple_field_fits (leaf_lawful refl)
+        (tuple_field_fits (option_lawful (λ x h. leaf_lawful refl) p.2 readable)
+        (tuple_field_fits (leaf_lawful refl)
+        (tuple_field_fits (leaf_lawful refl)
+        (tuple_field_fits (seq_lawful (λ x h. leaf_lawful refl) p.5.items readable)
+        (tuple_field_fits (leaf_lawful refl)
+        (tuple_field_fits (leaf_lawful refl)
+        (tuple_field_fits (leaf_lawful refl)
+        tuple_end_fits))))))))) };
+
+    fn serialize<S: Serializer>(&self, alloc: Global, serializer: &mut S) -> Result<()> {
+        let row = SendEnd;
+        let row = SendPart(&self.8, row);
+        let row = SendPart(&self.7, row);
+        let row = SendPart(&self.6, row);
+        let row = SendPart(&self.5, row);
+        let row = SendPart(&self.4, row);
+        let row = SendPart(&self.3, row);
+        let row = SendPart(&self.2, row);
+        let row = SendPart(&self.1, row);
+        let row = SendPart(&self.0, row);
+        let row = SendOpen(Call::TupleStruct(name_place_mixed9(), 9), row);
+        send_row(alloc, serializer, &row)
+    }
+}
+
+impl<'de> Deserialize<'de> for PlaceMixed9 {
+    ghost refusal = { tuple_struct_refusal (name "PlaceMixed9")
+        (part_then 9 0 (⟦<String as Deserialize<'de>>⟧.refusal)
+        (part_then 9 1 (⟦<u8 as Deserialize<'de>>⟧.refusal)
+        (part_then 9 2 (⟦<Option<u8> as Deserialize<'de>>⟧.refusal)
+        (part_then 9 3 (⟦<bool as Deserialize<'de>>⟧.refusal)
+        (part_then 9 4 (⟦<i32 as Deserialize<'de>>⟧.refusal)
+        (part_then 9 5 (⟦<Vec<u8> as Deserialize<'de>>⟧.refusal)
+        (part_then 9 6 (⟦<char as Deserialize<'de>>⟧.refusal)
+        (part_then 9 7 (⟦<u64 as Deserialize<'de>>⟧.refusal)
+        (part_then 9 8 (⟦<String as Deserialize<'de>>⟧.refusal)
+        (end_of_parts 9)))))))))) };
+
+    ghost gives = { λ s p. TupleStructGives (name "PlaceMixed9")
+        (PartThen (⟦<String as Deserialize<'de>>⟧.gives) p.0
+        (PartThen (⟦<u8 as Deserialize<'de>>⟧.gives) p.1
+        (PartThen (⟦<Option<u8> as Deserialize<'de>>⟧.gives) p.2
+        (PartThen (⟦<bool as Deserialize<'de>>⟧.gives) p.3
+        (PartThen (⟦<i32 as Deserialize<'de>>⟧.gives) p.4
+        (PartThen (⟦<Vec<u8> as Deserialize<'de>>⟧.gives) p.5
+        (PartThen (⟦<char as Deserialize<'de>>⟧.gives) p.6
+        (PartThen (⟦<u64 as Deserialize<'de>>⟧.gives) p.7
+        (PartThen (⟦<String as Deserialize<'de>>⟧.gives) p.8
+        NoPart))))))))) s };
+
+    fn deserialize<'n: 'de>(alloc: Global, from: Deserializer<'de, 'n>) -> Result<PlaceMixed9> {
+        let parts = from.deserialize_tuple_struct(alloc, name_place_mixed9(), 9)?;
+        let row: Part1OfPlaceMixed9 = ReadParts::read(alloc, parts)?;
+        let ReadPart(x1, row) = row;
+        let ReadPart(x2, row) = row;
+        let ReadPart(x3, row) = row;
+        let ReadPart(x4, row) = row;
+        let ReadPart(x5, row) = row;
+        let ReadPart(x6, row) = row;
+        let ReadPart(x7, row) = row;
+        let ReadPart(x8, row) = row;
+        let From9OfPlaceMixed9(x9) = row;
+        Ok(PlaceMixed9(x1, x2, x3, x4, x5, x6, x7, x8, x9))
+    }
+}
+
+impl<'de> RoundTrip<'de> for PlaceMixed9 {
+    ghost exists = { λ p. ⟦<Option<u8> as RoundTrip<'de>>⟧.exists p.2 ×
+        ⟦<Vec<u8> as RoundTrip<'de>>⟧.exists p.5 };
+
+    fn known(&self) {
+        self.2.known();
+        self.5.known();
+    }
+
+    ghost comes_back = { record {
+      of_value = λ p real f. tuple_struct_back
+          (tuple_field_back text_back p.0 tt (λ q. q.0) 9 0
+          (tuple_field_back u8_back p.1 tt (λ q. q.1) 9 1
+          (tuple_field_back (let law : ComesBack (⟦<Option<u8> as RoundTrip<'de>>⟧.exists)
+          (⟦<Option<u8> as Serialize>⟧.script) (⟦<Option<u8> as Deserialize<'de>>⟧.refusal)
+          (⟦<Option<u8> as Deserialize<'de>>⟧.gives) (⟦<Option<u8> as PartialEq>⟧.eq) =
+          (option_back u8_back) in law) p.2 real.0 (λ q. q.2) 9 2
+          (tuple_field_back bool_back p.3 tt (λ q. q.3) 9 3
+          (tuple_field_back i32_back p.4 tt (λ q. q.4) 9 4
+          (tuple_field_back (let law : ComesBack (⟦<Vec<u8> as RoundTrip<'de>>⟧.exists)
+          (⟦<Vec<u8> as Serialize>⟧.script) (⟦<Vec<u8> as Deserialize<'de>>⟧.refusal)
+          (⟦<Vec<u8> as Deserialize<'de>>⟧.gives) (⟦<Vec<u8> as PartialEq>⟧.eq) =
+          (seen_back (λ v. v.items) (seq_back u8_back)) in law) p.5 real.1 (λ q. q.5) 9 5
+          (tuple_field_back char_back p.6 tt (λ q. q.6) 9 6
+          (tuple_field_back u64_back p.7 tt (λ q. q.7) 9 7
+          (tuple_field_back text_back p.8 tt (λ q. q.8) 9 8
+          (parts_end 9))))))))))
+          f (λ q h. both_hold h.0 (both_hold h.1.0
+          (both_hold h.1.1.0 (both_hold h.1.1.1.0
+          (both_hold h.1.1.1.1.0 (both_hold h.1.1.1.1.1.0
+          (both_hold h.1.1.1.1.1.1.0 (both_hold h.1.1.1.1.1.1.1.0 h.1.1.1.1.1.1.1.1.0))))))));
+    } };
+
+    ghost keeps = { tuple_struct_keeps (name "PlaceMixed9")
+        (part_keeps (λ q. q.0) 9 0 (heedless_keeps (λ o. refusal_of (text_from o))
+        (λ o (x : String Global). IsTaken (text_from o) (HasContent (string_bytes x))))
+        (part_keeps (λ q. q.1) 9 1 (natural_keeps kind.u8)
+        (part_keeps (λ q. q.2) 9 2 (let law : CoercionKeeps
+        (⟦<Option<u8> as Deserialize<'de>>⟧.refusal)
+        (⟦<Option<u8> as Deserialize<'de>>⟧.gives) = (option_keeps (natural_keeps kind.u8))
+        in law)
+        (part_keeps (λ q. q.3) 9 3 (heedless_keeps (λ o. refusal_of (bool_from o))
+        (λ o (x : Bool). bool_from o ≡ taken x))
+        (part_keeps (λ q. q.4) 9 4 (integer_keeps kind.i32)
+        (part_keeps (λ q. q.5) 9 5 (let law : CoercionKeeps
+        (⟦<Vec<u8> as Deserialize<'de>>⟧.refusal) (⟦<Vec<u8> as Deserialize<'de>>⟧.gives) =
+        (seen_keeps (λ v. v.items) (seq_keeps (natural_keeps kind.u8))) in law)
+        (part_keeps (λ q. q.6) 9 6 (heedless_keeps (λ o. refusal_of (char_from o))
+        (λ o (x : ℕ). char_from o ≡ taken x))
+        (part_keeps (λ q. q.7) 9 7 (natural_keeps kind.u64)
+        (part_keeps (λ q. q.8) 9 8 (heedless_keeps (λ o. refusal_of (text_from o))
+        (λ o (x : String Global). IsTaken (text_from o) (HasContent (string_bytes x))))
+        (parts_end_keeps 9)))))))))) };
+}
+
+#[derive(Drop, PartialEq, Eq)]
+pub enum ExternalMixed4 {
+    V0,
+    V1(String),
+    V2(u8, bool),
+    V3 { f0: i32, f1: u8, f2: String },
+}
+
+type Part1OfExternalMixed4V2 = ReadPart<2, 0, u8, Part2OfExternalMixed4V2>;
+
+type Part2OfExternalMixed4V2 = ReadPart<2, 1, bool, PartsEnd<2>>;
+
+/// Its contract tells proofs what a variant of signed numbers holds.
+fn make_external_mixed4_v3(f0: i32, f1: u8, f2: String) -> ExternalMixed4
+    ensures { result ≡ external_mixed4.V3 f0 f1 f2 }
+{
+    ExternalMixed4::V3 { f0, f1, f2 }
+}
+
+/// The names of its fields.
+#[derive(Drop)]
+struct FieldsOfExternalMixed4V3;
+
+impl Names for FieldsOfExternalMixed4V3 {
+    ghost names = { name "f0" ∷ name "f1" ∷ name "f2" ∷ [] };
+
+    #[tactic(auto, unfolding(serde_content::specs::Literals::name))]
+    fn names() -> &'static [&'static str] {
+        &["f0", "f1", "f2"]
+    }
+}
+
+/// Sends that variant.
+fn send_whole_external_mixed4_v3<S: Serializer>(
+    alloc: Global,
+    serializer: &mut S,
+    whole: &ExternalMixed4,
+    f0: &i32,
+    f1: &u8,
+    f2: &String,
+) -> Result<()>
+    requires { whole.now ≡ external_mixed4.V3 f0.now f1.now f2.now }
+    ensures { Sends S.step S.refuses (S.seen serializer.old)
+        (⟦<ExternalMixed4 as Serialize>⟧.script whole.now)
+        result (S.seen serializer.new) }
+{
+    let row = SendEnd;
+    let row = SendField(FieldsOfExternalMixed4V3, 2, f2, row);
+    let row = SendField(FieldsOfExternalMixed4V3, 1, f1, row);
+    let row = SendField(FieldsOfExternalMixed4V3, 0, f0, row);
+    let row = SendOpen(
+        Call::StructVariant(name_external_mixed4(), 3, name_v3(), 3),
+        row,
+    );
+    send_row(alloc, serializer, &row)
+}
+
+type Field1OfExternalMixed4V3 = ReadField<
+    FieldsOfExternalMixed4V3,
+    0,
+    i32,
+    Field2OfExternalMixed4V3,
+>;
+
+type Field2OfExternalMixed4V3 = ReadField<
+    FieldsOfExternalMixed4V3,
+    1,
+    u8,
+    Field3OfExternalMixed4V3,
+>;
+
+type Field3OfExternalMixed4V3 = ReadField<
+    FieldsOfExternalMixed4V3,
+    2,
+    String,
+    OthersSkipped<FieldsOfExternalMixed4V3>,
+>;
+
+/// Reads the fields, in any order.
+fn read_external_mixed4_v3<'de, 'n: 'de>(
+    alloc: Global,
+    fields: FieldsByName<'de, 'n>,
+) -> Result<(i32, u8, String)>
+    ensures { Reads (
+        (named_then (name "f0") (⟦<i32 as Deserialize<'de>>⟧.refusal)
+        (named_then (name "f1") (⟦<u8 as Deserialize<'de>>⟧.refusal)
+        (named_then (name "f2") (⟦<String as Deserialize<'de>>⟧.refusal)
+        (others_skipped (name "f0" ∷ name "f1" ∷ name "f2" ∷ [])))))
+        (fields_left fields.entry))
+        (λ z.
+        (NamedThen (name "f0") (⟦<i32 as Deserialize<'de>>⟧.gives) z.0
+        (NamedThen (name "f1") (⟦<u8 as Deserialize<'de>>⟧.gives) z.1
+        (NamedThen (name "f2") (⟦<String as Deserialize<'de>>⟧.gives) z.2
+        NoOthers)))
+        (fields_left fields.entry)) result }
+{
+    let row: Field1OfExternalMixed4V3 = ReadFields::read(alloc, fields)?;
+    let ReadField(f0, row, _) = row;
+    let ReadField(f1, row, _) = row;
+    let ReadField(f2, _, _) = row;
+    Ok((f0, f1, f2))
+}
+
+/// The names of its variants.
+#[derive(Drop)]
+struct NamesOfExternalMixed4;
+
+impl Names for NamesOfExternalMixed4 {
+    ghost names = { name "V0" ∷ name "V1" ∷ name "V2" ∷ name "V3" ∷ [] };
+
+    #[tactic(auto, unfolding(serde_content::specs::Literals::name))]
+    fn names() -> &'static [&'static str] {
+        &["V0", "V1", "V2", "V3"]
+    }
+}
+
+impl Serialize for ExternalMixed4 {
+    ghost script = { elim [
+      | external_mixed4.V0 ↦ unit_variant_script (name "ExternalMixed4") 0 (name "V0")
+      | external_mixed4.V1 x1 ↦ newtype_variant_script (name "ExternalMixed4") 1
+          (name "V1") (⟦<String as Serialize>⟧.script x1)
+      | external_mixed4.V2 x1 x2 ↦ tuple_variant_script (name "ExternalMixed4") 2
+          (name "V2") 2
+          (tuple_field_first (⟦<u8 as Serialize>⟧.script x1)
+          (tuple_field_first (⟦<bool as Serialize>⟧.script x2)
+          end_script))
+      | external_mixed4.V3 x1 x2 x3 ↦ struct_variant_script (name "ExternalMixed4") 3
+          (name "V3") 3
+          (field_first (name "f0") (⟦<i32 as Serialize>⟧.script x1)
+          (field_first (name "f1") (⟦<u8 as Serialize>⟧.script x2)
+          (field_first (name "f2") (⟦<String as Serialize>⟧.script x3)
+          end_script)))
+    ] };
+
+    ghost lawful = { elim [
+      | external_mixed4.V0 ↦ λ readable. unit_variant_lawful
+      | external_mixed4.V1 x1 ↦ λ readable. newtype_variant_lawful (leaf_lawful refl)
+      | external_mixed4.V2 x1 x2 ↦ λ readable. tuple_variant_lawful
+          (tuple_field_fits (leaf_lawful refl)
+          (tuple_field_fits (leaf_lawful refl)
+          tuple_end_fits))
+      | external_mixed4.V3 x1 x2 x3 ↦ λ readable. struct_variant_lawful
+          (field_fits (leaf_lawful refl)
+          (field_fits (leaf_lawful refl)
+          (field_fits (leaf_lawful refl)
+          struct_end_fits)))
+    ] };
+
+    fn serialize<S: Serializer>(&self, alloc: Global, serializer: &mut S) -> Result<()> {
+        match self {
+            ExternalMixed4::V0 => Call::UnitVariant(name_external_mixed4(), 0, name_v0()).send(
+                serializer,
+            ),
+            ExternalMixed4::V1(x1) => {
+                Call::NewtypeVariant(name_external_mixed4(), 1, name_v1()).around(
+                    x1, alloc, serializer,
+                )
+            }
+            ExternalMixed4::V2(x1, x2) => {
+                let row = SendEnd;
+                let row = SendPart(x2, row);
+                let row = SendPart(x1, row);
+                let row = SendOpen(
+                    Call::TupleVariant(name_external_mixed4(), 2, name_v2(), 2),
+                    row,
+                );
+                send_row(alloc, serializer, &row)
+            }
+            ExternalMixed4::V3 { f0, f1, f2 } => {
+                send_whole_external_mixed4_v3(alloc, serializer, self, f0, f1, f2)
+            }
+        }
+    }
+}
+
+impl<'de> Variants<'de> for ExternalMixed4 {
+    ghost name = { name "ExternalMixed4" };
+
+    ghost refusal = { variants (
+        (name "V0", unit_variant_refusal)
+        ∷ (name "V1", newtype_variant_refusal (⟦<String as Deserialize<'de>>⟧.refusal))
+        ∷ (
+          name "V2",
+          tuple_variant_refusal
+              (part_then 2 0 (⟦<u8 as Deserialize<'de>>⟧.refusal)
+              (part_then 2 1 (⟦<bool as Deserialize<'de>>⟧.refusal)
+              (end_of_parts 2))),
+        )
+        ∷ (
+          name "V3",
+          struct_variant_refusal (read_by_name
+              (named_then (name "f0") (⟦<i32 as Deserialize<'de>>⟧.refusal)
+              (named_then (name "f1") (⟦<u8 as Deserialize<'de>>⟧.refusal)
+              (named_then (name "f2") (⟦<String as Deserialize<'de>>⟧.refusal)
+              (others_skipped (name "f0" ∷ name "f1" ∷ name "f2" ∷ [])))))),
+        )
+        ∷ []) };
+
+    ghost named = { elim [
+      | external_mixed4.V0 ↦ name "V0"
+      | external_mixed4.V1 x1 ↦ name "V1"
+      | external_mixed4.V2 x1 x2 ↦ name "V2"
+      | external_mixed4.V3 x1 x2 x3 ↦ name "V3"
+    ] };
+
+    ghost held = { elim [
+      | external_mixed4.V0 ↦ UnitVariantGives
+      | external_mixed4.V1 x1 ↦ NewtypeVariantGives (⟦<String as Deserialize<'de>>⟧.gives)
+          x1
+      | external_mixed4.V2 x1 x2 ↦ TupleVariantGives
+          (PartThen (⟦<u8 as Deserialize<'de>>⟧.gives) x1
+          (PartThen (⟦<bool as Deserialize<'de>>⟧.gives) x2
+          NoPart))
+      | external_mixed4.V3 x1 x2 x3 ↦ StructVariantGives (ReadByName
+          (NamedThen (name "f0") (⟦<i32 as Deserialize<'de>>⟧.gives) x1
+          (NamedThen (name "f1") (⟦<u8 as Deserialize<'de>>⟧.gives) x2
+          (NamedThen (name "f2") (⟦<String as Deserialize<'de>>⟧.gives) x3
+          NoOthers))))
+    ] };
+
+    #[tactic(auto, unfolding(serde_content::specs::Literals::name))]
+    fn name() -> &'static str {
+        "ExternalMixed4"
+    }
+
+    fn names() -> &'static [&'static str] {
+        NamesOfExternalMixed4::names()
+    }
+
+    fn read_variant<'n: 'de>(
+        alloc: Global,
+        tag: &str,
+        variant: VariantAccess<'de, 'n>,
+    ) -> Result<ExternalMixed4> {
+        match variant_index(tag, &NamesOfExternalMixed4) {
+            Some(0) => {
+                variant.unit_variant(alloc)?;
+                Ok(ExternalMixed4::V0)
+            }
+            Some(1) => Ok(ExternalMixed4::V1(variant.newtype_variant(alloc)?)),
+            Some(2) => {
+                let parts = variant.tuple_variant(alloc, 2)?;
+                let row: Part1OfExternalMixed4V2 = ReadParts::read(alloc, parts)?;
+                let ReadPart(x1, row) = row;
+                let ReadPart(x2, _) = row;
+                Ok(ExternalMixed4::V2(x1, x2))
+            }
+            Some(3) => {
+                let fields = variant
+                    .struct_variant(alloc, FieldsOfExternalMixed4V3::names())?
+                    .by_name();
+                let (f0, f1, f2) = read_external_mixed4_v3(alloc, fields)?;
+                Ok(make_external_mixed4_v3(f0, f1, f2))
+            }
+            _ => Err(no_such_variant(alloc, tag, &NamesOfExternalMixed4)),
+        }
+    }
+}
+
+impl<'de> Deserialize<'de> for ExternalMixed4 {
+    ghost refusal = { enum_refusal (name "ExternalMixed4")
+        ⟦<ExternalMixed4 as Variants<'de>>⟧.refusal };
+
+    ghost gives = { λ s y. EnumGives (name "ExternalMixed4")
+        (⟦<ExternalMixed4 as Variants<'de>>⟧.named y)
+        (⟦<ExternalMixed4 as Variants<'de>>⟧.held y) s };
+
+    fn deserialize<'n: 'de>(alloc: Global, from: Deserializer<'de, 'n>) -> Result<ExternalMixed4> {
+        read_enum(alloc, from)
+    }
+}
+
+impl<'de> RoundTrip<'de> for ExternalMixed4 {
+    fn known(&self) {}
+
+    ghost comes_back = { record {
+      of_value = elim [
+        | external_mixed4.V0 ↦ λ real f. variant_back Self.refusal Self.gives
+            unit_variant_back
+            f (unfold name index_among in λ d. refl)
+            (unfold name index_among in λ d only. elim [
+              | external_mixed4.V0 ↦ λ it. refl
+              | external_mixed4.V1 y1 ↦ λ it. other_variant it.0 refl
+              | external_mixed4.V2 y1 y2 ↦ λ it. other_variant it.0 refl
+              | external_mixed4.V3 y1 y2 y3 ↦ λ it. other_variant it.0 refl
+            ])
+        | external_mixed4.V1 x1 ↦ λ real f. variant_back Self.refusal Self.gives
+            (newtype_variant_back text_back x1 tt)
+            f (unfold name index_among in λ d. refl)
+            (unfold name index_among in λ d only. elim [
+              | external_mixed4.V0 ↦ λ it. other_variant it.0 refl
+              | external_mixed4.V1 y1 ↦ λ it. only y1 it.1
+              | external_mixed4.V2 y1 y2 ↦ λ it. other_variant it.0 refl
+              | external_mixed4.V3 y1 y2 y3 ↦ λ it. other_variant it.0 refl
+            ])
+        | external_mixed4.V2 x1 x2 ↦ λ real f. variant_back Self.refusal Self.gives
+            (tuple_variant_back
+            (tuple_field_back u8_back x1 tt (λ (z : ℕ × Bool). z.0) 2 0
+            (tuple_field_back bool_back x2 tt (λ (z : ℕ × Bool). z.1) 2 1
+            (parts_end 2))))
+            f (unfold name index_among in λ d. refl)
+            (unfold name index_among in λ d only. elim [
+              | external_mixed4.V0 ↦ λ it. other_variant it.0 refl
+              | external_mixed4.V1 y1 ↦ λ it. other_variant it.0 refl
+              | external_mixed4.V2 y1 y2 ↦ λ it. let same = only (y1, y2) it.1 in both_hold same.0
+                  same.1.0
+              | external_mixed4.V3 y1 y2 y3 ↦ λ it. other_variant it.0 refl
+            ])
+        | external_mixed4.V3 x1 x2 x3 ↦ λ real f. variant_back Self.refusal Self.gives
+            (struct_variant_back (by_name_back
+            (named_back (name "f0") i32_back x1 tt (λ (z : ℤ × ℕ × (String Global)). z.0)
+            (named_back (name "f1") u8_back x2 tt (λ (z : ℤ × ℕ × (String Global)). z.1)
+            (named_back (name "f2") text_back x3 tt (λ (z : ℤ × ℕ × (String Global)). z.2)
+            (skipped_back (name "f0" ∷ name "f1" ∷ name "f2" ∷ [])))))))
+            f (unfold name index_among in λ d. refl)
+            (unfold name index_among in λ d only. elim [
+              | external_mixed4.V0 ↦ λ it. other_variant it.0 refl
+              | external_mixed4.V1 y1 ↦ λ it. other_variant it.0 refl
+              | external_mixed4.V2 y1 y2 ↦ λ it. other_variant it.0 refl
+              | external_mixed4.V3 y1 y2 y3 ↦ λ it. let same = only (y1, y2, y3) it.1 in both_hold
+                  same.0 (both_hold same.1.0 same.1.1.0)
+            ])
+      ];
+    } };
+
+    ghost keeps = { record {
+      of_origin = λ o people. elim [
+        | external_mixed4.V0 ↦ λ p.
+            let q = variant_kept {own = unit_variant_refusal} (name "ExternalMixed4")
+            (name "V0")
+            ⟦<ExternalMixed4 as Variants<'de>>⟧.refusal (unfold name index_among in λ v. refl)
+            unit_variant_keeps
+            o people tt p.free p.given in
+            record { free = q.0; given = q.1 }
+        | external_mixed4.V1 x1 ↦ λ p.
+            let q = variant_kept {own = (newtype_variant_refusal
+            (⟦<String as Deserialize<'de>>⟧.refusal))} (name "ExternalMixed4") (name "V1")
+            ⟦<ExternalMixed4 as Variants<'de>>⟧.refusal (unfold name index_among in λ v. refl)
+            (newtype_variant_keeps (heedless_keeps (λ o. refusal_of (text_from o))
+            (λ o (x : String Global). IsTaken (text_from o) (HasContent (string_bytes x)))))
+            o people x1 p.free p.given in
+            record { free = q.0; given = q.1 }
+        | external_mixed4.V2 x1 x2 ↦ λ p.
+            let q = variant_kept {own = (tuple_variant_refusal
+            (part_then 2 0 (⟦<u8 as Deserialize<'de>>⟧.refusal)
+            (part_then 2 1 (⟦<bool as Deserialize<'de>>⟧.refusal)
+            (end_of_parts 2))))} (name "ExternalMixed4") (name "V2")
+            ⟦<ExternalMixed4 as Variants<'de>>⟧.refusal (unfold name index_among in λ v. refl)
+            (tuple_variant_keeps
+            (part_keeps (λ (z : ℕ × Bool). z.0) 2 0 (natural_keeps kind.u8)
+            (part_keeps (λ (z : ℕ × Bool). z.1) 2 1
+            (heedless_keeps (λ o. refusal_of (bool_from o))
+            (λ o (x : Bool). bool_from o ≡ taken x))
+            (parts_end_keeps 2))))
+            o people (x1, x2) p.free p.given in
+            record { free = q.0; given = q.1 }
+        | external_mixed4.V3 x1 x2 x3 ↦ λ p.
+            let q = variant_kept {own = (struct_variant_refusal (read_by_name
+            (named_then (name "f0") (⟦<i32 as Deserialize<'de>>⟧.refusal)
+            (named_then (name "f1") (⟦<u8 as Deserialize<'de>>⟧.refusal)
+            (named_then (name "f2") (⟦<String as Deserialize<'de>>⟧.refusal)
+            (others_skipped (name "f0" ∷ name "f1" ∷ name "f2" ∷ [])))))))}
+            (name "ExternalMixed4") (name "V3")
+            ⟦<ExternalMixed4 as Variants<'de>>⟧.refusal (unfold name index_among in λ v. refl)
+            (struct_variant_keeps (by_name_keeps
+            (named_keeps (name "f0") (λ (z : ℤ × ℕ × (String Global)). z.0)
+            (integer_keeps kind.i32)
+            (named_keeps (name "f1") (λ (z : ℤ × ℕ × (String Global)). z.1)
+            (natural_keeps kind.u8)
+            (named_keeps (name "f2") (λ (z : ℤ × ℕ × (String Global)). z.2)
+            (heedless_keeps (λ o. refusal_of (text_from o))
+            (λ o (x : String Global). IsTaken (text_from o) (HasContent (string_bytes x))))
+            (skipped_keeps (name "f0" ∷ name "f1" ∷ name "f2" ∷ [])))))))
+            o people (x1, x2, x3) p.free p.given in
+            record { free = q.0; given = q.1 }
+      ];
+    } };
+}
+
+#[derive(Drop, PartialEq, Eq)]
+pub enum ExternalUnits4 {
+    V0,
+    V1,
+    V2,
+    V3,
+}
+
+/// The names of its variants.
+#[derive(Drop)]
+struct NamesOfExternalUnits4;
+
+impl Names for NamesOfExternalUnits4 {
+    ghost names = { name "V0" ∷ name "V1" ∷ name "V2" ∷ name "V3" ∷ [] };
+
+    #[tactic(auto, unfolding(serde_content::specs::Literals::name))]
+    fn names() -> &'static [&'static str] {
+        &["V0", "V1", "V2", "V3"]
+    }
+}
+
+impl Serialize for ExternalUnits4 {
+    ghost script = { elim [
+      | external_units4.V0 ↦ unit_variant_script (name "ExternalUnits4") 0 (name "V0")
+      | external_units4.V1 ↦ unit_variant_script (name "ExternalUnits4") 1 (name "V1")
+      | external_units4.V2 ↦ unit_variant_script (name "ExternalUnits4") 2 (name "V2")
+      | external_units4.V3 ↦ unit_variant_script (name "ExternalUnits4") 3 (name "V3")
+    ] };
+
+    ghost lawful = { elim [
+      | external_units4.V0 ↦ λ readable. unit_variant_lawful
+      | external_units4.V1 ↦ λ readable. unit_variant_lawful
+      | external_units4.V2 ↦ λ readable. unit_variant_lawful
+      | external_units4.V3 ↦ λ readable. unit_variant_lawful
+    ] };
+
+    fn serialize<S: Serializer>(&self, _alloc: Global, serializer: &mut S) -> Result<()> {
+        match self {
+            ExternalUnits4::V0 => Call::UnitVariant(name_external_units4(), 0, name_v0()).send(
+                serializer,
+            ),
+            ExternalUnits4::V1 => Call::UnitVariant(name_external_units4(), 1, name_v1()).send(
+                serializer,
+            ),
+            ExternalUnits4::V2 => Call::UnitVariant(name_external_units4(), 2, name_v2()).send(
+                serializer,
+            ),
+            ExternalUnits4::V3 => Call::UnitVariant(name_external_units4(), 3, name_v3()).send(
+                serializer,
+            ),
+        }
+    }
+}
+
+impl<'de> Variants<'de> for ExternalUnits4 {
+    ghost name = { name "ExternalUnits4" };
+
+    ghost refusal = { variants (
+        (name "V0", unit_variant_refusal)
+        ∷ (name "V1", unit_variant_refusal)
+        ∷ (name "V2", unit_variant_refusal)
+        ∷ (name "V3", unit_variant_refusal)
+        ∷ []) };
+
+    ghost named = { elim [
+      | external_units4.V0 ↦ name "V0"
+      | external_units4.V1 ↦ name "V1"
+      | external_units4.V2 ↦ name "V2"
+      | external_units4.V3 ↦ name "V3"
+    ] };
+
+    ghost held = { elim [
+      | external_units4.V0 ↦ UnitVariantGives
+      | external_units4.V1 ↦ UnitVariantGives
+      | external_units4.V2 ↦ UnitVariantGives
+      | external_units4.V3 ↦ UnitVariantGives
+    ] };
+
+    #[tactic(auto, unfolding(serde_content::specs::Literals::name))]
+    fn name() -> &'static str {
+        "ExternalUnits4"
+    }
+
+    fn names() -> &'static [&'static str] {
+        NamesOfExternalUnits4::names()
+    }
+
+    fn read_variant<'n: 'de>(
+        alloc: Global,
+        tag: &str,
+        variant: VariantAccess<'de, 'n>,
+    ) -> Result<ExternalUnits4> {
+        match variant_index(tag, &NamesOfExternalUnits4) {
+            Some(0) => {
+                variant.unit_variant(alloc)?;
+                Ok(ExternalUnits4::V0)
+            }
+            Some(1) => {
+                variant.unit_variant(alloc)?;
+                Ok(ExternalUnits4::V1)
+            }
+            Some(2) => {
+                variant.unit_variant(alloc)?;
+                Ok(ExternalUnits4::V2)
+            }
+            Some(3) => {
+                variant.unit_variant(alloc)?;
+                Ok(ExternalUnits4::V3)
+            }
+            _ => Err(no_such_variant(alloc, tag, &NamesOfExternalUnits4)),
+        }
+    }
+}
+
+impl<'de> Deserialize<'de> for ExternalUnits4 {
+    ghost refusal = { enum_refusal (name "ExternalUnits4")
+        ⟦<ExternalUnits4 as Variants<'de>>⟧.refusal };
+
+    ghost gives = { λ s y. EnumGives (name "ExternalUnits4")
+        (⟦<ExternalUnits4 as Variants<'de>>⟧.named y)
+        (⟦<ExternalUnits4 as Variants<'de>>⟧.held y) s };
+
+    fn deserialize<'n: 'de>(alloc: Global, from: Deserializer<'de, 'n>) -> Result<ExternalUnits4> {
+        read_enum(alloc, from)
+    }
+}
+
+impl<'de> RoundTrip<'de> for ExternalUnits4 {
+    fn known(&self) {}
+
+    ghost comes_back = { record {
+      of_value = elim [
+        | external_units4.V0 ↦ λ real f. variant_back Self.refusal Self.gives
+            unit_variant_back
+            f (unfold name index_among in λ d. refl)
+            (unfold name index_among in λ d only. elim [
+              | external_units4.V0 ↦ λ it. refl
+              | external_units4.V1 ↦ λ it. other_variant it.0 refl
+              | external_units4.V2 ↦ λ it. other_variant it.0 refl
+              | external_units4.V3 ↦ λ it. other_variant it.0 refl
+            ])
+        | external_units4.V1 ↦ λ real f. variant_back Self.refusal Self.gives
+            unit_variant_back
+            f (unfold name index_among in λ d. refl)
+            (unfold name index_among in λ d only. elim [
+              | external_units4.V0 ↦ λ it. other_variant it.0 refl
+              | external_units4.V1 ↦ λ it. refl
+              | external_units4.V2 ↦ λ it. other_variant it.0 refl
+              | external_units4.V3 ↦ λ it. other_variant it.0 refl
+            ])
+        | external_units4.V2 ↦ λ real f. variant_back Self.refusal Self.gives
+            unit_variant_back
+            f (unfold name index_among in λ d. refl)
+            (unfold name index_among in λ d only. elim [
+              | external_units4.V0 ↦ λ it. other_variant it.0 refl
+              | external_units4.V1 ↦ λ it. other_variant it.0 refl
+              | external_units4.V2 ↦ λ it. refl
+              | external_units4.V3 ↦ λ it. other_variant it.0 refl
+            ])
+        | external_units4.V3 ↦ λ real f. variant_back Self.refusal Self.gives
+            unit_variant_back
+            f (unfold name index_among in λ d. refl)
+            (unfold name index_among in λ d only. elim [
+              | external_units4.V0 ↦ λ it. other_variant it.0 refl
+              | external_units4.V1 ↦ λ it. other_variant it.0 refl
+              | external_units4.V2 ↦ λ it. other_variant it.0 refl
+              | external_units4.V3 ↦ λ it. refl
+            ])
+      ];
+    } };
+
+    ghost keeps = { record {
+      of_origin = λ o people. elim [
+        | external_units4.V0 ↦ λ p.
+            let q = variant_kept {own = unit_variant_refusal} (name "ExternalUnits4")
+            (name "V0")
+            ⟦<ExternalUnits4 as Variants<'de>>⟧.refusal (unfold name index_among in λ v. refl)
+            unit_variant_keeps
+            o people tt p.free p.given in
+            record { free = q.0; given = q.1 }
+        | external_units4.V1 ↦ λ p.
+            let q = variant_kept {own = unit_variant_refusal} (name "ExternalUnits4")
+            (name "V1")
+            ⟦<ExternalUnits4 as Variants<'de>>⟧.refusal (unfold name index_among in λ v. refl)
+            unit_variant_keeps
+            o people tt p.free p.given in
+            record { free = q.0; given = q.1 }
+        | external_units4.V2 ↦ λ p.
+            let q = variant_kept {own = unit_variant_refusal} (name "ExternalUnits4")
+            (name "V2")
+            ⟦<ExternalUnits4 as Variants<'de>>⟧.refusal (unfold name index_among in λ v. refl)
+            unit_variant_keeps
+            o people tt p.free p.given in
+            record { free = q.0; given = q.1 }
+        | external_units4.V3 ↦ λ p.
+            let q = variant_kept {own = unit_variant_refusal} (name "ExternalUnits4")
+            (name "V3")
+            ⟦<ExternalUnits4 as Variants<'de>>⟧.refusal (unfold name index_among in λ v. refl)
+            unit_variant_keeps
+            o people tt p.free p.given in
+            record { free = q.0; given = q.1 }
+      ];
+    } };
+}
+
+#[derive(Drop, PartialEq, Eq)]
+pub enum InternalFields2 {
+    V0 { f0: i32, f1: u8, f2: String },
+    V1 { f0: i32, f1: u8, f2: String },
+}
+
+/// Its contract tells proofs what a variant of signed numbers holds.
+fn make_internal_fields2_v0(f0: i32, f1: u8, f2: String) -> InternalFields2
+    ensures { result ≡ internal_fields2.V0 f0 f1 f2 }
+{
+    InternalFields2::V0 { f0, f1, f2 }
+}
+
+/// The names of its fields.
+#[derive(Drop)]
+struct FieldsOfInternalFields2V0;
+
+impl Names for FieldsOfInternalFields2V0 {
+    ghost names = { name "kind" ∷ name "f0" ∷ name "f1" ∷ name "f2" ∷ [] };
+
+    #[tactic(auto, unfolding(serde_content::specs::Literals::name))]
+    fn names() -> &'static [&'static str] {
+        &["kind", "f0", "f1", "f2"]
+    }
+}
+
+/// Sends that variant.
+fn send_whole_internal_fields2_v0<S: Serializer>(
+    alloc: Global,
+    serializer: &mut S,
+    whole: &InternalFields2,
+    f0: &i32,
+    f1: &u8,
+    f2: &String,
+) -> Result<()>
+    requires { whole.now ≡ internal_fields2.V0 f0.now f1.now f2.now }
+    ensures { Sends S.step S.refuses (S.seen serializer.old)
+        (⟦<InternalFields2 as Serialize>⟧.script whole.now)
+        result (S.seen serializer.new) }
+{
+    let row = SendEnd;
+    let row = SendField(FieldsOfInternalFields2V0, 3, f2, row);
+    let row = SendField(FieldsOfInternalFields2V0, 2, f1, row);
+    let row = SendField(FieldsOfInternalFields2V0, 1, f0, row);
+    let row = SendTag(FieldsOfInternalFields2V0, NamesOfInternalFields2, 0, row);
+    let row = SendOpen(Call::Struct(name_internal_fields2(), 4), row);
+    send_row(alloc, serializer, &row)
+}
+
+type Field1OfInternalFields2V0 = ReadField<
+    FieldsOfInternalFields2V0,
+    1,
+    i32,
+    Field2OfInternalFields2V0,
+>;
+
+type Field2OfInternalFields2V0 = ReadField<
+    FieldsOfInternalFields2V0,
+    2,
+    u8,
+    Field3OfInternalFields2V0,
+>;
+
+type Field3OfInternalFields2V0 = ReadField<
+    FieldsOfInternalFields2V0,
+    3,
+    String,
+    OthersSkipped<FieldsOfInternalFields2V0>,
+>;
+
+/// Reads the fields, in any order.
+fn read_internal_fields2_v0<'de, 'n: 'de>(
+    alloc: Global,
+    fields: FieldsByName<'de, 'n>,
+) -> Result<(i32, u8, String)>
+    ensures { Reads (
+        (named_then (name "f0") (⟦<i32 as Deserialize<'de>>⟧.refusal)
+        (named_then (name "f1") (⟦<u8 as Deserialize<'de>>⟧.refusal)
+        (named_then (name "f2") (⟦<String as Deserialize<'de>>⟧.refusal)
+        (others_skipped (name "kind" ∷ name "f0" ∷ name "f1" ∷ name "f2" ∷ [])))))
+        (fields_left fields.entry))
+        (λ z.
+        (NamedThen (name "f0") (⟦<i32 as Deserialize<'de>>⟧.gives) z.0
+        (NamedThen (name "f1") (⟦<u8 as Deserialize<'de>>⟧.gives) z.1
+        (NamedThen (name "f2") (⟦<String as Deserialize<'de>>⟧.gives) z.2
+        NoOthers)))
+        (fields_left fields.entry)) result }
+{
+    let row: Field1OfInternalFields2V0 = ReadFields::read(alloc, fields)?;
+    let ReadField(f0, row, _) = row;
+    let ReadField(f1, row, _) = row;
+    let ReadField(f2, _, _) = row;
+    Ok((f0, f1, f2))
+}
+
+/// Its contract tells proofs what a variant of signed numbers holds.
+fn make_internal_fields2_v1(f0: i32, f1: u8, f2: String) -> InternalFields2
+    ensures { result ≡ internal_fields2.V1 f0 f1 f2 }
+{
+    InternalFields2::V1 { f0, f1, f2 }
+}
+
+/// The names of its fields.
+#[derive(Drop)]
+struct FieldsOfInternalFields2V1;
+
+impl Names for FieldsOfInternalFields2V1 {
+    ghost names = { name "kind" ∷ name "f0" ∷ name "f1" ∷ name "f2" ∷ [] };
+
+    #[tactic(auto, unfolding(serde_content::specs::Literals::name))]
+    fn names() -> &'static [&'static str] {
+        &["kind", "f0", "f1", "f2"]
+    }
+}
+
+/// Sends that variant.
+fn send_whole_internal_fields2_v1<S: Serializer>(
+    alloc: Global,
+    serializer: &mut S,
+    whole: &InternalFields2,
+    f0: &i32,
+    f1: &u8,
+    f2: &String,
+) -> Result<()>
+    requires { whole.now ≡ internal_fields2.V1 f0.now f1.now f2.now }
+    ensures { Sends S.step S.refuses (S.seen serializer.old)
+        (⟦<InternalFields2 as Serialize>⟧.script whole.now)
+        result (S.seen serializer.new) }
+{
+    let row = SendEnd;
+    let row = SendField(FieldsOfInternalFields2V1, 3, f2, row);
+    let row = SendField(FieldsOfInternalFields2V1, 2, f1, row);
+    let row = SendField(FieldsOfInternalFields2V1, 1, f0, row);
+    let row = SendTag(FieldsOfInternalFields2V1, NamesOfInternalFields2, 1, row);
+    let row = SendOpen(Call::Struct(name_internal_fields2(), 4), row);
+    send_row(alloc, serializer, &row)
+}
+
+type Field1OfInternalFields2V1 = ReadField<
+    FieldsOfInternalFields2V1,
+    1,
+    i32,
+    Field2OfInternalFields2V1,
+>;
+
+type Field2OfInternalFields2V1 = ReadField<
+    FieldsOfInternalFields2V1,
+    2,
+    u8,
+    Field3OfInternalFields2V1,
+>;
+
+type Field3OfInternalFields2V1 = ReadField<
+    FieldsOfInternalFields2V1,
+    3,
+    String,
+    OthersSkipped<FieldsOfInternalFields2V1>,
+>;
+
+/// Reads the fields, in any order.
+fn read_internal_fields2_v1<'de, 'n: 'de>(
+    alloc: Global,
+    fields: FieldsByName<'de, 'n>,
+) -> Result<(i32, u8, String)>
+    ensures { Reads (
+        (named_then (name "f0") (⟦<i32 as Deserialize<'de>>⟧.refusal)
+        (named_then (name "f1") (⟦<u8 as Deserialize<'de>>⟧.refusal)
+        (named_then (name "f2") (⟦<String as Deserialize<'de>>⟧.refusal)
+        (others_skipped (name "kind" ∷ name "f0" ∷ name "f1" ∷ name "f2" ∷ [])))))
+        (fields_left fields.entry))
+        (λ z.
+        (NamedThen (name "f0") (⟦<i32 as Deserialize<'de>>⟧.gives) z.0
+        (NamedThen (name "f1") (⟦<u8 as Deserialize<'de>>⟧.gives) z.1
+        (NamedThen (name "f2") (⟦<String as Deserialize<'de>>⟧.gives) z.2
+        NoOthers)))
+        (fields_left fields.entry)) result }
+{
+    let row: Field1OfInternalFields2V1 = ReadFields::read(alloc, fields)?;
+    let ReadField(f0, row, _) = row;
+    let ReadField(f1, row, _) = row;
+    let ReadField(f2, _, _) = row;
+    Ok((f0, f1, f2))
+}
+
+/// The names of its variants.
+#[derive(Drop)]
+struct NamesOfInternalFields2;
+
+impl Names for NamesOfInternalFields2 {
+    ghost names = { name "V0" ∷ name "V1" ∷ [] };
+
+    #[tactic(auto, unfolding(serde_content::specs::Literals::name))]
+    fn names() -> &'static [&'static str] {
+        &["V0", "V1"]
+    }
+}
+
+impl Serialize for InternalFields2 {
+    ghost script = { elim [
+      | internal_fields2.V0 x1 x2 x3 ↦ tagged_script (name "InternalFields2") 4
+          (name "kind") (name "V0")
+          (field_first (name "f0") (⟦<i32 as Serialize>⟧.script x1)
+          (field_first (name "f1") (⟦<u8 as Serialize>⟧.script x2)
+          (field_first (name "f2") (⟦<String as Serialize>⟧.script x3)
+          end_script)))
+      | internal_fields2.V1 x1 x2 x3 ↦ tagged_script (name "InternalFields2") 4
+          (name "kind") (name "V1")
+          (field_first (name "f0") (⟦<i32 as Serialize>⟧.script x1)
+          (field_first (name "f1") (⟦<u8 as Serialize>⟧.script x2)
+          (field_first (name "f2") (⟦<String as Serialize>⟧.script x3)
+          end_script)))
+    ] };
+
+    ghost lawful = { elim [
+      | internal_fields2.V0 x1 x2 x3 ↦ λ readable. struct_lawful
+          (field_fits (leaf_lawful refl)
+          (field_fits (leaf_lawful refl)
+          (field_fits (leaf_lawful refl)
+          (field_fits (leaf_lawful refl)
+          struct_end_fits))))
+      | internal_fields2.V1 x1 x2 x3 ↦ λ readable. struct_lawful
+          (field_fits (leaf_lawful refl)
+          (field_fits (leaf_lawful refl)
+          (field_fits (leaf_lawful refl)
+          (field_fits (leaf_lawful refl)
+          struct_end_fits))))
+    ] };
+
+    fn serialize<S: Serializer>(&self, alloc: Global, serializer: &mut S) -> Result<()> {
+        match self {
+            InternalFields2::V0 { f0, f1, f2 } => {
+                send_whole_internal_fields2_v0(alloc, serializer, self, f0, f1, f2)
+            }
+            InternalFields2::V1 { f0, f1, f2 } => {
+                send_whole_internal_fields2_v1(alloc, serializer, self, f0, f1, f2)
+            }
+        }
+    }
+}
+
+impl<'de> TaggedVariants<'de> for InternalFields2 {
+    ghost name = { name "InternalFields2" };
+
+    ghost tag_name = { name "kind" };
+
+    ghost refusal = { variants ((
+      name "V0",
+      (named_then (name "f0") (⟦<i32 as Deserialize<'de>>⟧.refusal)
+          (named_then (name "f1") (⟦<u8 as Deserialize<'de>>⟧.refusal)
+          (named_then (name "f2") (⟦<String as Deserialize<'de>>⟧.refusal)
+          (others_skipped (name "kind" ∷ name "f0" ∷ name "f1" ∷ name "f2" ∷ []))))),
+    )
+        ∷ (
+          name "V1",
+          (named_then (name "f0") (⟦<i32 as Deserialize<'de>>⟧.refusal)
+              (named_then (name "f1") (⟦<u8 as Deserialize<'de>>⟧.refusal)
+              (named_then (name "f2") (⟦<String as Deserialize<'de>>⟧.refusal)
+              (others_skipped (name "kind" ∷ name "f0" ∷ name "f1" ∷ name "f2" ∷ []))))),
+        )
+        ∷ []) };
+
+    ghost named = { elim [
+      | internal_fields2.V0 x1 x2 x3 ↦ name "V0"
+      | internal_fields2.V1 x1 x2 x3 ↦ name "V1"
+    ] };
+
+    ghost held = { elim [
+      | internal_fields2.V0 x1 x2 x3 ↦
+          (NamedThen (name "f0") (⟦<i32 as Deserialize<'de>>⟧.gives) x1
+          (NamedThen (name "f1") (⟦<u8 as Deserialize<'de>>⟧.gives) x2
+          (NamedThen (name "f2") (⟦<String as Deserialize<'de>>⟧.gives) x3
+          NoOthers)))
+      | internal_fields2.V1 x1 x2 x3 ↦
+          (NamedThen (name "f0") (⟦<i32 as Deserialize<'de>>⟧.gives) x1
+          (NamedThen (name "f1") (⟦<u8 as Deserialize<'de>>⟧.gives) x2
+          (NamedThen (name "f2") (⟦<String as Deserialize<'de>>⟧.gives) x3
+          NoOthers)))
+    ] };
+
+    #[tactic(auto, unfolding(serde_content::specs::Literals::name))]
+    fn name() -> &'static str {
+        "InternalFields2"
+    }
+
+    #[tactic(auto, unfolding(serde_content::specs::Literals::name))]
+    fn tag() -> &'static str {
+        "kind"
+    }
+
+    fn read_variant<'n: 'de>(
+        alloc: Global,
+        tag: &str,
+        fields: FieldsByName<'de, 'n>,
+    ) -> Result<InternalFields2> {
+        match variant_index(tag, &NamesOfInternalFields2) {
+            Some(0) => {
+                let (f0, f1, f2) = read_internal_fields2_v0(alloc, fields)?;
+                Ok(make_internal_fields2_v0(f0, f1, f2))
+            }
+            Some(1) => {
+                let (f0, f1, f2) = read_internal_fields2_v1(alloc, fields)?;
+                Ok(make_internal_fields2_v1(f0, f1, f2))
+            }
+            _ => Err(no_such_variant(alloc, tag, &NamesOfInternalFields2)),
+        }
+    }
+}
+
+impl<'de> Deserialize<'de> for InternalFields2 {
+    ghost refusal = { struct_refusal (name "InternalFields2")
+        (read_by_name (tag_then_buffered (name "kind")
+        ⟦<InternalFields2 as TaggedVariants<'de>>⟧.refusal)) };
+
+    ghost gives = { λ s y. StructGives (name "InternalFields2") (ReadByName
+        (TagThenBuffered (name "kind")
+        (⟦<InternalFields2 as TaggedVariants<'de>>⟧.named y)
+        (⟦<InternalFields2 as TaggedVariants<'de>>⟧.held y))) s };
+
+    fn deserialize<'n: 'de>(alloc: Global, from: Deserializer<'de, 'n>) -> Result<InternalFields2> {
+        read_tagged(alloc, from)
+    }
+}
+
+impl<'de> RoundTrip<'de> for InternalFields2 {
+    fn known(&self) {}
+
+    ghost comes_back = { record {
+      of_value = elim [
+        | internal_fields2.V0 x1 x2 x3 ↦ λ real f. tagged_back Self.refusal Self.gives
+            (named_back (name "f0") i32_back x1 tt (λ (z : ℤ × ℕ × (String Global)). z.0)
+            (named_back (name "f1") u8_back x2 tt (λ (z : ℤ × ℕ × (String Global)). z.1)
+            (named_back (name "f2") text_back x3 tt (λ (z : ℤ × ℕ × (String Global)). z.2)
+            (skipped_back (name "kind" ∷ name "f0" ∷ name "f1" ∷ name "f2" ∷ [])))))
+            f (buffering f) refl (unfold name index_among in λ fs. refl)
+            (unfold name index_among in λ fs only. elim [
+              | internal_fields2.V0 y1 y2 y3 ↦ λ it. let same = only (y1, y2, y3) it.1 in
+                  both_hold same.0 (both_hold same.1.0 same.1.1.0)
+              | internal_fields2.V1 y1 y2 y3 ↦ λ it. other_variant it.0 refl
+            ])
+        | internal_fields2.V1 x1 x2 x3 ↦ λ real f. tagged_back Self.refusal Self.gives
+            (named_back (name "f0") i32_back x1 tt (λ (z : ℤ × ℕ × (String Global)). z.0)
+            (named_back (name "f1") u8_back x2 tt (λ (z : ℤ × ℕ × (String Global)). z.1)
+            (named_back (name "f2") text_back x3 tt (λ (z : ℤ × ℕ × (String Global)). z.2)
+            (skipped_back (name "kind" ∷ name "f0" ∷ name "f1" ∷ name "f2" ∷ [])))))
+            f (buffering f) refl (unfold name index_among in λ fs. refl)
+            (unfold name index_among in λ fs only. elim [
+              | internal_fields2.V0 y1 y2 y3 ↦ λ it. other_variant it.0 refl
+              | internal_fields2.V1 y1 y2 y3 ↦ λ it. let same = only (y1, y2, y3) it.1 in
+                  both_hold same.0 (both_hold same.1.0 same.1.1.0)
+            ])
+      ];
+    } };
+
+    ghost keeps = { record {
+      of_origin = λ o people. elim [
+        | internal_fields2.V0 x1 x2 x3 ↦ λ p.
+            let q = (struct_keeps (name "InternalFields2") (by_name_keeps
+            (tag_keeps_buffered (name "kind") (name "V0")
+            ⟦<InternalFields2 as TaggedVariants<'de>>⟧.refusal
+            (λ (z : ℤ × ℕ × (String Global)).
+            (NamedThen (name "f0") (⟦<i32 as Deserialize<'de>>⟧.gives) z.0
+            (NamedThen (name "f1") (⟦<u8 as Deserialize<'de>>⟧.gives) z.1
+            (NamedThen (name "f2") (⟦<String as Deserialize<'de>>⟧.gives) z.2
+            NoOthers))))))).of_origin o people (x1, x2, x3)
+            (record { free = p.free; given = p.given }) in
+            record { free = q.free; given = q.given }
+        | internal_fields2.V1 x1 x2 x3 ↦ λ p.
+            let q = (struct_keeps (name "InternalFields2") (by_name_keeps
+            (tag_keeps_buffered (name "kind") (name "V1")
+            ⟦<InternalFields2 as TaggedVariants<'de>>⟧.refusal
+            (λ (z : ℤ × ℕ × (String Global)).
+            (NamedThen (name "f0") (⟦<i32 as Deserialize<'de>>⟧.gives) z.0
+            (NamedThen (name "f1") (⟦<u8 as Deserialize<'de>>⟧.gives) z.1
+            (NamedThen (name "f2") (⟦<String as Deserialize<'de>>⟧.gives) z.2
+            NoOthers))))))).of_origin o people (x1, x2, x3)
+            (record { free = p.free; given = p.given }) in
+            record { free = q.free; given = q.given }
+      ];
+    } };
+}
+
+#[derive(Drop, PartialEq, Eq)]
+pub enum InternalMixed2 {
+    V0,
+    V1,
+}
+
+/// The names of its fields.
+#[derive(Drop)]
+struct FieldsOfInternalMixed2V0;
+
+impl Names for FieldsOfInternalMixed2V0 {
+    ghost names = { name "kind" ∷ [] };
+
+    #[tactic(auto, unfolding(serde_content::specs::Literals::name))]
+    fn names() -> &'static [&'static str] {
+        &["kind"]
+    }
+}
+
+/// The names of its fields.
+#[derive(Drop)]
+struct FieldsOfInternalMixed2V1;
+
+impl Names for FieldsOfInternalMixed2V1 {
+    ghost names = { name "kind" ∷ [] };
+
+    #[tactic(auto, unfolding(serde_content::specs::Literals::name))]
+    fn names() -> &'static [&'static str] {
+        &["kind"]
+    }
+}
+
+/// The names of its variants.
+#[derive(Drop)]
+struct NamesOfInternalMixed2;
+
+impl Names for NamesOfInternalMixed2 {
+    ghost names = { name "V0" ∷ name "V1" ∷ [] };
+
+    #[tactic(auto, unfolding(serde_content::specs::Literals::name))]
+    fn names() -> &'static [&'static str] {
+        &["V0", "V1"]
+    }
+}
+
+impl Serialize for InternalMixed2 {
+    ghost script = { elim [
+      | internal_mixed2.V0 ↦ tagged_script (name "InternalMixed2") 1 (name "kind")
+          (name "V0")
+          end_script
+      | internal_mixed2.V1 ↦ tagged_script (name "InternalMixed2") 1 (name "kind")
+          (name "V1")
+          end_script
+    ] };
+
+    ghost lawful = { elim [
+      | internal_mixed2.V0 ↦ λ readable. struct_lawful
+          (field_fits (leaf_lawful refl)
+          struct_end_fits)
+      | internal_mixed2.V1 ↦ λ readable. struct_lawful
+          (field_fits (leaf_lawful refl)
+          struct_end_fits)
+    ] };
+
+    fn serialize<S: Serializer>(&self, alloc: Global, serializer: &mut S) -> Result<()> {
+        match self {
+            InternalMixed2::V0 => {
+                let row = SendEnd;
+                let row = SendTag(FieldsOfInternalMixed2V0, NamesOfInternalMixed2, 0, row);
+                let row = SendOpen(Call::Struct(name_internal_mixed2(), 1), row);
+                send_row(alloc, serializer, &row)
+            }
+            InternalMixed2::V1 => {
+                let row = SendEnd;
+                let row = SendTag(FieldsOfInternalMixed2V1, NamesOfInternalMixed2, 1, row);
+                let row = SendOpen(Call::Struct(name_internal_mixed2(), 1), row);
+                send_row(alloc, serializer, &row)
+            }
+        }
+    }
+}
+
+impl<'de> TaggedVariants<'de> for InternalMixed2 {
+    ghost name = { name "InternalMixed2" };
+
+    ghost tag_name = { name "kind" };
+
+    ghost refusal = { variants (
+        (name "V0", (others_skipped (name "kind" ∷ [])))
+        ∷ (name "V1", (others_skipped (name "kind" ∷ [])))
+        ∷ []) };
+
+    ghost named = { elim [
+      | internal_mixed2.V0 ↦ name "V0"
+      | internal_mixed2.V1 ↦ name "V1"
+    ] };
+
+    ghost held = { elim [
+      | internal_mixed2.V0 ↦ NoOthers
+      | internal_mixed2.V1 ↦ NoOthers
+    ] };
+
+    #[tactic(auto, unfolding(serde_content::specs::Literals::name))]
+    fn name() -> &'static str {
+        "InternalMixed2"
+    }
+
+    #[tactic(auto, unfolding(serde_content::specs::Literals::name))]
+    fn tag() -> &'static str {
+        "kind"
+    }
+
+    fn read_variant<'n: 'de>(
+        alloc: Global,
+        tag: &str,
+        fields: FieldsByName<'de, 'n>,
+    ) -> Result<InternalMixed2> {
+        match variant_index(tag, &NamesOfInternalMixed2) {
+            Some(0) => {
+                let _: OthersSkipped<FieldsOfInternalMixed2V0> = ReadFields::read(alloc, fields)?;
+                Ok(InternalMixed2::V0)
+            }
+            Some(1) => {
+                let _: OthersSkipped<FieldsOfInternalMixed2V1> = ReadFields::read(alloc, fields)?;
+                Ok(InternalMixed2::V1)
+            }
+            _ => Err(no_such_variant(alloc, tag, &NamesOfInternalMixed2)),
+        }
+    }
+}
+
+impl<'de> Deserialize<'de> for InternalMixed2 {
+    ghost refusal = { struct_refusal (name "InternalMixed2")
+        (read_by_name (tag_then_buffered (name "kind")
+        ⟦<InternalMixed2 as TaggedVariants<'de>>⟧.refusal)) };
+
+    ghost gives = { λ s y. StructGives (name "InternalMixed2") (ReadByName
+        (TagThenBuffered (name "kind")
+        (⟦<InternalMixed2 as TaggedVariants<'de>>⟧.named y)
+        (⟦<InternalMixed2 as TaggedVariants<'de>>⟧.held y))) s };
+
+    fn deserialize<'n: 'de>(alloc: Global, from: Deserializer<'de, 'n>) -> Result<InternalMixed2> {
+        read_tagged(alloc, from)
+    }
+}
+
+impl<'de> RoundTrip<'de> for InternalMixed2 {
+    fn known(&self) {}
+
+    ghost comes_back = { record {
+      of_value = elim [
+        | internal_mixed2.V0 ↦ λ real f. tagged_back Self.refusal Self.gives
+            (skipped_back {Y = Unit {0}} (name "kind" ∷ []))
+            f (buffering f) refl (unfold name index_among in λ fs. refl)
+            (unfold name index_among in λ fs only. elim [
+              | internal_mixed2.V0 ↦ λ it. refl
+              | internal_mixed2.V1 ↦ λ it. other_variant it.0 refl
+            ])
+        | internal_mixed2.V1 ↦ λ real f. tagged_back Self.refusal Self.gives
+            (skipped_back {Y = Unit {0}} (name "kind" ∷ []))
+            f (buffering f) refl (unfold name index_among in λ fs. refl)
+            (unfold name index_among in λ fs only. elim [
+              | internal_mixed2.V0 ↦ λ it. other_variant it.0 refl
+              | internal_mixed2.V1 ↦ λ it. refl
+            ])
+      ];
+    } };
+
+    ghost keeps = { record {
+      of_origin = λ o people. elim [
+        | internal_mixed2.V0 ↦ λ p.
+            let q = (struct_keeps (name "InternalMixed2") (by_name_keeps
+            (tag_keeps_buffered (name "kind") (name "V0")
+            ⟦<InternalMixed2 as TaggedVariants<'de>>⟧.refusal
+            (λ (z : Unit {0}).
+            NoOthers)))).of_origin o people tt
+            (record { free = p.free; given = p.given }) in
+            record { free = q.free; given = q.given }
+        | internal_mixed2.V1 ↦ λ p.
+            let q = (struct_keeps (name "InternalMixed2") (by_name_keeps
+            (tag_keeps_buffered (name "kind") (name "V1")
+            ⟦<InternalMixed2 as TaggedVariants<'de>>⟧.refusal
+            (λ (z : Unit {0}).
+            NoOthers)))).of_origin o people tt
+            (record { free = p.free; given = p.given }) in
+            record { free = q.free; given = q.given }
+      ];
+    } };
+}
+
+#[derive(Drop, PartialEq, Eq)]
+pub enum AdjacentOne2 {
+    V0(u8),
+    V1(u8),
+}
+
+/// The names of its fields.
+#[derive(Drop)]
+struct FieldsOfAdjacentOne2V0;
+
+impl Names for FieldsOfAdjacentOne2V0 {
+    ghost names = { name "kind" ∷ name "of" ∷ [] };
+
+    #[tactic(auto, unfolding(serde_content::specs::Literals::name))]
+    fn names() -> &'static [&'static str] {
+        &["kind", "of"]
+    }
+}
+
+type Field1OfAdjacentOne2V0 = ReadField<
+    FieldsOfAdjacentOne2V0,
+    1,
+    u8,
+    OthersSkipped<FieldsOfAdjacentOne2V0>,
+>;
+
+/// Reads the fields, in any order.
+fn read_adjacent_one2_v0<'de, 'n: 'de>(alloc: Global, fields: FieldsByName<'de, 'n>) -> Result<u8>
+    ensures { Reads (
+        (named_then (name "of") (⟦<u8 as Deserialize<'de>>⟧.refusal)
+        (others_skipped (name "kind" ∷ name "of" ∷ [])))
+        (fields_left fields.entry))
+        (λ z.
+        (NamedThen (name "of") (⟦<u8 as Deserialize<'de>>⟧.gives) z
+        NoOthers)
+        (fields_left fields.entry)) result }
+{
+    let row: Field1OfAdjacentOne2V0 = ReadFields::read(alloc, fields)?;
+    let ReadField(x1, _, _) = row;
+    Ok(x1)
+}
+
+/// The names of its fields.
+#[derive(Drop)]
+struct FieldsOfAdjacentOne2V1;
+
+impl Names for FieldsOfAdjacentOne2V1 {
+    ghost names = { name "kind" ∷ name "of" ∷ [] };
+
+    #[tactic(auto, unfolding(serde_content::specs::Literals::name))]
+    fn names() -> &'static [&'static str] {
+        &["kind", "of"]
+    }
+}
+
+type Field1OfAdjacentOne2V1 = ReadField<
+    FieldsOfAdjacentOne2V1,
+    1,
+    u8,
+    OthersSkipped<FieldsOfAdjacentOne2V1>,
+>;
+
+/// Reads the fields, in any order.
+fn read_adjacent_one2_v1<'de, 'n: 'de>(alloc: Global, fields: FieldsByName<'de, 'n>) -> Result<u8>
+    ensures { Reads (
+        (named_then (name "of") (⟦<u8 as Deserialize<'de>>⟧.refusal)
+        (others_skipped (name "kind" ∷ name "of" ∷ [])))
+        (fields_left fields.entry))
+        (λ z.
+        (NamedThen (name "of") (⟦<u8 as Deserialize<'de>>⟧.gives) z
+        NoOthers)
+        (fields_left fields.entry)) result }
+{
+    let row: Field1OfAdjacentOne2V1 = ReadFields::read(alloc, fields)?;
+    let ReadField(x1, _, _) = row;
+    Ok(x1)
+}
+
+/// The names of its variants.
+#[derive(Drop)]
+struct NamesOfAdjacentOne2;
+
+impl Names for NamesOfAdjacentOne2 {
+    ghost names = { name "V0" ∷ name "V1" ∷ [] };
+
+    #[tactic(auto, unfolding(serde_content::specs::Literals::name))]
+    fn names() -> &'static [&'static str] {
+        &["V0", "V1"]
+    }
+}
+
+impl Serialize for AdjacentOne2 {
+    ghost script = { elim [
+      | adjacent_one2.V0 x1 ↦ tagged_script (name "AdjacentOne2") 2 (name "kind")
+          (name "V0")
+          (field_first (name "of") (⟦<u8 as Serialize>⟧.script x1)
+          end_script)
+      | adjacent_one2.V1 x1 ↦ tagged_script (name "AdjacentOne2") 2 (name "kind")
+          (name "V1")
+          (field_first (name "of") (⟦<u8 as Serialize>⟧.script x1)
+          end_script)
+    ] };
+
+    ghost lawful = { elim [
+      | adjacent_one2.V0 x1 ↦ λ readable. struct_lawful
+          (field_fits (leaf_lawful refl)
+          (field_fits (leaf_lawful refl)
+          struct_end_fits))
+      | adjacent_one2.V1 x1 ↦ λ readable. struct_lawful
+          (field_fits (leaf_lawful refl)
+          (field_fits (leaf_lawful refl)
+          struct_end_fits))
+    ] };
+
+    fn serialize<S: Serializer>(&self, alloc: Global, serializer: &mut S) -> Result<()> {
+        match self {
+            AdjacentOne2::V0(x1) => {
+                let row = SendEnd;
+                let row = SendField(FieldsOfAdjacentOne2V0, 1, x1, row);
+                let row = SendTag(FieldsOfAdjacentOne2V0, NamesOfAdjacentOne2, 0, row);
+                let row = SendOpen(Call::Struct(name_adjacent_one2(), 2), row);
+                send_row(alloc, serializer, &row)
+            }
+            AdjacentOne2::V1(x1) => {
+                let row = SendEnd;
+                let row = SendField(FieldsOfAdjacentOne2V1, 1, x1, row);
+                let row = SendTag(FieldsOfAdjacentOne2V1, NamesOfAdjacentOne2, 1, row);
+                let row = SendOpen(Call::Struct(name_adjacent_one2(), 2), row);
+                send_row(alloc, serializer, &row)
+            }
+        }
+    }
+}
+
+impl<'de> TaggedVariants<'de> for AdjacentOne2 {
+    ghost name = { name "AdjacentOne2" };
+
+    ghost tag_name = { name "kind" };
+
+    ghost refusal = { variants ((
+      name "V0",
+      (named_then (name "of") (⟦<u8 as Deserialize<'de>>⟧.refusal)
+          (others_skipped (name "kind" ∷ name "of" ∷ []))),
+    )
+        ∷ (
+          name "V1",
+          (named_then (name "of") (⟦<u8 as Deserialize<'de>>⟧.refusal)
+              (others_skipped (name "kind" ∷ name "of" ∷ []))),
+        )
+        ∷ []) };
+
+    ghost named = { elim [
+      | adjacent_one2.V0 x1 ↦ name "V0"
+      | adjacent_one2.V1 x1 ↦ name "V1"
+    ] };
+
+    ghost held = { elim [
+      | adjacent_one2.V0 x1 ↦ (NamedThen (name "of") (⟦<u8 as Deserialize<'de>>⟧.gives) x1
+          NoOthers)
+      | adjacent_one2.V1 x1 ↦ (NamedThen (name "of") (⟦<u8 as Deserialize<'de>>⟧.gives) x1
+          NoOthers)
+    ] };
+
+    #[tactic(auto, unfolding(serde_content::specs::Literals::name))]
+    fn name() -> &'static str {
+        "AdjacentOne2"
+    }
+
+    #[tactic(auto, unfolding(serde_content::specs::Literals::name))]
+    fn tag() -> &'static str {
+        "kind"
+    }
+
+    fn read_variant<'n: 'de>(
+        alloc: Global,
+        tag: &str,
+        fields: FieldsByName<'de, 'n>,
+    ) -> Result<AdjacentOne2> {
+        match variant_index(tag, &NamesOfAdjacentOne2) {
+            Some(0) => {
+                let x1 = read_adjacent_one2_v0(alloc, fields)?;
+                Ok(AdjacentOne2::V0(x1))
+            }
+            Some(1) => {
+                let x1 = read_adjacent_one2_v1(alloc, fields)?;
+                Ok(AdjacentOne2::V1(x1))
+            }
+            _ => Err(no_such_variant(alloc, tag, &NamesOfAdjacentOne2)),
+        }
+    }
+}
+
+impl<'de> Deserialize<'de> for AdjacentOne2 {
+    ghost refusal = { struct_refusal (name "AdjacentOne2")
+        (read_by_name (tag_then (name "kind")
+        ⟦<AdjacentOne2 as TaggedVariants<'de>>⟧.refusal)) };
+
+    ghost gives = { λ s y. StructGives (name "AdjacentOne2") (ReadByName
+        (TagThen (name "kind")
+        (⟦<AdjacentOne2 as TaggedVariants<'de>>⟧.named y)
+        (⟦<AdjacentOne2 as TaggedVariants<'de>>⟧.held y))) s };
+
+    fn deserialize<'n: 'de>(alloc: Global, from: Deserializer<'de, 'n>) -> Result<AdjacentOne2> {
+        read_adjacent(alloc, from)
+    }
+}
+
+impl<'de> RoundTrip<'de> for AdjacentOne2 {
+    fn known(&self) {}
+
+    ghost comes_back = { record {
+      of_value = elim [
+        | adjacent_one2.V0 x1 ↦ λ real f. tagged_back Self.refusal Self.gives
+            (named_back (name "of") u8_back x1 tt (λ (z : ℕ). z)
+            (skipped_back (name "kind" ∷ name "of" ∷ [])))
+            f f refl (unfold name index_among in λ fs. refl)
+            (unfold name index_among in λ fs only. elim [
+              | adjacent_one2.V0 y1 ↦ λ it. let same = only y1 it.1 in same.0
+              | adjacent_one2.V1 y1 ↦ λ it. other_variant it.0 refl
+            ])
+        | adjacent_one2.V1 x1 ↦ λ real f. tagged_back Self.refusal Self.gives
+            (named_back (name "of") u8_back x1 tt (λ (z : ℕ). z)
+            (skipped_back (name "kind" ∷ name "of" ∷ [])))
+            f f refl (unfold name index_among in λ fs. refl)
+            (unfold name index_among in λ fs only. elim [
+              | adjacent_one2.V0 y1 ↦ λ it. other_variant it.0 refl
+              | adjacent_one2.V1 y1 ↦ λ it. let same = only y1 it.1 in same.0
+            ])
+      ];
+    } };
+
+    ghost keeps = { record {
+      of_origin = λ o people. elim [
+        | adjacent_one2.V0 x1 ↦ λ p.
+            let q = (struct_keeps (name "AdjacentOne2") (by_name_keeps
+            (tag_keeps {own =
+            (named_then (name "of") (⟦<u8 as Deserialize<'de>>⟧.refusal)
+            (others_skipped (name "kind" ∷ name "of" ∷ [])))} (name "kind") (name "V0")
+            ⟦<AdjacentOne2 as TaggedVariants<'de>>⟧.refusal
+            (unfold name index_among in λ f. refl)
+            (named_keeps (name "of") (λ (z : ℕ). z) (natural_keeps kind.u8)
+            (skipped_keeps (name "kind" ∷ name "of" ∷ [])))))).of_origin o people x1
+            (record { free = p.free; given = p.given }) in
+            record { free = q.free; given = q.given }
+        | adjacent_one2.V1 x1 ↦ λ p.
+            let q = (struct_keeps (name "AdjacentOne2") (by_name_keeps
+            (tag_keeps {own =
+            (named_then (name "of") (⟦<u8 as Deserialize<'de>>⟧.refusal)
+            (others_skipped (name "kind" ∷ name "of" ∷ [])))} (name "kind") (name "V1")
+            ⟦<AdjacentOne2 as TaggedVariants<'de>>⟧.refusal
+            (unfold name index_among in λ f. refl)
+            (named_keeps (name "of") (λ (z : ℕ). z) (natural_keeps kind.u8)
+            (skipped_keeps (name "kind" ∷ name "of" ∷ [])))))).of_origin o people x1
+            (record { free = p.free; given = p.given }) in
+            record { free = q.free; given = q.given }
+      ];
+    } };
+}
+
+#[derive(Drop, PartialEq, Eq)]
+pub enum Untagged4 {
+    V0(bool),
+    V1(i64),
+    V2(String),
+    V3(Vec<u8>),
+}
+
+/// Its contract tells proofs what a variant of signed numbers holds.
+fn make_untagged4_v1(x1: i64) -> Untagged4
+    ensures { result ≡ untagged4.V1 x1 }
+{
+    Untagged4::V1(x1)
+}
+
+impl Serialize for Untagged4 {
+    ghost script = { elim [
+      | untagged4.V0 x1 ↦ ⟦<bool as Serialize>⟧.script x1
+      | untagged4.V1 x1 ↦ ⟦<i64 as Serialize>⟧.script x1
+      | untagged4.V2 x1 ↦ ⟦<String as Serialize>⟧.script x1
+      | untagged4.V3 x1 ↦ ⟦<Vec<u8> as Serialize>⟧.script x1
+    ] };
+
+    ghost lawful = { elim [
+      | untagged4.V0 x1 ↦ λ readable. leaf_lawful refl
+      | untagged4.V1 x1 ↦ λ readable. leaf_lawful refl
+      | untagged4.V2 x1 ↦ λ readable. leaf_lawful refl
+      | untagged4.V3 x1 ↦ λ readable. seq_lawful (λ x h. leaf_lawful refl) x1.items
+          readable
+    ] };
+
+    fn serialize<S: Serializer>(&self, alloc: Global, serializer: &mut S) -> Result<()> {
+        match self {
+            Untagged4::V0(x1) => x1.serialize(alloc, serializer),
+            Untagged4::V1(x1) => x1.serialize(alloc, serializer),
+            Untagged4::V2(x1) => x1.serialize(alloc, serializer),
+            Untagged4::V3(x1) => x1.serialize(alloc, serializer),
+        }
+    }
+}
+
+impl<'de> Deserialize<'de> for Untagged4 {
+    ghost refusal = { λ s.
+        (or_next (⟦<bool as Deserialize<'de>>⟧.refusal (in_buffer s))
+        (or_next (⟦<i64 as Deserialize<'de>>⟧.refusal (in_buffer s))
+        (or_next (⟦<String as Deserialize<'de>>⟧.refusal (in_buffer s))
+        (or_next (⟦<Vec<u8> as Deserialize<'de>>⟧.refusal (in_buffer s))
+        (Some (custom (codes "data did not match any variant of untagged enum Untagged4"))))))) };
+
+    ghost gives = { λ s. elim [
+      | untagged4.V0 x1 ↦ IsTakenAs (⟦<bool as Deserialize<'de>>⟧.refusal (in_buffer s))
+          (⟦<bool as Deserialize<'de>>⟧.gives (in_buffer s)) x1
+      | untagged4.V1 x1 ↦ IsSome (⟦<bool as Deserialize<'de>>⟧.refusal (in_buffer s)) ×
+          IsTakenAs (⟦<i64 as Deserialize<'de>>⟧.refusal (in_buffer s))
+          (⟦<i64 as Deserialize<'de>>⟧.gives (in_buffer s)) x1
+      | untagged4.V2 x1 ↦ IsSome (⟦<bool as Deserialize<'de>>⟧.refusal (in_buffer s)) ×
+          IsSome (⟦<i64 as Deserialize<'de>>⟧.refusal (in_buffer s)) ×
+          IsTakenAs (⟦<String as Deserialize<'de>>⟧.refusal (in_buffer s))
+          (⟦<String as Deserialize<'de>>⟧.gives (in_buffer s)) x1
+      | untagged4.V3 x1 ↦ IsSome (⟦<bool as Deserialize<'de>>⟧.refusal (in_buffer s)) ×
+          IsSome (⟦<i64 as Deserialize<'de>>⟧.refusal (in_buffer s)) ×
+          IsSome (⟦<String as Deserialize<'de>>⟧.refusal (in_buffer s)) ×
+          IsTakenAs (⟦<Vec<u8> as Deserialize<'de>>⟧.refusal (in_buffer s))
+          (⟦<Vec<u8> as Deserialize<'de>>⟧.gives (in_buffer s)) x1
+    ] };
+
+    fn deserialize<'n: 'de>(alloc: Global, from: Deserializer<'de, 'n>) -> Result<Untagged4> {
+        match first_of_four::<bool, i64, String, Vec<u8>>(
+            alloc,
+            from,
+            "data did not match any variant of untagged enum Untagged4",
+        )? {
+            OneOfFour::First(x1) => Ok(Untagged4::V0(x1)),
+            OneOfFour::Second(x1) => Ok(make_untagged4_v1(x1)),
+            OneOfFour::Third(x1) => Ok(Untagged4::V2(x1)),
+            OneOfFour::Fourth(x1) => Ok(Untagged4::V3(x1)),
+        }
+    }
+}
+
+impl<'de> RoundTrip<'de> for Untagged4 {
+    ghost exists = { elim [
+      | untagged4.V0 x1 ↦ ⊤
+      | untagged4.V1 x1 ↦ ⊤
+      | untagged4.V2 x1 ↦ ⊤
+      | untagged4.V3 x1 ↦ ⟦<Vec<u8> as RoundTrip<'de>>⟧.exists x1
+    ] };
+
+    fn known(&self) {
+        match self {
+            Untagged4::V0(_) => {}
+            Untagged4::V1(_) => {}
+            Untagged4::V2(_) => {}
+            Untagged4::V3(x1) => {
+                x1.known();
+            }
+        }
+    }
+
+    ghost comes_back = { record {
+      of_value = elim [
+        | untagged4.V0 x1 ↦ λ real f. such_seen (λ t one. record {
+          free = first_taken _ _ one.free;
+          only = elim [
+            | untagged4.V0 y1 ↦ λ it. one.only y1 it.1
+            | untagged4.V1 y1 ↦ λ it. not_refused _ one.free it.0
+            | untagged4.V2 y1 ↦ λ it. not_refused _ one.free it.0
+            | untagged4.V3 y1 ↦ λ it. not_refused _ one.free it.0
+          ];
+        })
+            (bool_back.of_value x1 tt (buffering f))
+        | untagged4.V1 x1 ↦ λ real f. such_seen (λ t one. record {
+          free = later_taken (⟦<bool as Deserialize<'de>>⟧.refusal
+              (in_buffer (tree_under f t)))
+              (first_taken _ _ one.free);
+          only = elim [
+            | untagged4.V0 y1 ↦ λ it. taken_by_one bool_takes (number_takes kind.i64) refl f t
+                it.0 one.free
+            | untagged4.V1 y1 ↦ λ it. one.only y1 it.1.1
+            | untagged4.V2 y1 ↦ λ it. not_refused _ one.free it.1
+            | untagged4.V3 y1 ↦ λ it. not_refused _ one.free it.1
+          ];
+        })
+            (i64_back.of_value x1 tt (buffering f))
+        | untagged4.V2 x1 ↦ λ real f. such_seen (λ t one. record {
+          free = later_taken (⟦<bool as Deserialize<'de>>⟧.refusal
+              (in_buffer (tree_under f t)))
+              (later_taken (⟦<i64 as Deserialize<'de>>⟧.refusal (in_buffer (tree_under f t)))
+              (first_taken _ _ one.free));
+          only = elim [
+            | untagged4.V0 y1 ↦ λ it. taken_by_one bool_takes text_takes refl f t it.0 one.free
+            | untagged4.V1 y1 ↦ λ it. taken_by_one (number_takes kind.i64) text_takes refl f t
+                it.1.0 one.free
+            | untagged4.V2 y1 ↦ λ it. one.only y1 it.2.1
+            | untagged4.V3 y1 ↦ λ it. not_refused _ one.free it.2
+          ];
+        })
+            (text_back.of_value x1 tt (buffering f))
+        | untagged4.V3 x1 ↦ λ real f. such_seen (λ t one. record {
+          free = later_taken (⟦<bool as Deserialize<'de>>⟧.refusal
+              (in_buffer (tree_under f t)))
+              (later_taken (⟦<i64 as Deserialize<'de>>⟧.refusal (in_buffer (tree_under f t)))
+              (later_taken (⟦<String as Deserialize<'de>>⟧.refusal (in_buffer (tree_under f t)))
+              (first_taken _ _ one.free)));
+          only = elim [
+            | untagged4.V0 y1 ↦ λ it. taken_by_one bool_takes seq_takes refl f t it.0 one.free
+            | untagged4.V1 y1 ↦ λ it. taken_by_one (number_takes kind.i64) seq_takes refl f t
+                it.1.0 one.free
+            | untagged4.V2 y1 ↦ λ it. taken_by_one text_takes seq_takes refl f t it.2.0 one.free
+            | untagged4.V3 y1 ↦ λ it. one.only y1 it.3.1
+          ];
+        })
+            ((let law : ComesBack (⟦<Vec<u8> as RoundTrip<'de>>⟧.exists)
+            (⟦<Vec<u8> as Serialize>⟧.script) (⟦<Vec<u8> as Deserialize<'de>>⟧.refusal)
+            (⟦<Vec<u8> as Deserialize<'de>>⟧.gives) (⟦<Vec<u8> as PartialEq>⟧.eq) =
+            (seen_back (λ v. v.items) (seq_back u8_back)) in law).of_value x1 real
+            (buffering f))
+      ];
+    } };
+
+    ghost keeps = { record {
+      of_origin = λ o people x p. record
+          { free = p.free; given = p.given };
+    } };
+}
+
+#[derive(Drop)]
+pub enum UntaggedPlaces {
+    A(u8, String),
+    B(bool, i32, u8),
+    C(String),
+}
+
+/// Sends that variant.
+fn send_whole_untagged_places_a<S: Serializer>(
+    alloc: Global,
+    serializer: &mut S,
+    whole: &UntaggedPlaces,
+    x1: &u8,
+    x2: &String,
+) -> Result<()>
+    requires { whole.now ≡ untagged_places.A x1.now x2.now }
+    ensures { Sends S.step S.refuses (S.seen serializer.old)
+        (⟦<UntaggedPlaces as Serialize>⟧.script whole.now)
+        result (S.seen serializer.new) }
+{
+    let row = SendEnd;
+    let row = SendElement(x2, row);
+    let row = SendElement(x1, row);
+    let row = SendOpen(Call::Tuple(2), row);
+    send_row(alloc, serializer, &row)
+}
+
+/// Its contract tells proofs what a variant of signed numbers holds.
+fn make_untagged_places_b(x1: bool, x2: i32, x3: u8) -> UntaggedPlaces
+    ensures { result ≡ untagged_places.B x1 x2 x3 }
+{
+    UntaggedPlaces::B(x1, x2, x3)
+}
+
+/// Sends that variant.
+fn send_whole_untagged_places_b<S: Serializer>(
+    alloc: Global,
+    serializer: &mut S,
+    whole: &UntaggedPlaces,
+    x1: &bool,
+    x2: &i32,
+    x3: &u8,
+) -> Result<()>
+    requires { whole.now ≡ untagged_places.B x1.now x2.now x3.now }
+    ensures { Sends S.step S.refuses (S.seen serializer.old)
+        (⟦<UntaggedPlaces as Serialize>⟧.script whole.now)
+        result (S.seen serializer.new) }
+{
+    let row = SendEnd;
+    let row = SendElement(x3, row);
+    let row = SendElement(x2, row);
+    let row = SendElement(x1, row);
+    let row = SendOpen(Call::Tuple(3), row);
+    send_row(alloc, serializer, &row)
+}
+
+impl Serialize for UntaggedPlaces {
+    ghost script = { elim [
+      | untagged_places.A x1 x2 ↦ tuple_script 2
+          (element_first (⟦<u8 as Serialize>⟧.script x1)
+          (element_first (⟦<String as Serialize>⟧.script x2)
+          end_script))
+      | untagged_places.B x1 x2 x3 ↦ tuple_script 3
+          (element_first (⟦<bool as Serialize>⟧.script x1)
+          (element_first (⟦<i32 as Serialize>⟧.script x2)
+          (element_first (⟦<u8 as Serialize>⟧.script x3)
+          end_script)))
+      | untagged_places.C x1 ↦ ⟦<String as Serialize>⟧.script x1
+    ] };
+
+    ghost lawful = { elim [
+      | untagged_places.A x1 x2 ↦ λ readable. tuple_lawful
+          (element_fits (leaf_lawful refl)
+          (element_fits (leaf_lawful refl)
+          end_fits))
+      | untagged_places.B x1 x2 x3 ↦ λ readable. tuple_lawful
+          (element_fits (leaf_lawful refl)
+          (element_fits (leaf_lawful refl)
+          (element_fits (leaf_lawful refl)
+          end_fits)))
+      | untagged_places.C x1 ↦ λ readable. leaf_lawful refl
+    ] };
+
+    fn serialize<S: Serializer>(&self, alloc: Global, serializer: &mut S) -> Result<()> {
+        match self {
+            UntaggedPlaces::A(x1, x2) => {
+                send_whole_untagged_places_a(alloc, serializer, self, x1, x2)
+            }
+            UntaggedPlaces::B(x1, x2, x3) => {
+                send_whole_untagged_places_b(alloc, serializer, self, x1, x2, x3)
+            }
+            UntaggedPlaces::C(x1) => x1.serialize(alloc, serializer),
+        }
+    }
+}
+
+impl<'de> Deserialize<'de> for UntaggedPlaces {
+    ghost refusal = { λ s.
+        (or_next (⟦<(u8, String) as Deserialize<'de>>⟧.refusal (in_buffer s))
+        (or_next (⟦<(bool, i32, u8) as Deserialize<'de>>⟧.refusal (in_buffer s))
+        (or_next (⟦<String as Deserialize<'de>>⟧.refusal (in_buffer s))
+        (Some (custom (codes "data did not match any variant of untagged enum UntaggedPlaces")))))) };
+
+    ghost gives = { λ s. elim [
+      | untagged_places.A x1 x2 ↦ IsTakenAs
+          (⟦<(u8, String) as Deserialize<'de>>⟧.refusal (in_buffer s))
+          (⟦<(u8, String) as Deserialize<'de>>⟧.gives (in_buffer s)) (x1, x2)
+      | untagged_places.B x1 x2 x3 ↦ IsSome
+          (⟦<(u8, String) as Deserialize<'de>>⟧.refusal (in_buffer s)) ×
+          IsTakenAs (⟦<(bool, i32, u8) as Deserialize<'de>>⟧.refusal (in_buffer s))
+          (⟦<(bool, i32, u8) as Deserialize<'de>>⟧.gives (in_buffer s)) (x1, x2, x3)
+      | untagged_places.C x1 ↦ IsSome
+          (⟦<(u8, String) as Deserialize<'de>>⟧.refusal (in_buffer s)) ×
+          IsSome (⟦<(bool, i32, u8) as Deserialize<'de>>⟧.refusal (in_buffer s)) ×
+          IsTakenAs (⟦<String as Deserialize<'de>>⟧.refusal (in_buffer s))
+          (⟦<String as Deserialize<'de>>⟧.gives (in_buffer s)) x1
+    ] };
+
+    fn deserialize<'n: 'de>(alloc: Global, from: Deserializer<'de, 'n>) -> Result<UntaggedPlaces> {
+        match first_of_three::<(u8, String), (bool, i32, u8), String>(
+            alloc,
+            from,
+            "data did not match any variant of untagged enum UntaggedPlaces",
+        )? {
+            OneOfThree::First((x1, x2)) => Ok(UntaggedPlaces::A(x1, x2)),
+            OneOfThree::Second((x1, x2, x3)) => Ok(make_untagged_places_b(x1, x2, x3)),
+            OneOfThree::Third(x1) => Ok(UntaggedPlaces::C(x1)),
+        }
+    }
+}
+
+#[derive(Drop, PartialEq, Eq)]
+pub struct Aaabcdefghijklmnopqrstuvwxyzabcdefghijkl {
+    pub f0: String,
+    pub f1: u8,
+    pub f2: Option<u8>,
+}
+
+/// The names of its fields.
+#[derive(Drop)]
+struct FieldsOfAaabcdefghijklmnopqrstuvwxyzabcdefghijkl;
+
+impl Names for FieldsOfAaabcdefghijklmnopqrstuvwxyzabcdefghijkl {
+    ghost names = { name "f0" ∷ name "f1" ∷ name "f2" ∷ [] };
+
+    #[tactic(auto, unfolding(serde_content::specs::Literals::name))]
+    fn names() -> &'static [&'static str] {
+        &["f0", "f1", "f2"]
+    }
+}
+
+type Field1OfAaabcdefghijklmnopqrstuvwxyzabcdefghijkl = ReadField<
+    FieldsOfAaabcdefghijklmnopqrstuvwxyzabcdefghijkl,
+    0,
+    String,
+    Field2OfAaabcdefghijklmnopqrstuvwxyzabcdefghijkl,
+>;
+
+type Field2OfAaabcdefghijklmnopqrstuvwxyzabcdefghijkl = ReadField<
+    FieldsOfAaabcdefghijklmnopqrstuvwxyzabcdefghijkl,
+    1,
+    u8,
+    Field3OfAaabcdefghijklmnopqrstuvwxyzabcdefghijkl,
+>;
+
+type Field3OfAaabcdefghijklmnopqrstuvwxyzabcdefghijkl = ReadFieldOr<
+    FieldsOfAaabcdefghijklmnopqrstuvwxyzabcdefghijkl,
+    2,
+    Option<u8>,
+    OthersSkipped<FieldsOfAaabcdefghijklmnopqrstuvwxyzabcdefghijkl>,
+>;
+
+/// Reads the fields, in any order.
+fn read_aaabcdefghijklmnopqrstuvwxyzabcdefghijkl<'de, 'n: 'de>(
+    alloc: Global,
+    fields: FieldsByName<'de, 'n>,
+) -> Result<Aaabcdefghijklmnopqrstuvwxyzabcdefghijkl>
+    ensures { Reads (
+        (named_then (name "f0") (⟦<String as Deserialize<'de>>⟧.refusal)
+        (named_then (name "f1") (⟦<u8 as Deserialize<'de>>⟧.refusal)
+        (named_or_then (name "f2") (⟦<Option<u8> as Deserialize<'de>>⟧.refusal)
+        (others_skipped (name "f0" ∷ name "f1" ∷ name "f2" ∷ [])))))
+        (fields_left fields.entry))
+        (λ z.
+        (NamedThen (name "f0") (⟦<String as Deserialize<'de>>⟧.gives) z.f0
+        (NamedThen (name "f1") (⟦<u8 as Deserialize<'de>>⟧.gives) z.f1
+        (NamedOrThen (name "f2") (λ (x : (Option ℕ)). x ≡ None)
+        (⟦<Option<u8> as Deserialize<'de>>⟧.gives) z.f2
+        NoOthers)))
+        (fields_left fields.entry)) result }
+{
+    let row: Field1OfAaabcdefghijklmnopqrstuvwxyzabcdefghijkl = ReadFields::read(alloc, fields)?;
+    let ReadField(f0, row, _) = row;
+    let ReadField(f1, row, _) = row;
+    let ReadFieldOr(f2, _, _) = row;
+    Ok(Aaabcdefghijklmnopqrstuvwxyzabcdefghijkl { f0, f1, f2 })
+}
+
+impl Serialize for Aaabcdefghijklmnopqrstuvwxyzabcdefghijkl {
+    ghost script = { λ p. struct_script
+        (name "Aaabcdefghijklmnopqrstuvwxyzabcdefghijkl") 3
+        (field_first (name "f0") (⟦<String as Serialize>⟧.script p.f0)
+        (field_first (name "f1") (⟦<u8 as Serialize>⟧.script p.f1)
+        (field_first (name "f2") (⟦<Option<u8> as Serialize>⟧.script p.f2)
+        end_script))) };
+
+    ghost lawful = { λ p readable. struct_lawful
+        (field_fits (leaf_lawful refl)
+        (field_fits (leaf_lawful refl)
+        (field_fits (option_lawful (λ x h. leaf_lawful refl) p.f2 readable)
+        struct_end_fits))) };
+
+    fn serialize<S: Serializer>(&self, alloc: Global, serializer: &mut S) -> Result<()> {
+        let row = SendEnd;
+        let row = SendField(
+            FieldsOfAaabcdefghijklmnopqrstuvwxyzabcdefghijkl,
+            2,
+            &self.f2,
+            row,
+        );
+        let row = SendField(
+            FieldsOfAaabcdefghijklmnopqrstuvwxyzabcdefghijkl,
+            1,
+            &self.f1,
+            row,
+        );
+        let row = SendField(
+            FieldsOfAaabcdefghijklmnopqrstuvwxyzabcdefghijkl,
+            0,
+            &self.f0,
+            row,
+        );
+        let row = SendOpen(
+            Call::Struct(name_aaabcdefghijklmnopqrstuvwxyzabcdefghijkl(), 3),
+            row,
+        );
+        send_row(alloc, serializer, &row)
+    }
+}
+
+impl<'de> Deserialize<'de> for Aaabcdefghijklmnopqrstuvwxyzabcdefghijkl {
+    ghost refusal = { struct_refusal (name "Aaabcdefghijklmnopqrstuvwxyzabcdefghijkl")
+        (read_by_name
+        (named_then (name "f0") (⟦<String as Deserialize<'de>>⟧.refusal)
+        (named_then (name "f1") (⟦<u8 as Deserialize<'de>>⟧.refusal)
+        (named_or_then (name "f2") (⟦<Option<u8> as Deserialize<'de>>⟧.refusal)
+        (others_skipped (name "f0" ∷ name "f1" ∷ name "f2" ∷ [])))))) };
+
+    ghost gives = { λ s p. StructGives (name "Aaabcdefghijklmnopqrstuvwxyzabcdefghijkl")
+        (ReadByName
+        (NamedThen (name "f0") (⟦<String as Deserialize<'de>>⟧.gives) p.f0
+        (NamedThen (name "f1") (⟦<u8 as Deserialize<'de>>⟧.gives) p.f1
+        (NamedOrThen (name "f2") (λ (x : (Option ℕ)). x ≡ None)
+        (⟦<Option<u8> as Deserialize<'de>>⟧.gives) p.f2
+        NoOthers)))) s };
+
+    fn deserialize<'n: 'de>(
+        alloc: Global,
+        from: Deserializer<'de, 'n>,
+    ) -> Result<Aaabcdefghijklmnopqrstuvwxyzabcdefghijkl> {
+        let fields = from
+            .deserialize_struct(
+                alloc,
+                name_aaabcdefghijklmnopqrstuvwxyzabcdefghijkl(),
+                FieldsOfAaabcdefghijklmnopqrstuvwxyzabcdefghijkl::names(),
+            )?
+            .by_name();
+        read_aaabcdefghijklmnopqrstuvwxyzabcdefghijkl(alloc, fields)
+    }
+}
+
+impl<'de> RoundTrip<'de> for Aaabcdefghijklmnopqrstuvwxyzabcdefghijkl {
+    ghost exists = { λ p. ⟦<Option<u8> as RoundTrip<'de>>⟧.exists p.f2 };
+
+    fn known(&self) {
+        self.f2.known();
+    }
+
+    ghost comes_back = { record {
+      of_value = λ p real f. struct_back (by_name_back
+          (named_back (name "f0") text_back p.f0 tt (λ q. q.f0)
+          (named_back (name "f1") u8_back p.f1 tt (λ q. q.f1)
+          (named_or_back (name "f2") (λ (x : (Option ℕ)). x ≡ None)
+          (let law : ComesBack (⟦<Option<u8> as RoundTrip<'de>>⟧.exists)
+          (⟦<Option<u8> as Serialize>⟧.script) (⟦<Option<u8> as Deserialize<'de>>⟧.refusal)
+          (⟦<Option<u8> as Deserialize<'de>>⟧.gives) (⟦<Option<u8> as PartialEq>⟧.eq) =
+          (option_back u8_back) in law) p.f2 real (λ q. q.f2)
+          (skipped_back (name "f0" ∷ name "f1" ∷ name "f2" ∷ []))))))
+          f (λ q h. both_hold h.0 (both_hold h.1.0 h.1.1.0));
+    } };
+
+    ghost keeps = { struct_keeps (name "Aaabcdefghijklmnopqrstuvwxyzabcdefghijkl")
+        (by_name_keeps
+        (named_keeps (name "f0") (λ q. q.f0)
+        (heedless_keeps (λ o. refusal_of (text_from o))
+        (λ o (x : String Global). IsTaken (text_from o) (HasContent (string_bytes x))))
+        (named_keeps (name "f1") (λ q. q.f1) (natural_keeps kind.u8)
+        (named_or_keeps (name "f2") (λ (x : (Option ℕ)). x ≡ None) (λ q. q.f2)
+        (let law : CoercionKeeps (⟦<Option<u8> as Deserialize<'de>>⟧.refusal)
+        (⟦<Option<u8> as Deserialize<'de>>⟧.gives) = (option_keeps (natural_keeps kind.u8))
+        in law)
+        (skipped_keeps (name "f0" ∷ name "f1" ∷ name "f2" ∷ [])))))) };
+}
+
+#[derive(Drop, PartialEq, Eq)]
+pub struct NamesOfFields20 {
+    pub aaabcdefghijklmnopqr: String,
+    pub baabcdefghijklmnopqr: u8,
+    pub caabcdefghijklmnopqr: Option<u8>,
+    pub daabcdefghijklmnopqr: bool,
+    pub eaabcdefghijklmnopqr: i32,
+    pub faabcdefghijklmnopqr: Vec<u8>,
+}
+
+/// The names of its fields.
+#[derive(Drop)]
+struct FieldsOfNamesOfFields20;
+
+impl Names for FieldsOfNamesOfFields20 {
+    ghost names = { name "aaabcdefghijklmnopqr" ∷ name "baabcdefghijklmnopqr" ∷
+        name "caabcdefghijklmnopqr" ∷ name "daabcdefghijklmnopqr" ∷
+        name "eaabcdefghijklmnopqr" ∷ name "faabcdefghijklmnopqr" ∷ [] };
+
+    #[tactic(auto, unfolding(serde_content::specs::Literals::name))]
+    fn names() -> &'static [&'static str] {
+        &[
+            "aaabcdefghijklmnopqr",
+            "baabcdefghijklmnopqr",
+            "caabcdefghijklmnopqr",
+            "daabcdefghijklmnopqr",
+            "eaabcdefghijklmnopqr",
+            "faabcdefghijklmnopqr",
+        ]
+    }
+}
+
+type Field1OfNamesOfFields20 = ReadField<
+    FieldsOfNamesOfFields20,
+    0,
+    String,
+    Field2OfNamesOfFields20,
+>;
+
+type Field2OfNamesOfFields20 = ReadField<FieldsOfNamesOfFields20, 1, u8, Field3OfNamesOfFields20>;
+
+type Field3OfNamesOfFields20 = ReadFieldOr<
+    FieldsOfNamesOfFields20,
+    2,
+    Option<u8>,
+    Field4OfNamesOfFields20,
+>;
+
+type Field4OfNamesOfFields20 = ReadField<FieldsOfNamesOfFields20, 3, bool, Field5OfNamesOfFields20>;
+
+type Field5OfNamesOfFields20 = ReadField<FieldsOfNamesOfFields20, 4, i32, Field6OfNamesOfFields20>;
+
+type Field6OfNamesOfFields20 = ReadField<
+    FieldsOfNamesOfFields20,
+    5,
+    Vec<u8>,
+    OthersSkipped<FieldsOfNamesOfFields20>,
+>;
+
+/// Reads the fields, in any order.
+fn read_names_of_fields20<'de, 'n: 'de>(
+    alloc: Global,
+    fields: FieldsByName<'de, 'n>,
+) -> Result<NamesOfFields20>
+    ensures { Reads (
+        (named_then (name "aaabcdefghijklmnopqr") (⟦<String as Deserialize<'de>>⟧.refusal)
+        (named_then (name "baabcdefghijklmnopqr") (⟦<u8 as Deserialize<'de>>⟧.refusal)
+        (named_or_then (name "caabcdefghijklmnopqr")
+        (⟦<Option<u8> as Deserialize<'de>>⟧.refusal)
+        (named_then (name "daabcdefghijklmnopqr") (⟦<bool as Deserialize<'de>>⟧.refusal)
+        (named_then (name "eaabcdefghijklmnopqr") (⟦<i32 as Deserialize<'de>>⟧.refusal)
+        (named_then (name "faabcdefghijklmnopqr") (⟦<Vec<u8> as Deserialize<'de>>⟧.refusal)
+        (others_skipped (name "aaabcdefghijklmnopqr" ∷ name "baabcdefghijklmnopqr" ∷
+        name "caabcdefghijklmnopqr" ∷ name "daabcdefghijklmnopqr" ∷
+        name "eaabcdefghijklmnopqr" ∷ name "faabcdefghijklmnopqr" ∷ []))))))))
+        (fields_left fields.entry))
+        (λ z.
+        (NamedThen (name "aaabcdefghijklmnopqr") (⟦<String as Deserialize<'de>>⟧.gives)
+        z.aaabcdefghijklmnopqr
+        (NamedThen (name "baabcdefghijklmnopqr") (⟦<u8 as Deserialize<'de>>⟧.gives)
+        z.baabcdefghijklmnopqr
+        (NamedOrThen (name "caabcdefghijklmnopqr") (λ (x : (Option ℕ)). x ≡ None)
+        (⟦<Option<u8> as Deserialize<'de>>⟧.gives) z.caabcdefghijklmnopqr
+        (NamedThen (name "daabcdefghijklmnopqr") (⟦<bool as Deserialize<'de>>⟧.gives)
+        z.daabcdefghijklmnopqr
+        (NamedThen (name "eaabcdefghijklmnopqr") (⟦<i32 as Deserialize<'de>>⟧.gives)
+        z.eaabcdefghijklmnopqr
+        (NamedThen (name "faabcdefghijklmnopqr") (⟦<Vec<u8> as Deserialize<'de>>⟧.gives)
+        z.faabcdefghijklmnopqr
+        NoOthers))))))
+        (fields_left fields.entry)) result }
+{
+    let row: Field1OfNamesOfFields20 = ReadFields::read(alloc, fields)?;
+    let ReadField(aaabcdefghijklmnopqr, row, _) = row;
+    let ReadField(baabcdefghijklmnopqr, row, _) = row;
+    let ReadFieldOr(caabcdefghijklmnopqr, row, _) = row;
+    let ReadField(daabcdefghijklmnopqr, row, _) = row;
+    let ReadField(eaabcdefghijklmnopqr, row, _) = row;
+    let ReadField(faabcdefghijklmnopqr, _, _) = row;
+    Ok(NamesOfFields20 {
+        aaabcdefghijklmnopqr,
+        baabcdefghijklmnopqr,
+        caabcdefghijklmnopqr,
+        daabcdefghijklmnopqr,
+        eaabcdefghijklmnopqr,
+        faabcdefghijklmnopqr,
+    })
+}
+
+impl Serialize for NamesOfFields20 {
+    ghost script = { λ p. struct_script (name "NamesOfFields20") 6
+        (field_first (name "aaabcdefghijklmnopqr")
+        (⟦<String as Serialize>⟧.script p.aaabcdefghijklmnopqr)
+        (field_first (name "baabcdefghijklmnopqr")
+        (⟦<u8 as Serialize>⟧.script p.baabcdefghijklmnopqr)
+        (field_first (name "caabcdefghijklmnopqr")
+        (⟦<Option<u8> as Serialize>⟧.script p.caabcdefghijklmnopqr)
+        (field_first (name "daabcdefghijklmnopqr")
+        (⟦<bool as Serialize>⟧.script p.daabcdefghijklmnopqr)
+        (field_first (name "eaabcdefghijklmnopqr")
+        (⟦<i32 as Serialize>⟧.script p.eaabcdefghijklmnopqr)
+        (field_first (name "faabcdefghijklmnopqr")
+        (⟦<Vec<u8> as Serialize>⟧.script p.faabcdefghijklmnopqr)
+        end_script)))))) };
+
+    ghost lawful = { λ p readable. struct_lawful
+        (field_fits (leaf_lawful refl)
+        (field_fits (leaf_lawful refl)
+        (field_fits (option_lawful (λ x h. leaf_lawful refl) p.caabcdefghijklmnopqr
+        readable)
+        (field_fits (leaf_lawful refl)
+        (field_fits (leaf_lawful refl)
+        (field_fits (seq_lawful (λ x h. leaf_lawful refl) p.faabcdefghijklmnopqr.items
+        readable)
+        struct_end_fits)))))) };
+
+    fn serialize<S: Serializer>(&self, alloc: Global, serializer: &mut S) -> Result<()> {
+        let row = SendEnd;
+        let row = SendField(FieldsOfNamesOfFields20, 5, &self.faabcdefghijklmnopqr, row);
+        let row = SendField(FieldsOfNamesOfFields20, 4, &self.eaabcdefghijklmnopqr, row);
+        let row = SendField(FieldsOfNamesOfFields20, 3, &self.daabcdefghijklmnopqr, row);
+        let row = SendField(FieldsOfNamesOfFields20, 2, &self.caabcdefghijklmnopqr, row);
+        let row = SendField(FieldsOfNamesOfFields20, 1, &self.baabcdefghijklmnopqr, row);
+        let row = SendField(FieldsOfNamesOfFields20, 0, &self.aaabcdefghijklmnopqr, row);
+        let row = SendOpen(Call::Struct(name_names_of_fields20(), 6), row);
+        send_row(alloc, serializer, &row)
+    }
+}
+
+impl<'de> Deserialize<'de> for NamesOfFields20 {
+    ghost refusal = { struct_refusal (name "NamesOfFields20") (read_by_name
+        (named_then (name "aaabcdefghijklmnopqr") (⟦<String as Deserialize<'de>>⟧.refusal)
+        (named_then (name "baabcdefghijklmnopqr") (⟦<u8 as Deserialize<'de>>⟧.refusal)
+        (named_or_then (name "caabcdefghijklmnopqr")
+        (⟦<Option<u8> as Deserialize<'de>>⟧.refusal)
+        (named_then (name "daabcdefghijklmnopqr") (⟦<bool as Deserialize<'de>>⟧.refusal)
+        (named_then (name "eaabcdefghijklmnopqr") (⟦<i32 as Deserialize<'de>>⟧.refusal)
+        (named_then (name "faabcdefghijklmnopqr") (⟦<Vec<u8> as Deserialize<'de>>⟧.refusal)
+        (others_skipped (name "aaabcdefghijklmnopqr" ∷ name "baabcdefghijklmnopqr" ∷
+        name "caabcdefghijklmnopqr" ∷ name "daabcdefghijklmnopqr" ∷
+        name "eaabcdefghijklmnopqr" ∷ name "faabcdefghijklmnopqr" ∷ []))))))))) };
+
+    ghost gives = { λ s p. StructGives (name "NamesOfFields20") (ReadByName
+        (NamedThen (name "aaabcdefghijklmnopqr") (⟦<String as Deserialize<'de>>⟧.gives)
+        p.aaabcdefghijklmnopqr
+        (NamedThen (name "baabcdefghijklmnopqr") (⟦<u8 as Deserialize<'de>>⟧.gives)
+        p.baabcdefghijklmnopqr
+        (NamedOrThen (name "caabcdefghijklmnopqr") (λ (x : (Option ℕ)). x ≡ None)
+        (⟦<Option<u8> as Deserialize<'de>>⟧.gives) p.caabcdefghijklmnopqr
+        (NamedThen (name "daabcdefghijklmnopqr") (⟦<bool as Deserialize<'de>>⟧.gives)
+        p.daabcdefghijklmnopqr
+        (NamedThen (name "eaabcdefghijklmnopqr") (⟦<i32 as Deserialize<'de>>⟧.gives)
+        p.eaabcdefghijklmnopqr
+        (NamedThen (name "faabcdefghijklmnopqr") (⟦<Vec<u8> as Deserialize<'de>>⟧.gives)
+        p.faabcdefghijklmnopqr
+        NoOthers))))))) s };
+
+    fn deserialize<'n: 'de>(alloc: Global, from: Deserializer<'de, 'n>) -> Result<NamesOfFields20> {
+        let fields = from
+            .deserialize_struct(
+                alloc,
+                name_names_of_fields20(),
+                FieldsOfNamesOfFields20::names(),
+            )?
+            .by_name();
+        read_names_of_fields20(alloc, fields)
+    }
+}
+
+impl<'de> RoundTrip<'de> for NamesOfFields20 {
+    ghost exists = { λ p. ⟦<Option<u8> as RoundTrip<'de>>⟧.exists p.caabcdefghijklmnopqr
+        × ⟦<Vec<u8> as RoundTrip<'de>>⟧.exists p.faabcdefghijklmnopqr };
+
+    fn known(&self) {
+        self.caabcdefghijklmnopqr.known();
+        self.faabcdefghijklmnopqr.known();
+    }
+
+    ghost comes_back = { record {
+      of_value = λ p real f. struct_back (by_name_back
+          (named_back (name "aaabcdefghijklmnopqr") text_back p.aaabcdefghijklmnopqr tt
+          (λ q. q.aaabcdefghijklmnopqr)
+          (named_back (name "baabcdefghijklmnopqr") u8_back p.baabcdefghijklmnopqr tt
+          (λ q. q.baabcdefghijklmnopqr)
+          (named_or_back (name "caabcdefghijklmnopqr") (λ (x : (Option ℕ)). x ≡ None)
+          (let law : ComesBack (⟦<Option<u8> as RoundTrip<'de>>⟧.exists)
+          (⟦<Option<u8> as Serialize>⟧.script) (⟦<Option<u8> as Deserialize<'de>>⟧.refusal)
+          (⟦<Option<u8> as Deserialize<'de>>⟧.gives) (⟦<Option<u8> as PartialEq>⟧.eq) =
+          (option_back u8_back) in law) p.caabcdefghijklmnopqr real.0
+          (λ q. q.caabcdefghijklmnopqr)
+          (named_back (name "daabcdefghijklmnopqr") bool_back p.daabcdefghijklmnopqr tt
+          (λ q. q.daabcdefghijklmnopqr)
+          (named_back (name "eaabcdefghijklmnopqr") i32_back p.eaabcdefghijklmnopqr tt
+          (λ q. q.eaabcdefghijklmnopqr)
+          (named_back (name "faabcdefghijklmnopqr")
+          (let law : ComesBack (⟦<Vec<u8> as RoundTrip<'de>>⟧.exists)
+          (⟦<Vec<u8> as Serialize>⟧.script) (⟦<Vec<u8> as Deserialize<'de>>⟧.refusal)
+          (⟦<Vec<u8> as Deserialize<'de>>⟧.gives) (⟦<Vec<u8> as PartialEq>⟧.eq) =
+          (seen_back (λ v. v.items) (seq_back u8_back)) in law) p.faabcdefghijklmnopqr real.1
+          (λ q. q.faabcdefghijklmnopqr)
+          (skipped_back (name "aaabcdefghijklmnopqr" ∷ name "baabcdefghijklmnopqr" ∷
+          name "caabcdefghijklmnopqr" ∷ name "daabcdefghijklmnopqr" ∷
+          name "eaabcdefghijklmnopqr" ∷ name "faabcdefghijklmnopqr" ∷ [])))))))))
+          f (λ q h. both_hold h.0 (both_hold h.1.0
+          (both_hold h.1.1.0 (both_hold h.1.1.1.0 (both_hold h.1.1.1.1.0 h.1.1.1.1.1.0)))));
+    } };
+
+    ghost keeps = { struct_keeps (name "NamesOfFields20") (by_name_keeps
+        (named_keeps (name "aaabcdefghijklmnopqr") (λ q. q.aaabcdefghijklmnopqr)
+        (heedless_keeps (λ o. refusal_of (text_from o))
+        (λ o (x : String Global). IsTaken (text_from o) (HasContent (string_bytes x))))
+        (named_keeps (name "baabcdefghijklmnopqr") (λ q. q.baabcdefghijklmnopqr)
+        (natural_keeps kind.u8)
+        (named_or_keeps (name "caabcdefghijklmnopqr") (λ (x : (Option ℕ)). x ≡ None)
+        (λ q. q.caabcdefghijklmnopqr)
+        (let law : CoercionKeeps (⟦<Option<u8> as Deserialize<'de>>⟧.refusal)
+        (⟦<Option<u8> as Deserialize<'de>>⟧.gives) = (option_keeps (natural_keeps kind.u8))
+        in law)
+        (named_keeps (name "daabcdefghijklmnopqr") (λ q. q.daabcdefghijklmnopqr)
+        (heedless_keeps (λ o. refusal_of (bool_from o))
+        (λ o (x : Bool). bool_from o ≡ taken x))
+        (named_keeps (name "eaabcdefghijklmnopqr") (λ q. q.eaabcdefghijklmnopqr)
+        (integer_keeps kind.i32)
+        (named_keeps (name "faabcdefghijklmnopqr") (λ q. q.faabcdefghijklmnopqr)
+        (let law : CoercionKeeps (⟦<Vec<u8> as Deserialize<'de>>⟧.refusal)
+        (⟦<Vec<u8> as Deserialize<'de>>⟧.gives) =
+        (seen_keeps (λ v. v.items) (seq_keeps (natural_keeps kind.u8))) in law)
+        (skipped_keeps (name "aaabcdefghijklmnopqr" ∷ name "baabcdefghijklmnopqr" ∷
+        name "caabcdefghijklmnopqr" ∷ name "daabcdefghijklmnopqr" ∷
+        name "eaabcdefghijklmnopqr" ∷ name "faabcdefghijklmnopqr" ∷ []))))))))) };
+}
+
+#[derive(Drop, PartialEq, Eq)]
+pub enum NamesOfVariants40 {
+    Aaabcdefghijklmnopqrstuvwxyzabcdefghijkl,
+    Baabcdefghijklmnopqrstuvwxyzabcdefghijkl(u8),
+    Caabcdefghijklmnopqrstuvwxyzabcdefghijkl(String, u8),
+    Daabcdefghijklmnopqrstuvwxyzabcdefghijkl { x: i32, y: u8, z: String },
+}
+
+type Part1OfNamesOfVariants40Caabcdefghijklmnopqrstuvwxyzabcdefghijkl = ReadPart<
+    2,
+    0,
+    String,
+    Part2OfNamesOfVariants40Caabcdefghijklmnopqrstuvwxyzabcdefghijkl,
+>;
+
+type Part2OfNamesOfVariants40Caabcdefghijklmnopqrstuvwxyzabcdefghijkl = ReadPart<
+    2,
+    1,
+    u8,
+    PartsEnd<2>,
+>;
+
+/// Its contract tells proofs what a variant of signed numbers holds.
+fn make_names_of_variants40_daabcdefghijklmnopqrstuvwxyzabcdefghijkl(
+    x: i32,
+    y: u8,
+    z: String,
+) -> NamesOfVariants40
+    ensures { result ≡ names_of_variants40.Daabcdefghijklmnopqrstuvwxyzabcdefghijkl x y
+        z }
+{
+    NamesOfVariants40::Daabcdefghijklmnopqrstuvwxyzabcdefghijkl { x, y, z }
+}
+
+/// The names of its fields.
+#[derive(Drop)]
+struct FieldsOfNamesOfVariants40Daabcdefghijklmnopqrstuvwxyzabcdefghijkl;
+
+impl Names for FieldsOfNamesOfVariants40Daabcdefghijklmnopqrstuvwxyzabcdefghijkl {
+    ghost names = { name "x" ∷ name "y" ∷ name "z" ∷ [] };
+
+    #[tactic(auto, unfolding(serde_content::specs::Literals::name))]
+    fn names() -> &'static [&'static str] {
+        &["x", "y", "z"]
+    }
+}
+
+/// Sends that variant.
+fn send_whole_names_of_variants40_daabcdefghijklmnopqrstuvwxyzabcdefghijkl<S: Serializer>(
+    alloc: Global,
+    serializer: &mut S,
+    whole: &NamesOfVariants40,
+    x: &i32,
+    y: &u8,
+    z: &String,
+) -> Result<()>
+    requires { whole.now ≡ names_of_variants40.Daabcdefghijklmnopqrstuvwxyzabcdefghijkl
+        x.now y.now z.now }
+    ensures { Sends S.step S.refuses (S.seen serializer.old)
+        (⟦<NamesOfVariants40 as Serialize>⟧.script whole.now)
+        result (S.seen serializer.new) }
+{
+    let row = SendEnd;
+    let row = SendField(
+        FieldsOfNamesOfVariants40Daabcdefghijklmnopqrstuvwxyzabcdefghijkl,
+        2,
+        z,
+        row,
+    );
+    let row = SendField(
+        FieldsOfNamesOfVariants40Daabcdefghijklmnopqrstuvwxyzabcdefghijkl,
+        1,
+        y,
+        row,
+    );
+    let row = SendField(
+        FieldsOfNamesOfVariants40Daabcdefghijklmnopqrstuvwxyzabcdefghijkl,
+        0,
+        x,
+        row,
+    );
+    let row = SendOpen(
+        Call::StructVariant(
+            name_names_of_variants40(),
+            3,
+            name_daabcdefghijklmnopqrstuvwxyzabcdefghijkl(),
+            3,
+        ),
+        row,
+    );
+    send_row(alloc, serializer, &row)
+}
+
+type Field1OfNamesOfVariants40Daabcdefghijklmnopqrstuvwxyzabcdefghijkl = ReadField<
+    FieldsOfNamesOfVariants40Daabcdefghijklmnopqrstuvwxyzabcdefghijkl,
+    0,
+    i32,
+    Field2OfNamesOfVariants40Daabcdefghijklmnopqrstuvwxyzabcdefghijkl,
+>;
+
+type Field2OfNamesOfVariants40Daabcdefghijklmnopqrstuvwxyzabcdefghijkl = ReadField<
+    FieldsOfNamesOfVariants40Daabcdefghijklmnopqrstuvwxyzabcdefghijkl,
+    1,
+    u8,
+    Field3OfNamesOfVariants40Daabcdefghijklmnopqrstuvwxyzabcdefghijkl,
+>;
+
+type Field3OfNamesOfVariants40Daabcdefghijklmnopqrstuvwxyzabcdefghijkl = ReadField<
+    FieldsOfNamesOfVariants40Daabcdefghijklmnopqrstuvwxyzabcdefghijkl,
+    2,
+    String,
+    OthersSkipped<FieldsOfNamesOfVariants40Daabcdefghijklmnopqrstuvwxyzabcdefghijkl>,
+>;
+
+/// Reads the fields, in any order.
+fn read_names_of_variants40_daabcdefghijklmnopqrstuvwxyzabcdefghijkl<'de, 'n: 'de>(
+    alloc: Global,
+    fields: FieldsByName<'de, 'n>,
+) -> Result<(i32, u8, String)>
+    ensures { Reads (
+        (named_then (name "x") (⟦<i32 as Deserialize<'de>>⟧.refusal)
+        (named_then (name "y") (⟦<u8 as Deserialize<'de>>⟧.refusal)
+        (named_then (name "z") (⟦<String as Deserialize<'de>>⟧.refusal)
+        (others_skipped (name "x" ∷ name "y" ∷ name "z" ∷ [])))))
+        (fields_left fields.entry))
+        (λ z.
+        (NamedThen (name "x") (⟦<i32 as Deserialize<'de>>⟧.gives) z.0
+        (NamedThen (name "y") (⟦<u8 as Deserialize<'de>>⟧.gives) z.1
+        (NamedThen (name "z") (⟦<String as Deserialize<'de>>⟧.gives) z.2
+        NoOthers)))
+        (fields_left fields.entry)) result }
+{
+    let row: Field1OfNamesOfVariants40Daabcdefghijklmnopqrstuvwxyzabcdefghijkl = ReadFields::read(
+        alloc, fields,
+    )?;
+    let ReadField(x, row, _) = row;
+    let ReadField(y, row, _) = row;
+    let ReadField(z, _, _) = row;
+    Ok((x, y, z))
+}
+
+/// The names of its variants.
+#[derive(Drop)]
+struct NamesOfNamesOfVariants40;
+
+impl Names for NamesOfNamesOfVariants40 {
+    ghost names = { name "Aaabcdefghijklmnopqrstuvwxyzabcdefghijkl" ∷
+        name "Baabcdefghijklmnopqrstuvwxyzabcdefghijkl" ∷
+        name "Caabcdefghijklmnopqrstuvwxyzabcdefghijkl" ∷
+        name "Daabcdefghijklmnopqrstuvwxyzabcdefghijkl" ∷ [] };
+
+    #[tactic(auto, unfolding(serde_content::specs::Literals::name))]
+    fn names() -> &'static [&'static str] {
+        &[
+            "Aaabcdefghijklmnopqrstuvwxyzabcdefghijkl",
+            "Baabcdefghijklmnopqrstuvwxyzabcdefghijkl",
+            "Caabcdefghijklmnopqrstuvwxyzabcdefghijkl",
+            "Daabcdefghijklmnopqrstuvwxyzabcdefghijkl",
+        ]
+    }
+}
+
+impl Serialize for NamesOfVariants40 {
+    ghost script = { elim [
+      | names_of_variants40.Aaabcdefghijklmnopqrstuvwxyzabcdefghijkl ↦ unit_variant_script
+          (name "NamesOfVariants40") 0 (name "Aaabcdefghijklmnopqrstuvwxyzabcdefghijkl")
+      | names_of_variants40.Baabcdefghijklmnopqrstuvwxyzabcdefghijkl x1 ↦
+          newtype_variant_script (name "NamesOfVariants40") 1
+          (name "Baabcdefghijklmnopqrstuvwxyzabcdefghijkl") (⟦<u8 as Serialize>⟧.script x1)
+      | names_of_variants40.Caabcdefghijklmnopqrstuvwxyzabcdefghijkl x1 x2 ↦
+          tuple_variant_script (name "NamesOfVariants40") 2
+          (name "Caabcdefghijklmnopqrstuvwxyzabcdefghijkl") 2
+          (tuple_field_first (⟦<String as Serialize>⟧.script x1)
+          (tuple_field_first (⟦<u8 as Serialize>⟧.script x2)
+          end_script))
+      | names_of_variants40.Daabcdefghijklmnopqrstuvwxyzabcdefghijkl x1 x2 x3 ↦
+          struct_variant_script (name "NamesOfVariants40") 3
+          (name "Daabcdefghijklmnopqrstuvwxyzabcdefghijkl") 3
+          (field_first (name "x") (⟦<i32 as Serialize>⟧.script x1)
+          (field_first (name "y") (⟦<u8 as Serialize>⟧.script x2)
+          (field_first (name "z") (⟦<String as Serialize>⟧.script x3)
+          end_script)))
+    ] };
+
+    ghost lawful = { elim [
+      | names_of_variants40.Aaabcdefghijklmnopqrstuvwxyzabcdefghijkl ↦ λ readable.
+          unit_variant_lawful
+      | names_of_variants40.Baabcdefghijklmnopqrstuvwxyzabcdefghijkl x1 ↦ λ readable.
+          newtype_variant_lawful (leaf_lawful refl)
+      | names_of_variants40.Caabcdefghijklmnopqrstuvwxyzabcdefghijkl x1 x2 ↦ λ readable.
+          tuple_variant_lawful
+          (tuple_field_fits (leaf_lawful refl)
+          (tuple_field_fits (leaf_lawful refl)
+          tuple_end_fits))
+      | names_of_variants40.Daabcdefghijklmnopqrstuvwxyzabcdefghijkl x1 x2 x3 ↦ λ
+          readable. struct_variant_lawful
+          (field_fits (leaf_lawful refl)
+          (field_fits (leaf_lawful refl)
+          (field_fits (leaf_lawful refl)
+          struct_end_fits)))
+    ] };
+
+    fn serialize<S: Serializer>(&self, alloc: Global, serializer: &mut S) -> Result<()> {
+        match self {
+            NamesOfVariants40::Aaabcdefghijklmnopqrstuvwxyzabcdefghijkl => {
+                Call::UnitVariant(
+                    name_names_of_variants40(),
+                    0,
+                    name_aaabcdefghijklmnopqrstuvwxyzabcdefghijkl(),
+                )
+                .send(serializer)
+            }
+            NamesOfVariants40::Baabcdefghijklmnopqrstuvwxyzabcdefghijkl(x1) => {
+                Call::NewtypeVariant(
+                    name_names_of_variants40(),
+                    1,
+                    name_baabcdefghijklmnopqrstuvwxyzabcdefghijkl(),
+                )
+                .around(x1, alloc, serializer)
+            }
+            NamesOfVariants40::Caabcdefghijklmnopqrstuvwxyzabcdefghijkl(x1, x2) => {
+                let row = SendEnd;
+                let row = SendPart(x2, row);
+                let row = SendPart(x1, row);
+                let row = SendOpen(
+                    Call::TupleVariant(
+                        name_names_of_variants40(),
+                        2,
+                        name_caabcdefghijklmnopqrstuvwxyzabcdefghijkl(),
+                        2,
+                    ),
+                    row,
+                );
+                send_row(alloc, serializer, &row)
+            }
+            NamesOfVariants40::Daabcdefghijklmnopqrstuvwxyzabcdefghijkl { x, y, z } => {
+                send_whole_names_of_variants40_daabcdefghijklmnopqrstuvwxyzabcdefghijkl(
+                    alloc, serializer, self, x, y, z,
+                )
+            }
+        }
+    }
+}
+
+impl<'de> Variants<'de> for NamesOfVariants40 {
+    ghost name = { name "NamesOfVariants40" };
+
+    ghost refusal = { variants (
+        (name "Aaabcdefghijklmnopqrstuvwxyzabcdefghijkl", unit_variant_refusal)
+        ∷ (
+          name "Baabcdefghijklmnopqrstuvwxyzabcdefghijkl",
+          newtype_variant_refusal
+              (⟦<u8 as Deserialize<'de>>⟧.refusal),
+        )
+        ∷ (
+          name "Caabcdefghijklmnopqrstuvwxyzabcdefghijkl",
+          tuple_variant_refusal
+              (part_then 2 0 (⟦<String as Deserialize<'de>>⟧.refusal)
+              (part_then 2 1 (⟦<u8 as Deserialize<'de>>⟧.refusal)
+              (end_of_parts 2))),
+        )
+        ∷ (
+          name "Daabcdefghijklmnopqrstuvwxyzabcdefghijkl",
+          struct_variant_refusal
+              (read_by_name
+              (named_then (name "x") (⟦<i32 as Deserialize<'de>>⟧.refusal)
+              (named_then (name "y") (⟦<u8 as Deserialize<'de>>⟧.refusal)
+              (named_then (name "z") (⟦<String as Deserialize<'de>>⟧.refusal)
+              (others_skipped (name "x" ∷ name "y" ∷ name "z" ∷ [])))))),
+        )
+        ∷ []) };
+
+    ghost named = { elim [
+      | names_of_variants40.Aaabcdefghijklmnopqrstuvwxyzabcdefghijkl ↦
+          name "Aaabcdefghijklmnopqrstuvwxyzabcdefghijkl"
+      | names_of_variants40.Baabcdefghijklmnopqrstuvwxyzabcdefghijkl x1 ↦
+          name "Baabcdefghijklmnopqrstuvwxyzabcdefghijkl"
+      | names_of_variants40.Caabcdefghijklmnopqrstuvwxyzabcdefghijkl x1 x2 ↦
+          name "Caabcdefghijklmnopqrstuvwxyzabcdefghijkl"
+      | names_of_variants40.Daabcdefghijklmnopqrstuvwxyzabcdefghijkl x1 x2 x3 ↦
+          name "Daabcdefghijklmnopqrstuvwxyzabcdefghijkl"
+    ] };
+
+    ghost held = { elim [
+      | names_of_variants40.Aaabcdefghijklmnopqrstuvwxyzabcdefghijkl ↦ UnitVariantGives
+      | names_of_variants40.Baabcdefghijklmnopqrstuvwxyzabcdefghijkl x1 ↦
+          NewtypeVariantGives (⟦<u8 as Deserialize<'de>>⟧.gives) x1
+      | names_of_variants40.Caabcdefghijklmnopqrstuvwxyzabcdefghijkl x1 x2 ↦
+          TupleVariantGives
+          (PartThen (⟦<String as Deserialize<'de>>⟧.gives) x1
+          (PartThen (⟦<u8 as Deserialize<'de>>⟧.gives) x2
+          NoPart))
+      | names_of_variants40.Daabcdefghijklmnopqrstuvwxyzabcdefghijkl x1 x2 x3 ↦
+          StructVariantGives (ReadByName
+          (NamedThen (name "x") (⟦<i32 as Deserialize<'de>>⟧.gives) x1
+          (NamedThen (name "y") (⟦<u8 as Deserialize<'de>>⟧.gives) x2
+          (NamedThen (name "z") (⟦<String as Deserialize<'de>>⟧.gives) x3
+          NoOthers))))
+    ] };
+
+    #[tactic(auto, unfolding(serde_content::specs::Literals::name))]
+    fn name() -> &'static str {
+        "NamesOfVariants40"
+    }
+
+    fn names() -> &'static [&'static str] {
+        NamesOfNamesOfVariants40::names()
+    }
+
+    fn read_variant<'n: 'de>(
+        alloc: Global,
+        tag: &str,
+        variant: VariantAccess<'de, 'n>,
+    ) -> Result<NamesOfVariants40> {
+        match variant_index(tag, &NamesOfNamesOfVariants40) {
+            Some(0) => {
+                variant.unit_variant(alloc)?;
+                Ok(NamesOfVariants40::Aaabcdefghijklmnopqrstuvwxyzabcdefghijkl)
+            }
+            Some(1) => {
+                Ok(NamesOfVariants40::Baabcdefghijklmnopqrstuvwxyzabcdefghijkl(
+                    variant.newtype_variant(alloc)?,
+                ))
+            }
+            Some(2) => {
+                let parts = variant.tuple_variant(alloc, 2)?;
+                let row: Part1OfNamesOfVariants40Caabcdefghijklmnopqrstuvwxyzabcdefghijkl =
+                    ReadParts::read(alloc, parts)?;
+                let ReadPart(x1, row) = row;
+                let ReadPart(x2, _) = row;
+                Ok(NamesOfVariants40::Caabcdefghijklmnopqrstuvwxyzabcdefghijkl(x1, x2))
+            }
+            Some(3) => {
+                let fields = variant
+                    .struct_variant(
+                        alloc,
+                        FieldsOfNamesOfVariants40Daabcdefghijklmnopqrstuvwxyzabcdefghijkl::names(),
+                    )?
+                    .by_name();
+                let (x, y, z) = read_names_of_variants40_daabcdefghijklmnopqrstuvwxyzabcdefghijkl(
+                    alloc, fields,
+                )?;
+                Ok(make_names_of_variants40_daabcdefghijklmnopqrstuvwxyzabcdefghijkl(x, y, z))
+            }
+            _ => Err(no_such_variant(alloc, tag, &NamesOfNamesOfVariants40)),
+        }
+    }
+}
+
+impl<'de> Deserialize<'de> for NamesOfVariants40 {
+    ghost refusal = { enum_refusal (name "NamesOfVariants40")
+        ⟦<NamesOfVariants40 as Variants<'de>>⟧.refusal };
+
+    ghost gives = { λ s y. EnumGives (name "NamesOfVariants40")
+        (⟦<NamesOfVariants40 as Variants<'de>>⟧.named y)
+        (⟦<NamesOfVariants40 as Variants<'de>>⟧.held y) s };
+
+    fn deserialize<'n: 'de>(
+        alloc: Global,
+        from: Deserializer<'de, 'n>,
+    ) -> Result<NamesOfVariants40> {
+        read_enum(alloc, from)
+    }
+}
+
+impl<'de> RoundTrip<'de> for NamesOfVariants40 {
+    fn known(&self) {}
+
+    ghost comes_back = { record {
+      of_value = elim [
+        | names_of_variants40.Aaabcdefghijklmnopqrstuvwxyzabcdefghijkl ↦ λ real f.
+            variant_back Self.refusal Self.gives unit_variant_back
+            f (unfold name index_among in λ d. refl)
+            (unfold name index_among in λ d only. elim [
+              | names_of_variants40.Aaabcdefghijklmnopqrstuvwxyzabcdefghijkl ↦ λ it. refl
+              | names_of_variants40.Baabcdefghijklmnopqrstuvwxyzabcdefghijkl y1 ↦ λ it.
+                  other_variant it.0 refl
+              | names_of_variants40.Caabcdefghijklmnopqrstuvwxyzabcdefghijkl y1 y2 ↦ λ it.
+                  other_variant it.0 refl
+              | names_of_variants40.Daabcdefghijklmnopqrstuvwxyzabcdefghijkl y1 y2 y3 ↦ λ it.
+                  other_variant it.0 refl
+            ])
+        | names_of_variants40.Baabcdefghijklmnopqrstuvwxyzabcdefghijkl x1 ↦ λ real f.
+            variant_back Self.refusal Self.gives (newtype_variant_back u8_back x1 tt)
+            f (unfold name index_among in λ d. refl)
+            (unfold name index_among in λ d only. elim [
+              | names_of_variants40.Aaabcdefghijklmnopqrstuvwxyzabcdefghijkl ↦ λ it. other_variant
+                  it.0 refl
+              | names_of_variants40.Baabcdefghijklmnopqrstuvwxyzabcdefghijkl y1 ↦ λ it. only y1
+                  it.1
+              | names_of_variants40.Caabcdefghijklmnopqrstuvwxyzabcdefghijkl y1 y2 ↦ λ it.
+                  other_variant it.0 refl
+              | names_of_variants40.Daabcdefghijklmnopqrstuvwxyzabcdefghijkl y1 y2 y3 ↦ λ it.
+                  other_variant it.0 refl
+            ])
+        | names_of_variants40.Caabcdefghijklmnopqrstuvwxyzabcdefghijkl x1 x2 ↦ λ real f.
+            variant_back Self.refusal Self.gives (tuple_variant_back
+            (tuple_field_back text_back x1 tt (λ (z : (String Global) × ℕ). z.0) 2 0
+            (tuple_field_back u8_back x2 tt (λ (z : (String Global) × ℕ). z.1) 2 1
+            (parts_end 2))))
+            f (unfold name index_among in λ d. refl)
+            (unfold name index_among in λ d only. elim [
+              | names_of_variants40.Aaabcdefghijklmnopqrstuvwxyzabcdefghijkl ↦ λ it. other_variant
+                  it.0 refl
+              | names_of_variants40.Baabcdefghijklmnopqrstuvwxyzabcdefghijkl y1 ↦ λ it.
+                  other_variant it.0 refl
+              | names_of_variants40.Caabcdefghijklmnopqrstuvwxyzabcdefghijkl y1 y2 ↦ λ it. let
+                  same = only (y1, y2) it.1 in both_hold same.0 same.1.0
+              | names_of_variants40.Daabcdefghijklmnopqrstuvwxyzabcdefghijkl y1 y2 y3 ↦ λ it.
+                  other_variant it.0 refl
+            ])
+        | names_of_variants40.Daabcdefghijklmnopqrstuvwxyzabcdefghijkl x1 x2 x3 ↦ λ real f.
+            variant_back Self.refusal Self.gives (struct_variant_back (by_name_back
+            (named_back (name "x") i32_back x1 tt (λ (z : ℤ × ℕ × (String Global)). z.0)
+            (named_back (name "y") u8_back x2 tt (λ (z : ℤ × ℕ × (String Global)). z.1)
+            (named_back (name "z") text_back x3 tt (λ (z : ℤ × ℕ × (String Global)). z.2)
+            (skipped_back (name "x" ∷ name "y" ∷ name "z" ∷ [])))))))
+            f (unfold name index_among in λ d. refl)
+            (unfold name index_among in λ d only. elim [
+              | names_of_variants40.Aaabcdefghijklmnopqrstuvwxyzabcdefghijkl ↦ λ it. other_variant
+                  it.0 refl
+              | names_of_variants40.Baabcdefghijklmnopqrstuvwxyzabcdefghijkl y1 ↦ λ it.
+                  other_variant it.0 refl
+              | names_of_variants40.Caabcdefghijklmnopqrstuvwxyzabcdefghijkl y1 y2 ↦ λ it.
+                  other_variant it.0 refl
+              | names_of_variants40.Daabcdefghijklmnopqrstuvwxyzabcdefghijkl y1 y2 y3 ↦ λ it. let
+                  same = only (y1, y2, y3) it.1 in both_hold same.0 (both_hold same.1.0 same.1.1.0)
+            ])
+      ];
+    } };
+
+    ghost keeps = { record {
+      of_origin = λ o people. elim [
+        | names_of_variants40.Aaabcdefghijklmnopqrstuvwxyzabcdefghijkl ↦ λ p.
+            let q = variant_kept {own = unit_variant_refusal} (name "NamesOfVariants40")
+            (name "Aaabcdefghijklmnopqrstuvwxyzabcdefghijkl")
+            ⟦<NamesOfVariants40 as Variants<'de>>⟧.refusal
+            (unfold name index_among in λ v. refl) unit_variant_keeps
+            o people tt p.free p.given in
+            record { free = q.0; given = q.1 }
+        | names_of_variants40.Baabcdefghijklmnopqrstuvwxyzabcdefghijkl x1 ↦ λ p.
+            let q = variant_kept {own = (newtype_variant_refusal
+            (⟦<u8 as Deserialize<'de>>⟧.refusal))} (name "NamesOfVariants40")
+            (name "Baabcdefghijklmnopqrstuvwxyzabcdefghijkl")
+            ⟦<NamesOfVariants40 as Variants<'de>>⟧.refusal
+            (unfold name index_among in λ v. refl)
+            (newtype_variant_keeps (natural_keeps kind.u8))
+            o people x1 p.free p.given in
+            record { free = q.0; given = q.1 }
+        | names_of_variants40.Caabcdefghijklmnopqrstuvwxyzabcdefghijkl x1 x2 ↦ λ p.
+            let q = variant_kept {own = (tuple_variant_refusal
+            (part_then 2 0 (⟦<String as Deserialize<'de>>⟧.refusal)
+            (part_then 2 1 (⟦<u8 as Deserialize<'de>>⟧.refusal)
+            (end_of_parts 2))))} (name "NamesOfVariants40")
+            (name "Caabcdefghijklmnopqrstuvwxyzabcdefghijkl")
+            ⟦<NamesOfVariants40 as Variants<'de>>⟧.refusal
+            (unfold name index_among in λ v. refl) (tuple_variant_keeps
+            (part_keeps (λ (z : (String Global) × ℕ). z.0) 2 0
+            (heedless_keeps (λ o. refusal_of (text_from o))
+            (λ o (x : String Global). IsTaken (text_from o) (HasContent (string_bytes x))))
+            (part_keeps (λ (z : (String Global) × ℕ). z.1) 2 1 (natural_keeps kind.u8)
+            (parts_end_keeps 2))))
+            o people (x1, x2) p.free p.given in
+            record { free = q.0; given = q.1 }
+        | names_of_variants40.Daabcdefghijklmnopqrstuvwxyzabcdefghijkl x1 x2 x3 ↦ λ p.
+            let q = variant_kept {own = (struct_variant_refusal (read_by_name
+            (named_then (name "x") (⟦<i32 as Deserialize<'de>>⟧.refusal)
+            (named_then (name "y") (⟦<u8 as Deserialize<'de>>⟧.refusal)
+            (named_then (name "z") (⟦<String as Deserialize<'de>>⟧.refusal)
+            (others_skipped (name "x" ∷ name "y" ∷ name "z" ∷ [])))))))}
+            (name "NamesOfVariants40") (name "Daabcdefghijklmnopqrstuvwxyzabcdefghijkl")
+            ⟦<NamesOfVariants40 as Variants<'de>>⟧.refusal
+            (unfold name index_among in λ v. refl) (struct_variant_keeps (by_name_keeps
+            (named_keeps (name "x") (λ (z : ℤ × ℕ × (String Global)). z.0)
+            (integer_keeps kind.i32)
+            (named_keeps (name "y") (λ (z : ℤ × ℕ × (String Global)). z.1)
+            (natural_keeps kind.u8)
+            (named_keeps (name "z") (λ (z : ℤ × ℕ × (String Global)). z.2)
+            (heedless_keeps (λ o. refusal_of (text_from o))
+            (λ o (x : String Global). IsTaken (text_from o) (HasContent (string_bytes x))))
+            (skipped_keeps (name "x" ∷ name "y" ∷ name "z" ∷ [])))))))
+            o people (x1, x2, x3) p.free p.given in
+            record { free = q.0; given = q.1 }
+      ];
+    } };
+}
+
+#[derive(Drop, PartialEq, Eq)]
+pub enum NameOfTag20 {
+    A,
+    B { f0: u8, f1: i32, f2: String },
+}
+
+/// The names of its fields.
+#[derive(Drop)]
+struct FieldsOfNameOfTag20A;
+
+impl Names for FieldsOfNameOfTag20A {
+    ghost names = { name "aaabcdefghijklmnopqr" ∷ [] };
+
+    #[tactic(auto, unfolding(serde_content::specs::Literals::name))]
+    fn names() -> &'static [&'static str] {
+        &["aaabcdefghijklmnopqr"]
+    }
+}
+
+/// Its contract tells proofs what a variant of signed numbers holds.
+fn make_name_of_tag20_b(f0: u8, f1: i32, f2: String) -> NameOfTag20
+    ensures { result ≡ name_of_tag20.B f0 f1 f2 }
+{
+    NameOfTag20::B { f0, f1, f2 }
+}
+
+/// The names of its fields.
+#[derive(Drop)]
+struct FieldsOfNameOfTag20B;
+
+impl Names for FieldsOfNameOfTag20B {
+    ghost names = { name "aaabcdefghijklmnopqr" ∷ name "f0" ∷ name "f1" ∷ name "f2" ∷ [] };
+
+    #[tactic(auto, unfolding(serde_content::specs::Literals::name))]
+    fn names() -> &'static [&'static str] {
+        &["aaabcdefghijklmnopqr", "f0", "f1", "f2"]
+    }
+}
+
+/// Sends that variant.
+fn send_whole_name_of_tag20_b<S: Serializer>(
+    alloc: Global,
+    serializer: &mut S,
+    whole: &NameOfTag20,
+    f0: &u8,
+    f1: &i32,
+    f2: &String,
+) -> Result<()>
+    requires { whole.now ≡ name_of_tag20.B f0.now f1.now f2.now }
+    ensures { Sends S.step S.refuses (S.seen serializer.old)
+        (⟦<NameOfTag20 as Serialize>⟧.script whole.now)
+        result (S.seen serializer.new) }
+{
+    let row = SendEnd;
+    let row = SendField(FieldsOfNameOfTag20B, 3, f2, row);
+    let row = SendField(FieldsOfNameOfTag20B, 2, f1, row);
+    let row = SendField(FieldsOfNameOfTag20B, 1, f0, row);
+    let row = SendTag(FieldsOfNameOfTag20B, NamesOfNameOfTag20, 1, row);
+    let row = SendOpen(Call::Struct(name_name_of_tag20(), 4), row);
+    send_row(alloc, serializer, &row)
+}
+
+type Field1OfNameOfTag20B = ReadField<FieldsOfNameOfTag20B, 1, u8, Field2OfNameOfTag20B>;
+
+type Field2OfNameOfTag20B = ReadField<FieldsOfNameOfTag20B, 2, i32, Field3OfNameOfTag20B>;
+
+type Field3OfNameOfTag20B = ReadField<
+    FieldsOfNameOfTag20B,
+    3,
+    String,
+    OthersSkipped<FieldsOfNameOfTag20B>,
+>;
+
+/// Reads the fields, in any order.
+fn read_name_of_tag20_b<'de, 'n: 'de>(
+    alloc: Global,
+    fields: FieldsByName<'de, 'n>,
+) -> Result<(u8, i32, String)>
+    ensures { Reads (
+        (named_then (name "f0") (⟦<u8 as Deserialize<'de>>⟧.refusal)
+        (named_then (name "f1") (⟦<i32 as Deserialize<'de>>⟧.refusal)
+        (named_then (name "f2") (⟦<String as Deserialize<'de>>⟧.refusal)
+        (others_skipped (name "aaabcdefghijklmnopqr" ∷ name "f0" ∷ name "f1" ∷ name "f2" ∷
+        [])))))
+        (fields_left fields.entry))
+        (λ z.
+        (NamedThen (name "f0") (⟦<u8 as Deserialize<'de>>⟧.gives) z.0
+        (NamedThen (name "f1") (⟦<i32 as Deserialize<'de>>⟧.gives) z.1
+        (NamedThen (name "f2") (⟦<String as Deserialize<'de>>⟧.gives) z.2
+        NoOthers)))
+        (fields_left fields.entry)) result }
+{
+    let row: Field1OfNameOfTag20B = ReadFields::read(alloc, fields)?;
+    let ReadField(f0, row, _) = row;
+    let ReadField(f1, row, _) = row;
+    let ReadField(f2, _, _) = row;
+    Ok((f0, f1, f2))
+}
+
+/// The names of its variants.
+#[derive(Drop)]
+struct NamesOfNameOfTag20;
+
+impl Names for NamesOfNameOfTag20 {
+    ghost names = { name "A" ∷ name "B" ∷ [] };
+
+    #[tactic(auto, unfolding(serde_content::specs::Literals::name))]
+    fn names() -> &'static [&'static str] {
+        &["A", "B"]
+    }
+}
+
+impl Serialize for NameOfTag20 {
+    ghost script = { elim [
+      | name_of_tag20.A ↦ tagged_script (name "NameOfTag20") 1
+          (name "aaabcdefghijklmnopqr") (name "A")
+          end_script
+      | name_of_tag20.B x1 x2 x3 ↦ tagged_script (name "NameOfTag20") 4
+          (name "aaabcdefghijklmnopqr") (name "B")
+          (field_first (name "f0") (⟦<u8 as Serialize>⟧.script x1)
+          (field_first (name "f1") (⟦<i32 as Serialize>⟧.script x2)
+          (field_first (name "f2") (⟦<String as Serialize>⟧.script x3)
+          end_script)))
+    ] };
+
+    ghost lawful = { elim [
+      | name_of_tag20.A ↦ λ readable. struct_lawful
+          (field_fits (leaf_lawful refl)
+          struct_end_fits)
+      | name_of_tag20.B x1 x2 x3 ↦ λ readable. struct_lawful
+          (field_fits (leaf_lawful refl)
+          (field_fits (leaf_lawful refl)
+          (field_fits (leaf_lawful refl)
+          (field_fits (leaf_lawful refl)
+          struct_end_fits))))
+    ] };
+
+    fn serialize<S: Serializer>(&self, alloc: Global, serializer: &mut S) -> Result<()> {
+        match self {
+            NameOfTag20::A => {
+                let row = SendEnd;
+                let row = SendTag(FieldsOfNameOfTag20A, NamesOfNameOfTag20, 0, row);
+                let row = SendOpen(Call::Struct(name_name_of_tag20(), 1), row);
+                send_row(alloc, serializer, &row)
+            }
+            NameOfTag20::B { f0, f1, f2 } => {
+                send_whole_name_of_tag20_b(alloc, serializer, self, f0, f1, f2)
+            }
+        }
+    }
+}
+
+impl<'de> TaggedVariants<'de> for NameOfTag20 {
+    ghost name = { name "NameOfTag20" };
+
+    ghost tag_name = { name "aaabcdefghijklmnopqr" };
+
+    ghost refusal = { variants (
+        (name "A", (others_skipped (name "aaabcdefghijklmnopqr" ∷ [])))
+        ∷ (
+          name "B",
+          (named_then (name "f0") (⟦<u8 as Deserialize<'de>>⟧.refusal)
+              (named_then (name "f1") (⟦<i32 as Deserialize<'de>>⟧.refusal)
+              (named_then (name "f2") (⟦<String as Deserialize<'de>>⟧.refusal)
+              (others_skipped (name "aaabcdefghijklmnopqr" ∷ name "f0" ∷ name "f1" ∷ name "f2" ∷
+              []))))),
+        )
+        ∷ []) };
+
+    ghost named = { elim [
+      | name_of_tag20.A ↦ name "A"
+      | name_of_tag20.B x1 x2 x3 ↦ name "B"
+    ] };
+
+    ghost held = { elim [
+      | name_of_tag20.A ↦ NoOthers
+      | name_of_tag20.B x1 x2 x3 ↦ (NamedThen (name "f0")
+          (⟦<u8 as Deserialize<'de>>⟧.gives) x1
+          (NamedThen (name "f1") (⟦<i32 as Deserialize<'de>>⟧.gives) x2
+          (NamedThen (name "f2") (⟦<String as Deserialize<'de>>⟧.gives) x3
+          NoOthers)))
+    ] };
+
+    #[tactic(auto, unfolding(serde_content::specs::Literals::name))]
+    fn name() -> &'static str {
+        "NameOfTag20"
+    }
+
+    #[tactic(auto, unfolding(serde_content::specs::Literals::name))]
+    fn tag() -> &'static str {
+        "aaabcdefghijklmnopqr"
+    }
+
+    fn read_variant<'n: 'de>(
+        alloc: Global,
+        tag: &str,
+        fields: FieldsByName<'de, 'n>,
+    ) -> Result<NameOfTag20> {
+        match variant_index(tag, &NamesOfNameOfTag20) {
+            Some(0) => {
+                let _: OthersSkipped<FieldsOfNameOfTag20A> = ReadFields::read(alloc, fields)?;
+                Ok(NameOfTag20::A)
+            }
+            Some(1) => {
+                let (f0, f1, f2) = read_name_of_tag20_b(alloc, fields)?;
+                Ok(make_name_of_tag20_b(f0, f1, f2))
+            }
+            _ => Err(no_such_variant(alloc, tag, &NamesOfNameOfTag20)),
+        }
+    }
+}
+
+impl<'de> Deserialize<'de> for NameOfTag20 {
+    ghost refusal = { struct_refusal (name "NameOfTag20")
+        (read_by_name (tag_then_buffered (name "aaabcdefghijklmnopqr")
+        ⟦<NameOfTag20 as TaggedVariants<'de>>⟧.refusal)) };
+
+    ghost gives = { λ s y. StructGives (name "NameOfTag20") (ReadByName
+        (TagThenBuffered (name "aaabcdefghijklmnopqr")
+        (⟦<NameOfTag20 as TaggedVariants<'de>>⟧.named y)
+        (⟦<NameOfTag20 as TaggedVariants<'de>>⟧.held y))) s };
+
+    fn deserialize<'n: 'de>(alloc: Global, from: Deserializer<'de, 'n>) -> Result<NameOfTag20> {
+        read_tagged(alloc, from)
+    }
+}
+
+impl<'de> RoundTrip<'de> for NameOfTag20 {
+    fn known(&self) {}
+
+    ghost comes_back = { record {
+      of_value = elim [
+        | name_of_tag20.A ↦ λ real f. tagged_back Self.refusal Self.gives
+            (skipped_back {Y = Unit {0}} (name "aaabcdefghijklmnopqr" ∷ []))
+            f (buffering f) refl (unfold name index_among in λ fs. refl)
+            (unfold name index_among in λ fs only. elim [
+              | name_of_tag20.A ↦ λ it. refl
+              | name_of_tag20.B y1 y2 y3 ↦ λ it. other_variant it.0 refl
+            ])
+        | name_of_tag20.B x1 x2 x3 ↦ λ real f. tagged_back Self.refusal Self.gives
+            (named_back (name "f0") u8_back x1 tt (λ (z : ℕ × ℤ × (String Global)). z.0)
+            (named_back (name "f1") i32_back x2 tt (λ (z : ℕ × ℤ × (String Global)). z.1)
+            (named_back (name "f2") text_back x3 tt (λ (z : ℕ × ℤ × (String Global)). z.2)
+            (skipped_back (name "aaabcdefghijklmnopqr" ∷ name "f0" ∷ name "f1" ∷ name "f2" ∷
+            [])))))
+            f (buffering f) refl (unfold name index_among in λ fs. refl)
+            (unfold name index_among in λ fs only. elim [
+              | name_of_tag20.A ↦ λ it. other_variant it.0 refl
+              | name_of_tag20.B y1 y2 y3 ↦ λ it. let same = only (y1, y2, y3) it.1 in both_hold
+                  same.0 (both_hold same.1.0 same.1.1.0)
+            ])
+      ];
+    } };
+
+    ghost keeps = { record {
+      of_origin = λ o people. elim [
+        | name_of_tag20.A ↦ λ p.
+            let q = (struct_keeps (name "NameOfTag20") (by_name_keeps
+            (tag_keeps_buffered (name "aaabcdefghijklmnopqr") (name "A")
+            ⟦<NameOfTag20 as TaggedVariants<'de>>⟧.refusal
+            (λ (z : Unit {0}).
+            NoOthers)))).of_origin o people tt
+            (record { free = p.free; given = p.given }) in
+            record { free = q.free; given = q.given }
+        | name_of_tag20.B x1 x2 x3 ↦ λ p.
+            let q = (struct_keeps (name "NameOfTag20") (by_name_keeps
+            (tag_keeps_buffered (name "aaabcdefghijklmnopqr") (name "B")
+            ⟦<NameOfTag20 as TaggedVariants<'de>>⟧.refusal
+            (λ (z : ℕ × ℤ × (String Global)).
+            (NamedThen (name "f0") (⟦<u8 as Deserialize<'de>>⟧.gives) z.0
+            (NamedThen (name "f1") (⟦<i32 as Deserialize<'de>>⟧.gives) z.1
+            (NamedThen (name "f2") (⟦<String as Deserialize<'de>>⟧.gives) z.2
+            NoOthers))))))).of_origin o people (x1, x2, x3)
+            (record { free = p.free; given = p.given }) in
+            record { free = q.free; given = q.given }
+      ];
+    } };
+}
+
+#[derive(Drop, PartialEq, Eq)]
+pub struct WordData {
+    pub data: u8,
+    pub other: i32,
+}
+
+/// The names of its fields.
+#[derive(Drop)]
+struct FieldsOfWordData;
+
+impl Names for FieldsOfWordData {
+    ghost names = { name "data" ∷ name "other" ∷ [] };
+
+    #[tactic(auto, unfolding(serde_content::specs::Literals::name))]
+    fn names() -> &'static [&'static str] {
+        &["data", "other"]
+    }
+}
+
+type Field1OfWordData = ReadField<FieldsOfWordData, 0, u8, Field2OfWordData>;
+
+type Field2OfWordData = ReadField<FieldsOfWordData, 1, i32, OthersSkipped<FieldsOfWordData>>;
+
+/// Reads the fields, in any order.
+fn read_word_data<'de, 'n: 'de>(alloc: Global, fields: FieldsByName<'de, 'n>) -> Result<WordData>
+    ensures { Reads (
+        (named_then (name "data") (⟦<u8 as Deserialize<'de>>⟧.refusal)
+        (named_then (name "other") (⟦<i32 as Deserialize<'de>>⟧.refusal)
+        (others_skipped (name "data" ∷ name "other" ∷ []))))
+        (fields_left fields.entry))
+        (λ z.
+        (NamedThen (name "data") (⟦<u8 as Deserialize<'de>>⟧.gives) z.«data»
+        (NamedThen (name "other") (⟦<i32 as Deserialize<'de>>⟧.gives) z.other
+        NoOthers))
+        (fields_left fields.entry)) result }
+{
+    let row: Field1OfWordData = ReadFields::read(alloc, fields)?;
+    let ReadField(data_field, row, _) = row;
+    let ReadField(other, _, _) = row;
+    Ok(WordData {
+        data: data_field,
+        other,
+    })
+}
+
+impl Serialize for WordData {
+    ghost script = { λ p. struct_script (name "WordData") 2
+        (field_first (name "data") (⟦<u8 as Serialize>⟧.script p.«data»)
+        (field_first (name "other") (⟦<i32 as Serialize>⟧.script p.other)
+        end_script)) };
+
+    ghost lawful = { λ p readable. struct_lawful
+        (field_fits (leaf_lawful refl)
+        (field_fits (leaf_lawful refl)
+        struct_end_fits)) };
+
+    fn serialize<S: Serializer>(&self, alloc: Global, serializer: &mut S) -> Result<()> {
+        let row = SendEnd;
+        let row = SendField(FieldsOfWordData, 1, &self.other, row);
+        let row = SendField(FieldsOfWordData, 0, &self.data, row);
+        let row = SendOpen(Call::Struct(name_word_data(), 2), row);
+        send_row(alloc, serializer, &row)
+    }
+}
+
+impl<'de> Deserialize<'de> for WordData {
+    ghost refusal = { struct_refusal (name "WordData") (read_by_name
+        (named_then (name "data") (⟦<u8 as Deserialize<'de>>⟧.refusal)
+        (named_then (name "other") (⟦<i32 as Deserialize<'de>>⟧.refusal)
+        (others_skipped (name "data" ∷ name "other" ∷ []))))) };
+
+    ghost gives = { λ s p. StructGives (name "WordData") (ReadByName
+        (NamedThen (name "data") (⟦<u8 as Deserialize<'de>>⟧.gives) p.«data»
+        (NamedThen (name "other") (⟦<i32 as Deserialize<'de>>⟧.gives) p.other
+        NoOthers))) s };
+
+    fn deserialize<'n: 'de>(alloc: Global, from: Deserializer<'de, 'n>) -> Result<WordData> {
+        let fields = from
+            .deserialize_struct(alloc, name_word_data(), FieldsOfWordData::names())?
+            .by_name();
+        read_word_data(alloc, fields)
+    }
+}
+
+impl<'de> RoundTrip<'de> for WordData {
+    fn known(&self) {}
+
+    ghost comes_back = { record {
+      of_value = λ p real f. struct_back (by_name_back
+          (named_back (name "data") u8_back p.«data» tt (λ q. q.«data»)
+          (named_back (name "other") i32_back p.other tt (λ q. q.other)
+          (skipped_back (name "data" ∷ name "other" ∷ [])))))
+          f (λ q h. both_hold h.0 h.1.0);
+    } };
+
+    ghost keeps = { struct_keeps (name "WordData") (by_name_keeps
+        (named_keeps (name "data") (λ q. q.«data») (natural_keeps kind.u8)
+        (named_keeps (name "other") (λ q. q.other) (integer_keeps kind.i32)
+        (skipped_keeps (name "data" ∷ name "other" ∷ []))))) };
+}
+
+#[derive(Drop, PartialEq, Eq)]
+pub enum WordInVariantRecord {
+    A { record: i32, other: u8 },
+    B(u8),
+}
+
+/// Its contract tells proofs what a variant of signed numbers holds.
+fn make_word_in_variant_record_a(record_field: i32, other: u8) -> WordInVariantRecord
+    ensures { result ≡ word_in_variant_record.A record_field other }
+{
+    WordInVariantRecord::A {
+        record: record_field,
+        other,
+    }
+}
+
+/// The names of its fields.
+#[derive(Drop)]
+struct FieldsOfWordInVariantRecordA;
+
+impl Names for FieldsOfWordInVariantRecordA {
+    ghost names = { name "record" ∷ name "other" ∷ [] };
+
+    #[tactic(auto, unfolding(serde_content::specs::Literals::name))]
+    fn names() -> &'static [&'static str] {
+        &["record", "other"]
+    }
+}
+
+type Field1OfWordInVariantRecordA = ReadField<
+    FieldsOfWordInVariantRecordA,
+    0,
+    i32,
+    Field2OfWordInVariantRecordA,
+>;
+
+type Field2OfWordInVariantRecordA = ReadField<
+    FieldsOfWordInVariantRecordA,
+    1,
+    u8,
+    OthersSkipped<FieldsOfWordInVariantRecordA>,
+>;
+
+/// Reads the fields, in any order.
+fn read_word_in_variant_record_a<'de, 'n: 'de>(
+    alloc: Global,
+    fields: FieldsByName<'de, 'n>,
+) -> Result<(i32, u8)>
+    ensures { Reads (
+        (named_then (name "record") (⟦<i32 as Deserialize<'de>>⟧.refusal)
+        (named_then (name "other") (⟦<u8 as Deserialize<'de>>⟧.refusal)
+        (others_skipped (name "record" ∷ name "other" ∷ []))))
+        (fields_left fields.entry))
+        (λ z.
+        (NamedThen (name "record") (⟦<i32 as Deserialize<'de>>⟧.gives) z.0
+        (NamedThen (name "other") (⟦<u8 as Deserialize<'de>>⟧.gives) z.1
+        NoOthers))
+        (fields_left fields.entry)) result }
+{
+    let row: Field1OfWordInVariantRecordA = ReadFields::read(alloc, fields)?;
+    let ReadField(record_field, row, _) = row;
+    let ReadField(other, _, _) = row;
+    Ok((record_field, other))
+}
+
+/// The names of its variants.
+#[derive(Drop)]
+struct NamesOfWordInVariantRecord;
+
+impl Names for NamesOfWordInVariantRecord {
+    ghost names = { name "A" ∷ name "B" ∷ [] };
+
+    #[tactic(auto, unfolding(serde_content::specs::Literals::name))]
+    fn names() -> &'static [&'static str] {
+        &["A", "B"]
+    }
+}
+
+impl Serialize for WordInVariantRecord {
+    ghost script = { elim [
+      | word_in_variant_record.A x1 x2 ↦ struct_variant_script
+          (name "WordInVariantRecord") 0 (name "A") 2
+          (field_first (name "record") (⟦<i32 as Serialize>⟧.script x1)
+          (field_first (name "other") (⟦<u8 as Serialize>⟧.script x2)
+          end_script))
+      | word_in_variant_record.B x1 ↦ newtype_variant_script (name "WordInVariantRecord")
+          1 (name "B") (⟦<u8 as Serialize>⟧.script x1)
+    ] };
+
+    ghost lawful = { elim [
+      | word_in_variant_record.A x1 x2 ↦ λ readable. struct_variant_lawful
+          (field_fits (leaf_lawful refl)
+          (field_fits (leaf_lawful refl)
+          struct_end_fits))
+      | word_in_variant_record.B x1 ↦ λ readable. newtype_variant_lawful
+          (leaf_lawful refl)
+    ] };
+
+    fn serialize<S: Serializer>(&self, alloc: Global, serializer: &mut S) -> Result<()> {
+        match self {
+            WordInVariantRecord::A {
+                record: record_field,
+                other,
+            } => {
+                let row = SendEnd;
+                let row = SendField(FieldsOfWordInVariantRecordA, 1, other, row);
+                let row = SendField(FieldsOfWordInVariantRecordA, 0, record_field, row);
+                let row = SendOpen(
+                    Call::StructVariant(name_word_in_variant_record(), 0, name_a(), 2),
+                    row,
+                );
+                send_row(alloc, serializer, &row)
+            }
+            WordInVariantRecord::B(x1) => {
+                Call::NewtypeVariant(name_word_in_variant_record(), 1, name_b()).around(
+                    x1, alloc, serializer,
+                )
+            }
+        }
+    }
+}
+
+impl<'de> Variants<'de> for WordInVariantRecord {
+    ghost name = { name "WordInVariantRecord" };
+
+    ghost refusal = { variants ((
+      name "A",
+      struct_variant_refusal (read_by_name
+          (named_then (name "record") (⟦<i32 as Deserialize<'de>>⟧.refusal)
+          (named_then (name "other") (⟦<u8 as Deserialize<'de>>⟧.refusal)
+          (others_skipped (name "record" ∷ name "other" ∷ []))))),
+    )
+        ∷ (name "B", newtype_variant_refusal (⟦<u8 as Deserialize<'de>>⟧.refusal))
+        ∷ []) };
+
+    ghost named = { elim [
+      | word_in_variant_record.A x1 x2 ↦ name "A"
+      | word_in_variant_record.B x1 ↦ name "B"
+    ] };
+
+    ghost held = { elim [
+      | word_in_variant_record.A x1 x2 ↦ StructVariantGives (ReadByName
+          (NamedThen (name "record") (⟦<i32 as Deserialize<'de>>⟧.gives) x1
+          (NamedThen (name "other") (⟦<u8 as Deserialize<'de>>⟧.gives) x2
+          NoOthers)))
+      | word_in_variant_record.B x1 ↦ NewtypeVariantGives
+          (⟦<u8 as Deserialize<'de>>⟧.gives) x1
+    ] };
+
+    #[tactic(auto, unfolding(serde_content::specs::Literals::name))]
+    fn name() -> &'static str {
+        "WordInVariantRecord"
+    }
+
+    fn names() -> &'static [&'static str] {
+        NamesOfWordInVariantRecord::names()
+    }
+
+    fn read_variant<'n: 'de>(
+        alloc: Global,
+        tag: &str,
+        variant: VariantAccess<'de, 'n>,
+    ) -> Result<WordInVariantRecord> {
+        match variant_index(tag, &NamesOfWordInVariantRecord) {
+            Some(0) => {
+                let fields = variant
+                    .struct_variant(alloc, FieldsOfWordInVariantRecordA::names())?
+                    .by_name();
+                let (record_field, other) = read_word_in_variant_record_a(alloc, fields)?;
+                Ok(make_word_in_variant_record_a(record_field, other))
+            }
+            Some(1) => Ok(WordInVariantRecord::B(variant.newtype_variant(alloc)?)),
+            _ => Err(no_such_variant(alloc, tag, &NamesOfWordInVariantRecord)),
+        }
+    }
+}
+
+impl<'de> Deserialize<'de> for WordInVariantRecord {
+    ghost refusal = { enum_refusal (name "WordInVariantRecord")
+        ⟦<WordInVariantRecord as Variants<'de>>⟧.refusal };
+
+    ghost gives = { λ s y. EnumGives (name "WordInVariantRecord")
+        (⟦<WordInVariantRecord as Variants<'de>>⟧.named y)
+        (⟦<WordInVariantRecord as Variants<'de>>⟧.held y) s };
+
+    fn deserialize<'n: 'de>(
+        alloc: Global,
+        from: Deserializer<'de, 'n>,
+    ) -> Result<WordInVariantRecord> {
+        read_enum(alloc, from)
+    }
+}
+
+impl<'de> RoundTrip<'de> for WordInVariantRecord {
+    fn known(&self) {}
+
+    ghost comes_back = { record {
+      of_value = elim [
+        | word_in_variant_record.A x1 x2 ↦ λ real f. variant_back Self.refusal Self.gives
+            (struct_variant_back (by_name_back
+            (named_back (name "record") i32_back x1 tt (λ (z : ℤ × ℕ). z.0)
+            (named_back (name "other") u8_back x2 tt (λ (z : ℤ × ℕ). z.1)
+            (skipped_back (name "record" ∷ name "other" ∷ []))))))
+            f (unfold name index_among in λ d. refl)
+            (unfold name index_among in λ d only. elim [
+              | word_in_variant_record.A y1 y2 ↦ λ it. let same = only (y1, y2) it.1 in both_hold
+                  same.0 same.1.0
+              | word_in_variant_record.B y1 ↦ λ it. other_variant it.0 refl
+            ])
+        | word_in_variant_record.B x1 ↦ λ real f. variant_back Self.refusal Self.gives
+            (newtype_variant_back u8_back x1 tt)
+            f (unfold name index_among in λ d. refl)
+            (unfold name index_among in λ d only. elim [
+              | word_in_variant_record.A y1 y2 ↦ λ it. other_variant it.0 refl
+              | word_in_variant_record.B y1 ↦ λ it. only y1 it.1
+            ])
+      ];
+    } };
+
+    ghost keeps = { record {
+      of_origin = λ o people. elim [
+        | word_in_variant_record.A x1 x2 ↦ λ p.
+            let q = variant_kept {own = (struct_variant_refusal (read_by_name
+            (named_then (name "record") (⟦<i32 as Deserialize<'de>>⟧.refusal)
+            (named_then (name "other") (⟦<u8 as Deserialize<'de>>⟧.refusal)
+            (others_skipped (name "record" ∷ name "other" ∷ []))))))}
+            (name "WordInVariantRecord") (name "A")
+            ⟦<WordInVariantRecord as Variants<'de>>⟧.refusal
+            (unfold name index_among in λ v. refl) (struct_variant_keeps (by_name_keeps
+            (named_keeps (name "record") (λ (z : ℤ × ℕ). z.0) (integer_keeps kind.i32)
+            (named_keeps (name "other") (λ (z : ℤ × ℕ). z.1) (natural_keeps kind.u8)
+            (skipped_keeps (name "record" ∷ name "other" ∷ []))))))
+            o people (x1, x2) p.free p.given in
+            record { free = q.0; given = q.1 }
+        | word_in_variant_record.B x1 ↦ λ p.
+            let q = variant_kept {own = (newtype_variant_refusal
+            (⟦<u8 as Deserialize<'de>>⟧.refusal))} (name "WordInVariantRecord") (name "B")
+            ⟦<WordInVariantRecord as Variants<'de>>⟧.refusal
+            (unfold name index_among in λ v. refl)
+            (newtype_variant_keeps (natural_keeps kind.u8))
+            o people x1 p.free p.given in
+            record { free = q.0; given = q.1 }
+      ];
+    } };
+}
+
+#[derive(Drop, PartialEq, Eq)]
+pub struct Flat {
+    pub x: u8,
+    pub own: Own,
+    pub y: Option<u8>,
+}
+
+/// The names of its fields.
+#[derive(Drop)]
+struct FieldsOfFlat;
+
+impl Names for FieldsOfFlat {
+    ghost names = { name "x" ∷ name "a" ∷ name "b" ∷ name "y" ∷ [] };
+
+    #[tactic(auto, unfolding(serde_content::specs::Literals::name))]
+    fn names() -> &'static [&'static str] {
+        &["x", "a", "b", "y"]
+    }
+}
+
+type Field1OfFlat = ReadField<FieldsOfFlat, 0, u8, Field2OfFlat>;
+
+type Field2OfFlat = ReadField<FieldsOfFlat, 1, u8, Field3OfFlat>;
+
+type Field3OfFlat = ReadField<FieldsOfFlat, 2, String, Field4OfFlat>;
+
+type Field4OfFlat = ReadFieldOr<FieldsOfFlat, 3, Option<u8>, OthersSkipped<FieldsOfFlat>>;
+
+/// Reads the fields, in any order.
+fn read_flat<'de, 'n: 'de>(alloc: Global, fields: FieldsByName<'de, 'n>) -> Result<Flat>
+    ensures { Reads (
+        (named_then (name "x") (⟦<u8 as Deserialize<'de>>⟧.refusal)
+        (named_then (name "a") (⟦<u8 as Deserialize<'de>>⟧.refusal)
+        (named_then (name "b") (⟦<String as Deserialize<'de>>⟧.refusal)
+        (named_or_then (name "y") (⟦<Option<u8> as Deserialize<'de>>⟧.refusal)
+        (others_skipped (name "x" ∷ name "a" ∷ name "b" ∷ name "y" ∷ []))))))
+        (fields_left fields.entry))
+        (λ z.
+        (NamedThen (name "x") (⟦<u8 as Deserialize<'de>>⟧.gives) z.x
+        (NamedThen (name "a") (⟦<u8 as Deserialize<'de>>⟧.gives) z.own.a
+        (NamedThen (name "b") (⟦<String as Deserialize<'de>>⟧.gives) z.own.b
+        (NamedOrThen (name "y") (λ (x : (Option ℕ)). x ≡ None)
+        (⟦<Option<u8> as Deserialize<'de>>⟧.gives) z.y
+        NoOthers))))
+        (fields_left fields.entry)) result }
+{
+    let row: Field1OfFlat = ReadFields::read(alloc, fields)?;
+    let ReadField(x, row, _) = row;
+    let ReadField(own_a, row, _) = row;
+    let ReadField(own_b, row, _) = row;
+    let ReadFieldOr(y, _, _) = row;
+    Ok(Flat {
+        x,
+        own: Own { a: own_a, b: own_b },
+        y,
+    })
+}
+
+impl Serialize for Flat {
+    ghost script = { λ p. flattened_script
+        (flattened_first (name "x") (⟦<u8 as Serialize>⟧.script p.x)
+        (flattened_first (name "a") (⟦<u8 as Serialize>⟧.script p.own.a)
+        (flattened_first (name "b") (⟦<String as Serialize>⟧.script p.own.b)
+        (flattened_first (name "y") (⟦<Option<u8> as Serialize>⟧.script p.y)
+        end_script)))) };
+
+    ghost lawful = { λ p readable. flattened_lawful
+        (flattened_fits (leaf_lawful refl)
+        (flattened_fits (leaf_lawful refl)
+        (flattened_fits (leaf_lawful refl)
+        (flattened_fits (option_lawful (λ x h. leaf_lawful refl) p.y readable)
+        flattened_end_fits)))) };
+
+    fn serialize<S: Serializer>(&self, alloc: Global, serializer: &mut S) -> Result<()> {
+        let row = SendEnd;
+        let row = SendEntry(FieldsOfFlat, 3, &self.y, row);
+        let row = SendEntry(FieldsOfFlat, 2, &self.own.b, row);
+        let row = SendEntry(FieldsOfFlat, 1, &self.own.a, row);
+        let row = SendEntry(FieldsOfFlat, 0, &self.x, row);
+        let row = SendOpen(Call::Map(None), row);
+        send_row(alloc, serializer, &row)
+    }
+}
+
+impl<'de> Deserialize<'de> for Flat {
+    ghost refusal = { flattened_refusal (read_by_name
+        (named_then (name "x") (⟦<u8 as Deserialize<'de>>⟧.refusal)
+        (named_then (name "a") (⟦<u8 as Deserialize<'de>>⟧.refusal)
+        (named_then (name "b") (⟦<String as Deserialize<'de>>⟧.refusal)
+        (named_or_then (name "y") (⟦<Option<u8> as Deserialize<'de>>⟧.refusal)
+        (others_skipped (name "x" ∷ name "a" ∷ name "b" ∷ name "y" ∷ []))))))) };
+
+    ghost gives = { λ s p. FlattenedGives (ReadByName
+        (NamedThen (name "x") (⟦<u8 as Deserialize<'de>>⟧.gives) p.x
+        (NamedThen (name "a") (⟦<u8 as Deserialize<'de>>⟧.gives) p.own.a
+        (NamedThen (name "b") (⟦<String as Deserialize<'de>>⟧.gives) p.own.b
+        (NamedOrThen (name "y") (λ (x : (Option ℕ)). x ≡ None)
+        (⟦<Option<u8> as Deserialize<'de>>⟧.gives) p.y
+        NoOthers))))) s };
+
+    fn deserialize<'n: 'de>(alloc: Global, from: Deserializer<'de, 'n>) -> Result<Flat> {
+        let fields = from.deserialize_map(alloc)?.by_name();
+        read_flat(alloc, fields)
+    }
+}
+
+impl<'de> RoundTrip<'de> for Flat {
+    ghost exists = { λ p. ⟦<Option<u8> as RoundTrip<'de>>⟧.exists p.y };
+
+    fn known(&self) {
+        self.y.known();
+    }
+
+    ghost comes_back = { record {
+      of_value = λ p real f. flattened_back
+          (flattened_named_back (name "x") u8_back p.x tt (λ q. q.x)
+          (flattened_named_back (name "a") u8_back p.own.a tt (λ q. q.own.a)
+          (flattened_named_back (name "b") text_back p.own.b tt (λ q. q.own.b)
+          (flattened_named_or_back (name "y") (λ (x : (Option ℕ)). x ≡ None)
+          (let law : ComesBack (⟦<Option<u8> as RoundTrip<'de>>⟧.exists)
+          (⟦<Option<u8> as Serialize>⟧.script) (⟦<Option<u8> as Deserialize<'de>>⟧.refusal)
+          (⟦<Option<u8> as Deserialize<'de>>⟧.gives) (⟦<Option<u8> as PartialEq>⟧.eq) =
+          (option_back u8_back) in law) p.y real (λ q. q.y)
+          (flattened_end_back (name "x" ∷ name "a" ∷ name "b" ∷ name "y" ∷ []))))))
+          f (λ q h. both_hold h.0 (both_hold (both_hold h.1.0 h.1.1.0) h.1.1.1.0));
+    } };
+
+    ghost keeps = { flattened_keeps (by_name_keeps
+        (named_keeps (name "x") (λ q. q.x) (natural_keeps kind.u8)
+        (named_keeps (name "a") (λ q. q.own.a) (natural_keeps kind.u8)
+        (named_keeps (name "b") (λ q. q.own.b)
+        (heedless_keeps (λ o. refusal_of (text_from o))
+        (λ o (x : String Global). IsTaken (text_from o) (HasContent (string_bytes x))))
+        (named_or_keeps (name "y") (λ (x : (Option ℕ)). x ≡ None) (λ q. q.y)
+        (let law : CoercionKeeps (⟦<Option<u8> as Deserialize<'de>>⟧.refusal)
+        (⟦<Option<u8> as Deserialize<'de>>⟧.gives) = (option_keeps (natural_keeps kind.u8))
+        in law)
+        (skipped_keeps (name "x" ∷ name "a" ∷ name "b" ∷ name "y" ∷ []))))))) };
+}
+
+/// The name `Own`.
+#[tactic(auto, unfolding(serde_content::specs::Literals::name))]
+fn name_own() -> &'static str
+    ensures { result.now ≡ name "Own" }
+{
+    "Own"
+}
+
+/// The name `Deeper`.
+#[tactic(auto, unfolding(serde_content::specs::Literals::name))]
+fn name_deeper() -> &'static str
+    ensures { result.now ≡ name "Deeper" }
+{
+    "Deeper"
+}
+
+/// The name `A`.
+#[tactic(auto, unfolding(serde_content::specs::Literals::name))]
+fn name_a() -> &'static str
+    ensures { result.now ≡ name "A" }
+{
+    "A"
+}
+
+/// The name `B`.
+#[tactic(auto, unfolding(serde_content::specs::Literals::name))]
+fn name_b() -> &'static str
+    ensures { result.now ≡ name "B" }
+{
+    "B"
+}
+
+/// The name `Deep`.
+#[tactic(auto, unfolding(serde_content::specs::Literals::name))]
+fn name_deep() -> &'static str
+    ensures { result.now ≡ name "Deep" }
+{
+    "Deep"
+}
+
+/// The name `Unit`.
+#[tactic(auto, unfolding(serde_content::specs::Literals::name))]
+fn name_unit() -> &'static str
+    ensures { result.now ≡ name "Unit" }
+{
+    "Unit"
+}
+
+/// The name `StructMixed12`.
+#[tactic(auto, unfolding(serde_content::specs::Literals::name))]
+fn name_struct_mixed12() -> &'static str
+    ensures { result.now ≡ name "StructMixed12" }
+{
+    "StructMixed12"
+}
+
+/// The name `StructByte9`.
+#[tactic(auto, unfolding(serde_content::specs::Literals::name))]
+fn name_struct_byte9() -> &'static str
+    ensures { result.now ≡ name "StructByte9" }
+{
+    "StructByte9"
+}
+
+/// The name `Closed6`.
+#[tactic(auto, unfolding(serde_content::specs::Literals::name))]
+fn name_closed6() -> &'static str
+    ensures { result.now ≡ name "Closed6" }
+{
+    "Closed6"
+}
+
+/// The name `Sent20`.
+#[tactic(auto, unfolding(serde_content::specs::Literals::name))]
+fn name_sent20() -> &'static str
+    ensures { result.now ≡ name "Sent20" }
+{
+    "Sent20"
+}
+
+/// The name `Read12`.
+#[tactic(auto, unfolding(serde_content::specs::Literals::name))]
+fn name_read12() -> &'static str
+    ensures { result.now ≡ name "Read12" }
+{
+    "Read12"
+}
+
+/// The name `PlaceMixed9`.
+#[tactic(auto, unfolding(serde_content::specs::Literals::name))]
+fn name_place_mixed9() -> &'static str
+    ensures { result.now ≡ name "PlaceMixed9" }
+{
+    "PlaceMixed9"
+}
+
+/// The name `ExternalMixed4`.
+#[tactic(auto, unfolding(serde_content::specs::Literals::name))]
+fn name_external_mixed4() -> &'static str
+    ensures { result.now ≡ name "ExternalMixed4" }
+{
+    "ExternalMixed4"
+}
+
+/// The name `V3`.
+#[tactic(auto, unfolding(serde_content::specs::Literals::name))]
+fn name_v3() -> &'static str
+    ensures { result.now ≡ name "V3" }
+{
+    "V3"
+}
+
+/// The name `V0`.
+#[tactic(auto, unfolding(serde_content::specs::Literals::name))]
+fn name_v0() -> &'static str
+    ensures { result.now ≡ name "V0" }
+{
+    "V0"
+}
+
+/// The name `V1`.
+#[tactic(auto, unfolding(serde_content::specs::Literals::name))]
+fn name_v1() -> &'static str
+    ensures { result.now ≡ name "V1" }
+{
+    "V1"
+}
+
+/// The name `V2`.
+#[tactic(auto, unfolding(serde_content::specs::Literals::name))]
+fn name_v2() -> &'static str
+    ensures { result.now ≡ name "V2" }
+{
+    "V2"
+}
+
+/// The name `ExternalUnits4`.
+#[tactic(auto, unfolding(serde_content::specs::Literals::name))]
+fn name_external_units4() -> &'static str
+    ensures { result.now ≡ name "ExternalUnits4" }
+{
+    "ExternalUnits4"
+}
+
+/// The name `InternalFields2`.
+#[tactic(auto, unfolding(serde_content::specs::Literals::name))]
+fn name_internal_fields2() -> &'static str
+    ensures { result.now ≡ name "InternalFields2" }
+{
+    "InternalFields2"
+}
+
+/// The name `InternalMixed2`.
+#[tactic(auto, unfolding(serde_content::specs::Literals::name))]
+fn name_internal_mixed2() -> &'static str
+    ensures { result.now ≡ name "InternalMixed2" }
+{
+    "InternalMixed2"
+}
+
+/// The name `AdjacentOne2`.
+#[tactic(auto, unfolding(serde_content::specs::Literals::name))]
+fn name_adjacent_one2() -> &'static str
+    ensures { result.now ≡ name "AdjacentOne2" }
+{
+    "AdjacentOne2"
+}
+
+/// The name `Aaabcdefghijklmnopqrstuvwxyzabcdefghijkl`.
+#[tactic(auto, unfolding(serde_content::specs::Literals::name))]
+fn name_aaabcdefghijklmnopqrstuvwxyzabcdefghijkl() -> &'static str
+    ensures { result.now ≡ name "Aaabcdefghijklmnopqrstuvwxyzabcdefghijkl" }
+{
+    "Aaabcdefghijklmnopqrstuvwxyzabcdefghijkl"
+}
+
+/// The name `NamesOfFields20`.
+#[tactic(auto, unfolding(serde_content::specs::Literals::name))]
+fn name_names_of_fields20() -> &'static str
+    ensures { result.now ≡ name "NamesOfFields20" }
+{
+    "NamesOfFields20"
+}
+
+/// The name `NamesOfVariants40`.
+#[tactic(auto, unfolding(serde_content::specs::Literals::name))]
+fn name_names_of_variants40() -> &'static str
+    ensures { result.now ≡ name "NamesOfVariants40" }
+{
+    "NamesOfVariants40"
+}
+
+/// The name `Daabcdefghijklmnopqrstuvwxyzabcdefghijkl`.
+#[tactic(auto, unfolding(serde_content::specs::Literals::name))]
+fn name_daabcdefghijklmnopqrstuvwxyzabcdefghijkl() -> &'static str
+    ensures { result.now ≡ name "Daabcdefghijklmnopqrstuvwxyzabcdefghijkl" }
+{
+    "Daabcdefghijklmnopqrstuvwxyzabcdefghijkl"
+}
+
+/// The name `Baabcdefghijklmnopqrstuvwxyzabcdefghijkl`.
+#[tactic(auto, unfolding(serde_content::specs::Literals::name))]
+fn name_baabcdefghijklmnopqrstuvwxyzabcdefghijkl() -> &'static str
+    ensures { result.now ≡ name "Baabcdefghijklmnopqrstuvwxyzabcdefghijkl" }
+{
+    "Baabcdefghijklmnopqrstuvwxyzabcdefghijkl"
+}
+
+/// The name `Caabcdefghijklmnopqrstuvwxyzabcdefghijkl`.
+#[tactic(auto, unfolding(serde_content::specs::Literals::name))]
+fn name_caabcdefghijklmnopqrstuvwxyzabcdefghijkl() -> &'static str
+    ensures { result.now ≡ name "Caabcdefghijklmnopqrstuvwxyzabcdefghijkl" }
+{
+    "Caabcdefghijklmnopqrstuvwxyzabcdefghijkl"
+}
+
+/// The name `NameOfTag20`.
+#[tactic(auto, unfolding(serde_content::specs::Literals::name))]
+fn name_name_of_tag20() -> &'static str
+    ensures { result.now ≡ name "NameOfTag20" }
+{
+    "NameOfTag20"
+}
+
+/// The name `WordData`.
+#[tactic(auto, unfolding(serde_content::specs::Literals::name))]
+fn name_word_data() -> &'static str
+    ensures { result.now ≡ name "WordData" }
+{
+    "WordData"
+}
+
+/// The name `WordInVariantRecord`.
+#[tactic(auto, unfolding(serde_content::specs::Literals::name))]
+fn name_word_in_variant_record() -> &'static str
+    ensures { result.now ≡ name "WordInVariantRecord" }
+{
+    "WordInVariantRecord"
+}
