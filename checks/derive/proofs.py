@@ -8,7 +8,7 @@ import shutil
 import subprocess
 import sys
 from pathlib import Path
-from typing import Dict, List
+from typing import Dict, List, Optional
 
 from matrix import matrix
 
@@ -26,18 +26,18 @@ def drawn(which: List[str]) -> Dict[str, str]:
     return {name: every[name] for name in names}
 
 
-def repository(top: Path, room: Path) -> None:
+def repository(top: Path, room: Path, libraries: List[str]) -> None:
     """A repository of the libraries, as they are built."""
     lines = [line for line in (top / "crates.txt").read_text().splitlines()
-             if line.split(":")[0] in LIBRARIES]
+             if line.split(":")[0] in libraries]
     (room / "crates.txt").write_text("\n".join(lines) + "\n")
     shutil.copy(top / "HANDLES", room)
     (room / ".git").mkdir()
-    for name in LIBRARIES:
-        subprocess.run(["cp", "-a", str(top / "crates" / name), str(room / "crates" / name)], check=True)
+    for name in libraries:
+        shutil.copytree(top / "crates" / name, room / "crates" / name, ignore=shutil.ignore_patterns("incremental"))
 
 
-def crate(top: Path, room: Path, name: str, types: Dict[str, str], flags: List[str]) -> List[str]:
+def crate(top: Path, room: Path, name: str, types: Dict[str, str], flags: List[str], libraries: List[str]) -> List[str]:
     """Writes the crate of these types; those that tools/derive refuses are left out, and named."""
     source, refused = room / "crates" / name / "src", []
     source.mkdir(parents=True)
@@ -54,7 +54,7 @@ def crate(top: Path, room: Path, name: str, types: Dict[str, str], flags: List[s
     kept = [f"pub mod {module};" for module in types if module not in refused]
     (source / "lib.rt").write_text("\n".join(["//! Types.", "#![tactic(auto)]", "", *kept, ""]))
     with open(room / "crates.txt", "a") as crates:
-        crates.write(f"{name}: {' '.join(LIBRARIES[:1] + LIBRARIES[1:2] + LIBRARIES[3:])}\n")
+        crates.write(f"{name}: {' '.join(libraries)}\n")
     return [module for module in types if module not in refused]
 
 
@@ -66,32 +66,45 @@ def failing(name: str, module: str, log: str) -> str:
     return f"{goal.group(1)}: {goal.group(2)}" if goal else error.group(0) if error else found.group(0) if found else ""
 
 
-def check(room: Path, name: str, modules: List[str]) -> int:
-    """Checks a crate, prints what is not proved of it and its seconds, and gives how many those are."""
+def check(room: Path, name: str, modules: List[str]) -> List[str]:
+    """Checks a crate, prints what is not proved of it and its seconds, and gives what is."""
     before = resource.getrusage(resource.RUSAGE_CHILDREN).ru_utime
-    done = subprocess.run(["rt", "check", "--jobs", os.environ.get("JOBS", "2")], cwd=room / "crates" / name, capture_output=True, text=True)
+    command = ["rt", "check", "--jobs", os.environ.get("JOBS", "2")]
+    done = subprocess.run(command, cwd=room / "crates" / name, capture_output=True, text=True, errors="replace")
     seconds = resource.getrusage(resource.RUSAGE_CHILDREN).ru_utime - before
-    log, count = done.stdout + done.stderr, 0
+    log, proved = done.stdout + done.stderr, []
     for module in modules:
         why = failing(name, module, log)
         if why or f" {name}::{module}::" not in log:
-            count += 1
             print(f"{module}: not proved: {why or log.strip().splitlines()[-1]}", flush=True)
-    print(f"{name}: {len(modules) - count} of {len(modules)} proved, {seconds:.0f} s: {' '.join(modules)}", flush=True)
-    return count
+        else:
+            proved.append(module)
+    print(f"{name}: {len(proved)} of {len(modules)} proved, {seconds:.0f} s: {' '.join(modules)}", flush=True)
+    return proved
+
+
+def earlier(path: Optional[str]) -> List[str]:
+    """The types that an earlier run found proved."""
+    return Path(path).read_text().split() if path and Path(path).exists() else []
 
 
 def main() -> int:
-    top, room = Path(sys.argv[1]), Path(sys.argv[2])
+    top, room, kept = Path(sys.argv[1]), Path(sys.argv[2]), os.environ.get("PROVED")
     flags = [word for word in sys.argv[3:] if word.startswith("-")]
     types = drawn([word for word in sys.argv[3:] if word not in flags])
+    libraries = LIBRARIES if "--cbor" in flags else LIBRARIES[:-1]
     (room / "crates").mkdir()
-    repository(top, room)
-    names, failed = list(types), 0
+    repository(top, room, libraries)
+    names, failed = [name for name in types if name not in earlier(kept)], 0
     for place in range(0, len(names), TOGETHER):
         name = f"types{place // TOGETHER}"
-        modules = crate(top, room, name, {one: types[one] for one in names[place:place + TOGETHER]}, flags)
-        failed += check(room, name, modules)
+        modules = crate(top, room, name, {one: types[one] for one in names[place:place + TOGETHER]}, flags, libraries)
+        proved = check(room, name, modules)
+        failed += len(modules) - len(proved)
+        if kept:
+            with open(kept, "a") as file:
+                file.write("".join(f"{module}\n" for module in proved))
+        shutil.rmtree(room / "crates" / name / "out", ignore_errors=True)
     print(f"{len(types) - failed} of {len(types)} proved or refused")
     return 1 if failed else 0
 

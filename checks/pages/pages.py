@@ -34,6 +34,7 @@ def files_below(top):
 
 FILES = files_below(TOP)
 PAGES = [it for it in FILES if re.fullmatch(r"[A-Z]+\.md|docs/\w+\.md|(bench|crates/\w+)/README\.md", it)]
+ROOTS = [it for it in FILES if re.fullmatch(r"crates/\w+/src/lib\.rt", it)]
 CRATES = re.findall(r"^(\w+):", read(f"{TOP}/crates.txt"), re.M)
 
 # The most words of each page, as `wc -w` counts them; a page that isn't here has at most OTHER_PAGE.
@@ -138,14 +139,19 @@ def stands_in(block, lines):
     return True
 
 
+def head_of(file):
+    """What a root file says of its crate."""
+    return "".join(re.findall(r"^//! ?(.*\n)", read(f"{TOP}/{file}"), re.M))
+
+
 def check_blocks():
     texts = []
     for crate in CRATES:
         for file in FILES:
             if file.startswith(f"crates/{crate}/") and file.endswith((".rt", ".antt")):
                 texts.append(read(f"{TOP}/{file}").split("\n"))
-    for page in PAGES:
-        for word, block, _ in blocks_of(read(f"{TOP}/{page}")):
+    for page, text in [*((it, read(f"{TOP}/{it}")) for it in PAGES), *((it, head_of(it)) for it in ROOTS)]:
+        for word, block, _ in blocks_of(text):
             if word in ("rust", "text") and not any(stands_in(block, it) for it in texts):
                 first = block.strip().split("\n")[0]
                 fault(page, f"no proved crate has the block that begins with: {first}")
