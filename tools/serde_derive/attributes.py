@@ -52,6 +52,12 @@ def doc_line(text: str) -> str:
     return NOT_SEEN.sub(" ", text.replace("\t", "    ")).rstrip()
 
 
+def no_rule(name: str) -> str:
+    """Why a trait is not derived."""
+    return (f"`derive({name})` is not covered, as no rule of Rattle writes it: delete it here, and write its impl by hand"
+            " where you need it")
+
+
 class Attributes(Cursor):
     """Reads attributes."""
 
@@ -103,8 +109,7 @@ class Attributes(Cursor):
         ours = len(path) == 1 or path[0] in CRATES
         name = path[-1] if ours else "::".join(path)
         if name not in DERIVES:
-            head.refused.append(Refused(self.next.line, f"`derive({name})` is not covered, as no rule of Rattle writes it:"
-                                        " delete it here, and write its impl by hand where you need it"))
+            head.refused.append(Refused(self.next.line, no_rule(name)))
         elif name not in head.derives:
             head.derives.append(name)
 

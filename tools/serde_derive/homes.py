@@ -63,6 +63,9 @@ class Homes:
                     f.type = Type("()")
 
     def resolved(self, t: Type, holder: Item) -> Type:
+        first = t.name.split("::")[0]
+        if first in self.file.passed:
+            raise ValueError(f"`{first}` {self.file.passed[first]}")
         name = holder.name if t.name == "Self" else self.short(t.name)
         if name in self.file.aliases and not t.arguments:
             return self.alias(name, holder)
@@ -220,14 +223,15 @@ class Homes:
     def own(self, name: str) -> Type:
         """An own type of another file."""
         path = self.path(name)
-        if path[0] in self.file.passed:
-            raise ValueError(f"`{path[0]}` {self.file.passed[path[0]]}")
         if path[0] in STANDARD | {"serde"} and len(path) > 1:
             raise ValueError(f"the type `{'::'.join(path)}` is not covered: hold what it is made of, as a number or"
                              " a String")
         if len(path) < 2 or path[0] in ("self", "super"):
             raise ValueError(f"the type `{name}` is not covered; one of your own is declared in this"
                              " file, or named by its full path")
+        raw = [part for part in path if part.startswith("r#")]
+        if raw:
+            raise ValueError(f"the name `{raw[0]}` is not covered: give it a plain one")
         first = name.split("::")[0]
         if first in TAKEN or path[-1] in (*WORDS, *SEEN):
             raise ValueError(f"the name `{path[-1]}` is one that the module uses itself: call that type otherwise")

@@ -124,6 +124,9 @@ class Parser(Attributes):
         def read() -> None:
             into[-1].name = self.name()
             into[-1].data = self.data()
+            for f in into[-1].data.fields:
+                if f.visible:
+                    raise NotRust(f.line, f"`{f.visible.strip()}` is not for a field of a variant: delete it")
             if self.next.text == "=":
                 start, line = self.place, self.next.line
                 self.pass_to(",")

@@ -172,11 +172,11 @@ class Cursor:
         return self.take().text
 
     def path(self) -> List[str]:
-        """Names with `::` between them."""
+        """Names with `::` between them; only the first, or a `super` after it, is one of the roots."""
         names = [] if self.eat("::") else [self.name(root=True)]
         while not names or (self.next.text == "::" and self.after().sort == "name"):
             self.place += bool(names)
-            names.append(self.name(root=True))
+            names.append(self.name(root=self.next.text == "super" and names[-1:] in (["self"], ["super"])))
         return names
 
     def listed(self, close: str, one: Callable[[], None]) -> bool:

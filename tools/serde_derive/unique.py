@@ -2,12 +2,14 @@
 import re
 from typing import Callable, List, Set
 
+from .cases import pascal
 from .declarations import Item
 from .text import alias
 from .types import snake
 from .words import USES, WORDS
 
 FUNCTIONS = {name for names in USES.values() for name in names.split() if name.islower()}
+PART = re.compile(r"(.*)_from_\d+")
 KINDS = ("serialize", "round_trip", "cbor_round_trip", "not_null", "ord")
 
 
@@ -19,21 +21,27 @@ def fresh(name: str, more: str, clashes: Callable[[str], bool]) -> str:
 
 
 def name_functions(items: List[Item]) -> None:
-    """Names what the functions of items and variants are called after; those of items come first."""
+    """Names what the functions and the lists of items and variants are called after; those of items come first.
+    Rattle does not tell names that differ in the case of letters alone."""
     firsts = {snake(item.name) for item in items}
     taken: Set[str] = set()
-    forbidden = FUNCTIONS | set(WORDS) | {item.name.lower() for item in items}
+    lists: Set[str] = set()
+    names = {item.name.lower() for item in items}
+    forbidden = FUNCTIONS | set(WORDS) | names | {part.group(1) for part in map(PART.fullmatch, names) if part}
 
     def clashes(name: str) -> bool:
-        part = re.fullmatch(r"(.*)_from_\d+", name)
-        return (name in taken or bool(part and part.group(1) in firsts)
-                or any(f"{verb}_{name}" in forbidden for verb in ("send", "read", "make")))
+        part, listed = PART.fullmatch(name), pascal(name).lower()
+        return (name in taken or f"whole_{name}" in taken or (name.startswith("whole_") and name[6:] in taken)
+                or bool(part and part.group(1) in firsts)
+                or any(f"{verb}_{name}" in forbidden for verb in ("send", "send_whole", "read", "make"))
+                or listed in lists or any(f"{kind}of{listed}" in names for kind in ("fields", "names")))
 
     for more, named in ("_type", [(item, item.name) for item in items]), (
             "_variant", [(v, item.name + v.name) for item in items for v in item.variants]):
         for one, name in named:
             one.owner = fresh(snake(name), more, clashes)
             taken.add(one.owner)
+            lists.add(pascal(one.owner).lower())
 
 
 def name_cases(items: List[Item], others: List[str]) -> None:
