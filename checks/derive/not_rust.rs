@@ -111,3 +111,11 @@ struct B;
 struct A(u8);
 #[derive(Serialize)]
 struct B(u8);
+
+// 2: expected a name, found `do`
+#[derive(Serialize)]
+struct A { do: u8 }
+
+// 2: expected a name, found `try`
+#[derive(Serialize)]
+enum A { try }

@@ -314,10 +314,11 @@ enum C { #[default] X(u8), Y }
 // 2: A.requires: `requires` is a word of Rattle's: give the field another name, and this one by `#[serde(rename = "requires")]`
 // 2: A.ensures: `ensures` is a word of Rattle's: give the field another name, and this one by `#[serde(rename = "ensures")]`
 // 2: A.deriving: `deriving` is a word of Rattle's: give the field another name, and this one by `#[serde(rename = "deriving")]`
+// 2: A.gen: `gen` is a word of Rattle's: give the field another name, and this one by `#[serde(rename = "gen")]`
 // 4: B.X.ensures: `ensures` is a word of Rattle's: give the field another name, and this one by `#[serde(rename = "ensures")]`
 // 4: B.ghost: `ghost` is a word of Rattle's: give the variant another name, and this one by `#[serde(rename = "ghost")]`
 #[derive(Serialize)]
-struct A { ghost: u8, requires: u8, ensures: u8, deriving: u8 }
+struct A { ghost: u8, requires: u8, ensures: u8, deriving: u8, gen: u8 }
 #[derive(Serialize)]
 enum B { ghost, X { ensures: u8 } }
 

@@ -13,7 +13,7 @@ NOT_TYPES = {*TAKEN, *WORDS, *SEEN, *LEAVES, *CRATES, "str", "f32", "f64", "tupl
              "TheOwn", "TheVariants", "TheBound", "TheImpl", "TheLinks", "TheLaws"}
 MOST_WORK = 1_000_000
 VALUES = {"alloc", "serializer", "fields", "from", "inside", "parts", "access", "variant", "tag"}
-NO_FIELDS = {"ghost", "requires", "ensures", "deriving"}
+NO_FIELDS = {"ghost", "requires", "ensures", "deriving", "gen"}
 NO_VARIANTS = NO_FIELDS | {"the_row", "the_data", "TheLaws", "TheVariants"}
 
 

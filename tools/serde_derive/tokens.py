@@ -31,7 +31,8 @@ TOKEN = re.compile(r"""
   | (?P<sign>::|->|=>|[!#$%&()*+,./:;<=>?@\[\]^{|}~-])
   | (?P<unknown>.)""", re.VERBOSE | re.DOTALL)
 KEYWORDS = set("""as async await break const continue crate dyn else enum extern false fn for if impl in let loop match
-mod move mut pub ref return self Self static struct super trait true type unsafe use where while""".split())
+mod move mut pub ref return self Self static struct super trait true type unsafe use where while
+abstract become box do final macro override priv try typeof unsized virtual yield""".split())
 ROOTS = {"crate", "self", "super", "Self"}
 LONGEST = 100
 CLOSES = {"(": ")", "[": "]", "{": "}"}
