@@ -474,3 +474,10 @@ struct A(u8);
 use crate::r#type::B;
 #[derive(Serialize)]
 struct A(B);
+
+// 2: ghost: the name `ghost` is one that the module uses itself: give the type another name, and this one by `#[serde(rename = "ghost")]`
+// 4: gen: the name `gen` is one that the module uses itself: give the type another name, and this one by `#[serde(rename = "gen")]`
+#[derive(Serialize)]
+struct ghost { x: u8 }
+#[derive(Serialize)]
+enum gen { X }

@@ -9,12 +9,12 @@ from .types import LEAVES
 from .words import CRATES, SEEN, TAKEN, WORDS
 
 # what names no type, field or variant: words of Rattle's, and names that it makes itself
-NOT_TYPES = {*TAKEN, *WORDS, *SEEN, *LEAVES, *CRATES, "str", "f32", "f64", "tuple", "Lib", "Prim", "Self", "deriving",
+NO_FIELDS = {"ghost", "requires", "ensures", "deriving", "gen"}
+NO_VARIANTS = NO_FIELDS | {"the_row", "the_data", "TheLaws", "TheVariants"}
+NOT_TYPES = {*TAKEN, *WORDS, *SEEN, *LEAVES, *CRATES, *NO_FIELDS, "str", "f32", "f64", "tuple", "Lib", "Prim", "Self",
              "TheOwn", "TheVariants", "TheBound", "TheImpl", "TheLinks", "TheLaws"}
 MOST_WORK = 1_000_000
 VALUES = {"alloc", "serializer", "fields", "from", "inside", "parts", "access", "variant", "tag"}
-NO_FIELDS = {"ghost", "requires", "ensures", "deriving", "gen"}
-NO_VARIANTS = NO_FIELDS | {"the_row", "the_data", "TheLaws", "TheVariants"}
 
 
 def renamed(name: str, what: str) -> str:
