@@ -119,3 +119,15 @@ struct A { do: u8 }
 // 2: expected a name, found `try`
 #[derive(Serialize)]
 enum A { try }
+
+// 2: expected a value, found `}`
+#[derive(Serialize)]
+enum A { X = }
+
+// 2: expected a value, found `,`
+#[derive(Serialize)]
+enum A { X = , Y }
+
+// 2: `#[default]` stands twice
+#[derive(Serialize, Default)]
+enum A { #[default] #[default] X }

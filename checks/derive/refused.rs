@@ -481,3 +481,17 @@ struct A(B);
 struct ghost { x: u8 }
 #[derive(Serialize)]
 enum gen { X }
+
+// 2: A.0: the type `Vec` is not covered: the types that are stand in docs/OWN_TYPES.md
+// 2: A.1: the type `std::list::Vec<u8>` is not covered: the types that are stand in docs/OWN_TYPES.md
+// 2: A.2: the type `core::u8` is not covered: hold what it is made of, as a number or a String
+// 2: A.3: the type `Option` is not covered: the types that are stand in docs/OWN_TYPES.md
+#[derive(Serialize)]
+struct A(std::vec::Vec, std::list::Vec<u8>, core::u8, Option);
+
+// 2: Ord: the name `Ord` is one that the module uses itself: give the type another name, and this one by `#[serde(rename = "Ord")]`
+// 4: PartialEq: the name `PartialEq` is one that the module uses itself: give the type another name, and this one by `#[serde(rename = "PartialEq")]`
+#[derive(Serialize)]
+struct Ord { x: u8 }
+#[derive(Serialize)]
+enum PartialEq { X }

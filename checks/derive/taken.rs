@@ -284,3 +284,9 @@ use crate::prelude::Debug;
 use crate::r#type::C;
 #[derive(Debug, Serialize, Deserialize)]
 struct A(u8);
+
+// 1: passed over: `fn f`
+// + struct A(u8, u8, BTreeMap<u8, u8>);
+#[unsafe(no_mangle)] fn f() {}
+#[derive(Serialize)]
+struct A(std::primitive::u8, core::primitive::u8, std::collections::btree_map::BTreeMap<u8, u8>);

@@ -28,6 +28,7 @@ CRATES = {"std", "core", "alloc", "serde", "serde_derive"}
 # attributes that change nothing of what is written, and those of which it is said that they are left out
 PASSED = set("""allow expect warn deny forbid inline cold automatically_derived rustfmt clippy diagnostic track_caller
 test ignore macro_use macro_export path""".split())
+DEFAULT = "#[default]"
 DROPPED = {"repr", "non_exhaustive", "must_use", "deprecated"}
 
 
@@ -84,11 +85,12 @@ class Attributes(Cursor):
         return head
 
     def attribute(self, level: str, head: Head) -> None:
-        """An attribute, as it stands in its brackets."""
-        start, line, name = self.place, self.next.line, self.path()
-        if name == ["unsafe"]:
+        """An attribute, as it stands in its brackets; an unsafe one is of functions, which are passed over."""
+        if self.eat("unsafe"):
             self.pass_to()
-        elif name == ["derive"]:
+            return
+        start, line, name = self.place, self.next.line, self.path()
+        if name == ["derive"]:
             self.expect("(")
             self.listed(")", lambda: self.derive(head))
         elif name == ["serde"]:
@@ -99,7 +101,9 @@ class Attributes(Cursor):
         elif name == ["doc"]:
             self.documentation(head.lines)
         elif name == ["default"] and level == "a variant":
-            head.lines.append("#[default]")
+            if DEFAULT in head.lines:
+                raise NotRust(line, f"`{DEFAULT}` stands twice")
+            head.lines.append(DEFAULT)
         else:
             self.foreign(start, line, name[0], head)
 

@@ -1,7 +1,7 @@
 """Which derives Rattle writes for what a type holds."""
 from typing import Dict, Iterator
 
-from .attributes import CRATES, SERDE, no_rule
+from .attributes import CRATES, DEFAULT, SERDE, no_rule
 from .declarations import Item, Refused
 from .files import File
 from .homes import placed
@@ -31,7 +31,7 @@ def lacking(t: Type, trait: str, items: Dict[str, Item], file: File) -> Iterator
 
 def check_default(item: Item) -> Iterator[Refused]:
     """Refuses `#[default]` where it is no Rust, or lacks."""
-    marked = [v for v in item.variants if "#[default]" in v.head]
+    marked = [v for v in item.variants if DEFAULT in v.head]
     if "Default" in item.derives:
         if item.variants and (len(marked) != 1 or marked[0].data.fields):
             yield Refused(item.line, "`derive(Default)` on an enum needs `#[default]` before one variant with no values",

@@ -11,6 +11,9 @@ from .types import HOLDERS, LEAVES, NUMBERS, Type, snake
 from .words import SEEN, TAKEN, WORDS
 
 STANDARD = {"std", "core", "alloc"}
+# where the standard library has the types that are covered
+MODULES = {**{name: ["primitive"] for name in LEAVES}, "String": ["string"], "Option": ["option"], "Vec": ["vec"],
+           "Box": ["boxed"], "BTreeMap": ["collections", "collections::btree_map"]}
 MOST_PARTS = 500
 DEEPEST_FLATTENED = 16
 
@@ -100,8 +103,8 @@ class Homes:
         path = self.path(name)
         if path[:-1] in (["self"], ["crate", *self.module]):
             return path[-1]
-        known = path[-1] in LEAVES or path[-1] in HOLDERS or path[-1] in NOT_COVERED
         if path[0] in STANDARD and len(path) > 1:
+            known = path[-1] in NOT_COVERED or "::".join(path[1:-1]) in MODULES.get(path[-1], [])
             return path[-1] if known else "::".join(path)
         if len(path) > 1 and name in (*LEAVES, *HOLDERS):
             raise ValueError(f"`{name}` is `{'::'.join(path)}` here, which is not covered: import it by another name")
@@ -199,7 +202,7 @@ class Homes:
             if t.name == "BTreeMap":
                 self.check_key(arguments[0])
             return Type(t.name, arguments)
-        if arguments or t.name in NOT_COVERED:
+        if arguments or t.name in HOLDERS or t.name in NOT_COVERED:
             raise ValueError(NOT_COVERED.get(t.name, f"the type `{t.rust()}` is not covered: the types that are stand"
                                              " in docs/OWN_TYPES.md"))
         return self.part(t.name, holder) if t.name in self.items else self.own(t.name)

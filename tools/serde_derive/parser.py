@@ -130,6 +130,8 @@ class Parser(Attributes):
             if self.next.text == "=":
                 start, line = self.place, self.next.line
                 self.pass_to(",")
+                if self.place == start + 1:
+                    raise NotRust(self.next.line, f"expected a value, found `{self.next.text}`")
                 self.notes.append((line, f"left out: the discriminant `{into[-1].name} {self.shown(start)}`"))
 
         self.guarded(into[-1].name, head, read)
