@@ -1,14 +1,14 @@
 """Gives tools/derive declarations of which tokens are dropped, doubled and swapped: mutants.py TOP [SEED].
 
 Each mutant must be taken, refused or found no Rust within a second, and what isn't taken must name a line of it.
-Of those that are taken some are modules of a crate, which must pass `rt try`."""
+Some of those that are taken, and the declarations of taken.rs, are modules of a crate, which must pass `rt try`."""
 import random
 import re
 import signal
 import sys
 import traceback
 from collections import Counter, defaultdict
-from itertools import zip_longest
+from itertools import islice, zip_longest
 from pathlib import Path
 from typing import Dict, Iterator, List
 
@@ -18,7 +18,7 @@ sys.path.insert(0, str(top / "tools"))
 
 from serde_derive.declarations import Refusals  # noqa: E402
 from serde_derive.module import module  # noqa: E402
-from trial import drawn, refused  # noqa: E402
+from trial import complete, refused  # noqa: E402
 
 COUNT, TRIED = 5000, 40
 OUTCOMES = {1: "no Rust", 2: "refused"}
@@ -90,13 +90,16 @@ def in_turn(taken: Dict[int, List[str]]) -> Iterator[str]:
 
 
 def tried(taken: Dict[int, List[str]]) -> bool:
-    """Has `rt try` compile some of them as one crate, and prints those that it refuses; whether it refuses any."""
-    modules = drawn(in_turn(taken), TRIED)
+    """Has `rt try` compile the declarations of taken.rs and some mutants as one crate, and prints those that it
+    refuses; whether it refuses any."""
+    declared = (top / "checks" / "derive" / "taken.rs").read_text(encoding="utf-8").split("\n\n")[1:]
+    changed = list(islice(complete(in_turn(taken)), TRIED))
+    modules = {f"m{place}": source for place, source in enumerate([*complete(declared), *changed])}
     answer = refused(top, modules)
     for name, source in modules.items():
         if f"src/{name}.rt:" in answer:
             print(f"{name}.rs:\n{source}")
-    print(answer.strip() or f"derive: {len(modules)} of the mutants taken pass `rt try`")
+    print(answer.strip() or f"derive: {len(modules) - len(changed)} declarations and {len(changed)} mutants pass `rt try`")
     return bool(answer)
 
 

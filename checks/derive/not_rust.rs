@@ -70,3 +70,64 @@ use a::{b;
 // 2: expected a name, found `5`
 #[derive(Serialize)]
 struct A(pub(in 5) u8);
+
+// 2: `pub` is not for a field of a variant: delete it
+#[derive(Serialize)]
+enum A { X { pub x: u8 } }
+
+// 2: `pub(crate)` is not for a field of a variant: delete it
+#[derive(Serialize)]
+enum A { X(u8, pub(crate) u8) }
+
+// 2: expected a name, found `Self`
+#[derive(Serialize)]
+struct A(crate::Self::B);
+
+// 2: expected a name, found `super`
+#[derive(Serialize)]
+struct A(super::super::B, self::super::B, crate::super::B);
+
+// 1: expected a name, found `match`
+use match::x;
+
+// 1: expected a name, found `crate`
+use a::{b::crate};
+
+// 1: expected a name, found `self`
+use a::b as self;
+
+// 3: A: something else in this file has this name too
+use crate::other::A;
+#[derive(Serialize)]
+struct A(u8);
+
+// 1: passed over: `type A = u8`, whose type is written in its place
+// 2: passed over: `struct B`, which derives neither Serialize nor Deserialize
+// 4: A: something else in this file has this name too
+// 6: B: something else in this file has this name too
+type A = u8;
+struct B;
+#[derive(Serialize)]
+struct A(u8);
+#[derive(Serialize)]
+struct B(u8);
+
+// 2: expected a name, found `do`
+#[derive(Serialize)]
+struct A { do: u8 }
+
+// 2: expected a name, found `try`
+#[derive(Serialize)]
+enum A { try }
+
+// 2: expected a value, found `}`
+#[derive(Serialize)]
+enum A { X = }
+
+// 2: expected a value, found `,`
+#[derive(Serialize)]
+enum A { X = , Y }
+
+// 2: `#[default]` stands twice
+#[derive(Serialize, Default)]
+enum A { #[default] #[default] X }

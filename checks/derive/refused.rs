@@ -228,7 +228,7 @@ struct A {
 
 // 1: passed over: `type List<T> = Vec<T>`
 // 2: passed over: `type Loop = Option<Loop>`, whose type is written in its place
-// 5: A.x: the type `List<u8>` is not covered: the types that are stand in docs/OWN_TYPES.md
+// 5: A.x: `List` is an alias that is not covered (line 1): write the type that it stands for
 // 6: A.y: the alias `Loop` stands for itself
 type List<T> = Vec<T>;
 type Loop = Option<Loop>;
@@ -314,10 +314,11 @@ enum C { #[default] X(u8), Y }
 // 2: A.requires: `requires` is a word of Rattle's: give the field another name, and this one by `#[serde(rename = "requires")]`
 // 2: A.ensures: `ensures` is a word of Rattle's: give the field another name, and this one by `#[serde(rename = "ensures")]`
 // 2: A.deriving: `deriving` is a word of Rattle's: give the field another name, and this one by `#[serde(rename = "deriving")]`
+// 2: A.gen: `gen` is a word of Rattle's: give the field another name, and this one by `#[serde(rename = "gen")]`
 // 4: B.X.ensures: `ensures` is a word of Rattle's: give the field another name, and this one by `#[serde(rename = "ensures")]`
 // 4: B.ghost: `ghost` is a word of Rattle's: give the variant another name, and this one by `#[serde(rename = "ghost")]`
 #[derive(Serialize)]
-struct A { ghost: u8, requires: u8, ensures: u8, deriving: u8 }
+struct A { ghost: u8, requires: u8, ensures: u8, deriving: u8, gen: u8 }
 #[derive(Serialize)]
 enum B { ghost, X { ensures: u8 } }
 
@@ -435,3 +436,62 @@ mod inner { #[derive(Serialize)] pub struct B(u8); }
 pub(in crate::other) struct A(pub(in super::super) u8, pub(in crate::types::inner) u8, pub(in crate::types) u8);
 #[derive(Serialize)]
 struct B { pub(in other) x: u8 }
+
+// 2: std: the name `std` is one that the module uses itself: give the type another name, and this one by `#[serde(rename = "std")]`
+// 4: serde_content: the name `serde_content` is one that the module uses itself: give the type another name, and this one by `#[serde(rename = "serde_content")]`
+// 6: S: the name `S` is one that the module uses itself: give the type another name, and this one by `#[serde(rename = "S")]`
+#[derive(Serialize)]
+struct std { x: u8 }
+#[derive(Serialize)]
+enum serde_content { X }
+#[derive(Serialize)]
+struct S { x: u8 }
+#[derive(Serialize)]
+enum A { X(S, u8, u8) }
+
+// 3: A.X.0: the name `S` is one that the module uses itself: call that type otherwise
+use crate::other::S;
+#[derive(Serialize)]
+enum A { X(S, u8, u8) }
+
+// 1: passed over: `struct String`, which derives neither Serialize nor Deserialize
+// 2: passed over: `type Vec<T> = other::Vec<T>`
+// 4: A.x: `String` derives neither Serialize nor Deserialize (line 1): derive what is derived here
+// 4: A.y: `Vec` is an alias that is not covered (line 2): write the type that it stands for
+struct String(u64);
+type Vec<T> = other::Vec<T>;
+#[derive(Serialize)]
+struct A { x: String, y: Vec<u8>, z: ::std::string::String }
+
+// 4: A: `derive(derive_more::Debug)` is not covered, as no rule of Rattle writes it: delete it here, and write its impl by hand where you need it
+// 4: A: `derive(rkyv::Serialize)` is not covered, as no rule of Rattle writes it: delete it here, and write its impl by hand where you need it
+use derive_more::Debug;
+use rkyv::Serialize;
+#[derive(Debug, Serialize, Deserialize)]
+struct A(u8);
+
+// 3: A.0: the name `r#type` is not covered: give it a plain one
+use crate::r#type::B;
+#[derive(Serialize)]
+struct A(B);
+
+// 2: ghost: the name `ghost` is one that the module uses itself: give the type another name, and this one by `#[serde(rename = "ghost")]`
+// 4: gen: the name `gen` is one that the module uses itself: give the type another name, and this one by `#[serde(rename = "gen")]`
+#[derive(Serialize)]
+struct ghost { x: u8 }
+#[derive(Serialize)]
+enum gen { X }
+
+// 2: A.0: the type `Vec` is not covered: the types that are stand in docs/OWN_TYPES.md
+// 2: A.1: the type `std::list::Vec<u8>` is not covered: the types that are stand in docs/OWN_TYPES.md
+// 2: A.2: the type `core::u8` is not covered: hold what it is made of, as a number or a String
+// 2: A.3: the type `Option` is not covered: the types that are stand in docs/OWN_TYPES.md
+#[derive(Serialize)]
+struct A(std::vec::Vec, std::list::Vec<u8>, core::u8, Option);
+
+// 2: Ord: the name `Ord` is one that the module uses itself: give the type another name, and this one by `#[serde(rename = "Ord")]`
+// 4: PartialEq: the name `PartialEq` is one that the module uses itself: give the type another name, and this one by `#[serde(rename = "PartialEq")]`
+#[derive(Serialize)]
+struct Ord { x: u8 }
+#[derive(Serialize)]
+enum PartialEq { X }

@@ -234,3 +234,58 @@ struct A(u8);
 // + pub(in crate::types) struct A(pub(in crate) u8, pub(in self) u8, pub(in super) u8, pub(self) u8, pub(super) u8);
 #[derive(Serialize)]
 pub(in crate::types) struct A(pub(in crate) u8, pub(in self) u8, pub(in super) u8, pub(self) u8, pub(super) u8);
+
+// + struct FieldsOfDatabase;
+// - struct FieldsOfDataBase;
+#[derive(Serialize, Deserialize)]
+enum Data { Base { x: u8, y: u8 }, C }
+#[derive(Serialize, Deserialize)]
+struct Database { x: u8, y: u8 }
+
+// - struct FieldsOfA;
+// - struct NamesOfE;
+#[derive(Serialize, Deserialize)]
+struct _A { x: u8, y: u8 }
+#[derive(Serialize, Deserialize)]
+struct A { x: u8, y: u8 }
+#[derive(Serialize, Deserialize)]
+struct A_ { x: u8, y: u8 }
+#[derive(Serialize, Deserialize)]
+struct FieldsOfA(u8);
+#[derive(Serialize, Deserialize)]
+enum NamesOfE { X }
+#[derive(Serialize, Deserialize)]
+enum E { X }
+
+// - fn name_a()
+// - fn read_c_from_3<
+// - fn send_whole_a_b<
+#[derive(Serialize, Deserialize)]
+struct name_a(u8);
+#[derive(Serialize, Deserialize)]
+struct read_c_from_3(u8);
+#[derive(Serialize, Deserialize)]
+struct send_whole_a_b(u8);
+#[derive(Serialize, Deserialize)]
+enum A { B(u8, u8, u8) }
+#[derive(Serialize, Deserialize)]
+struct C { a: u8, b: u8, c: u8, d: u8, e: u8, f: u8, g: u8, h: u8 }
+
+// + fn send_whole_d_e<
+// + fn send_whole_d_e<
+#[derive(Serialize, Deserialize)]
+struct WholeDE { x: u8, y: u8, z: u8 }
+#[derive(Serialize, Deserialize)]
+enum D { E(u8, u8, u8) }
+
+use rocket::serde::{Deserialize, Serialize};
+use crate::prelude::Debug;
+use crate::r#type::C;
+#[derive(Debug, Serialize, Deserialize)]
+struct A(u8);
+
+// 1: passed over: `fn f`
+// + struct A(u8, u8, BTreeMap<u8, u8>);
+#[unsafe(no_mangle)] fn f() {}
+#[derive(Serialize)]
+struct A(std::primitive::u8, core::primitive::u8, std::collections::btree_map::BTreeMap<u8, u8>);

@@ -2,7 +2,6 @@
 import subprocess
 import sys
 import tempfile
-from itertools import islice
 from pathlib import Path
 from typing import Dict, Iterable, Iterator, Tuple
 
@@ -38,10 +37,13 @@ def written(source: str, path: str) -> str:
     return module(source, "types.rs", CRATE, path, True)
 
 
-def drawn(sources: Iterable[str], count: int) -> Dict[str, str]:
-    """The first so many declarations of which the modules are complete and differ, by the names of these."""
-    kept = {written(source, "m"): source for source in sources if is_complete(source, "m")}
-    return {f"m{place}": source for place, source in enumerate(islice(kept.values(), count))}
+def complete(sources: Iterable[str]) -> Iterator[str]:
+    """Those declarations of which the modules are complete, and differ from each other."""
+    seen = set()
+    for source in sources:
+        if is_complete(source, "m") and (text := written(source, "m")) not in seen:
+            seen.add(text)
+            yield source
 
 
 def stubs() -> Iterator[Tuple[str, str]]:

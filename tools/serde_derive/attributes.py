@@ -28,6 +28,7 @@ CRATES = {"std", "core", "alloc", "serde", "serde_derive"}
 # attributes that change nothing of what is written, and those of which it is said that they are left out
 PASSED = set("""allow expect warn deny forbid inline cold automatically_derived rustfmt clippy diagnostic track_caller
 test ignore macro_use macro_export path""".split())
+DEFAULT = "#[default]"
 DROPPED = {"repr", "non_exhaustive", "must_use", "deprecated"}
 
 
@@ -50,6 +51,12 @@ NOT_SEEN = re.compile(r"[\x00-\x1f\x7f-\x9f\u2028-\u202e\u2066-\u2069\ud800-\udf
 def doc_line(text: str) -> str:
     """A line of documentation as Rattle takes it."""
     return NOT_SEEN.sub(" ", text.replace("\t", "    ")).rstrip()
+
+
+def no_rule(name: str) -> str:
+    """Why a trait is not derived."""
+    return (f"`derive({name})` is not covered, as no rule of Rattle writes it: delete it here, and write its impl by hand"
+            " where you need it")
 
 
 class Attributes(Cursor):
@@ -78,11 +85,12 @@ class Attributes(Cursor):
         return head
 
     def attribute(self, level: str, head: Head) -> None:
-        """An attribute, as it stands in its brackets."""
-        start, line, name = self.place, self.next.line, self.path()
-        if name == ["unsafe"]:
+        """An attribute, as it stands in its brackets; an unsafe one is of functions, which are passed over."""
+        if self.eat("unsafe"):
             self.pass_to()
-        elif name == ["derive"]:
+            return
+        start, line, name = self.place, self.next.line, self.path()
+        if name == ["derive"]:
             self.expect("(")
             self.listed(")", lambda: self.derive(head))
         elif name == ["serde"]:
@@ -93,7 +101,9 @@ class Attributes(Cursor):
         elif name == ["doc"]:
             self.documentation(head.lines)
         elif name == ["default"] and level == "a variant":
-            head.lines.append("#[default]")
+            if DEFAULT in head.lines:
+                raise NotRust(line, f"`{DEFAULT}` stands twice")
+            head.lines.append(DEFAULT)
         else:
             self.foreign(start, line, name[0], head)
 
@@ -103,8 +113,7 @@ class Attributes(Cursor):
         ours = len(path) == 1 or path[0] in CRATES
         name = path[-1] if ours else "::".join(path)
         if name not in DERIVES:
-            head.refused.append(Refused(self.next.line, f"`derive({name})` is not covered, as no rule of Rattle writes it:"
-                                        " delete it here, and write its impl by hand where you need it"))
+            head.refused.append(Refused(self.next.line, no_rule(name)))
         elif name not in head.derives:
             head.derives.append(name)
 

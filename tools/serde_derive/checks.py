@@ -3,17 +3,18 @@ import re
 from typing import Iterator, List
 
 from .declarations import Item, NotRust, Refused
+from .files import File
 from .homes import extent, placed
 from .types import LEAVES
-from .words import SEEN, TAKEN, WORDS
+from .words import CRATES, SEEN, TAKEN, WORDS
 
 # what names no type, field or variant: words of Rattle's, and names that it makes itself
-NOT_TYPES = {*TAKEN, *WORDS, *SEEN, *LEAVES, "str", "f32", "f64", "tuple", "Lib", "Prim", "Self", "deriving", "TheOwn",
-             "TheVariants", "TheBound", "TheImpl", "TheLinks", "TheLaws"}
+NO_FIELDS = {"ghost", "requires", "ensures", "deriving", "gen"}
+NO_VARIANTS = NO_FIELDS | {"the_row", "the_data", "TheLaws", "TheVariants"}
+NOT_TYPES = {*TAKEN, *WORDS, *SEEN, *LEAVES, *CRATES, *NO_FIELDS, "str", "f32", "f64", "tuple", "Lib", "Prim", "Self",
+             "TheOwn", "TheVariants", "TheBound", "TheImpl", "TheLinks", "TheLaws"}
 MOST_WORK = 1_000_000
 VALUES = {"alloc", "serializer", "fields", "from", "inside", "parts", "access", "variant", "tag"}
-NO_FIELDS = {"ghost", "requires", "ensures", "deriving"}
-NO_VARIANTS = NO_FIELDS | {"the_row", "the_data", "TheLaws", "TheVariants"}
 
 
 def renamed(name: str, what: str) -> str:
@@ -23,7 +24,7 @@ def renamed(name: str, what: str) -> str:
 
 def check_names(item: Item) -> Iterator[Refused]:
     """Refuses names that the module could not write."""
-    if item.name in NOT_TYPES or (item.name == "S" and item.variants):
+    if item.name in NOT_TYPES:
         yield Refused(item.line, f"the name `{item.name}` is one that the module uses itself:"
                       f" {renamed(item.name, 'type')}", item.name)
     for where, f in placed(item):
@@ -88,6 +89,13 @@ def check_twice(items: List[Item]) -> Iterator[Refused]:
                           f" for each: {renamed(item.name, 'type')}", item.name)
 
 
+def check_others(file: File) -> Iterator[Refused]:
+    """Refuses a type that has the name of something else in the file."""
+    others = {*file.uses, *file.aliases, *file.passed}
+    yield from (NotRust(item.line, "something else in this file has this name too", item.name)
+                for item in file.items if item.name in others)
+
+
 def check_parts(item: Item) -> Iterator[Refused]:
     """Refuses two fields or variants of one name."""
     groups = [[(v, f"{item.name}.{v.name}") for v in item.variants], [(f, f"{item.name}.{f.name}") for f in item.data.fields]]
@@ -114,11 +122,12 @@ def check_work(items: List[Item]) -> Iterator[Refused]:
             return
 
 
-def check(items: List[Item], module: List[str]) -> Iterator[Refused]:
+def check(file: File, module: List[str]) -> Iterator[Refused]:
     """All that is refused before types are looked at, in the module of this path."""
-    yield from check_twice(items)
-    yield from check_values(items)
-    for item in items:
+    yield from check_twice(file.items)
+    yield from check_others(file)
+    yield from check_values(file.items)
+    for item in file.items:
         yield from check_parts(item)
         yield from check_names(item)
         yield from check_visible(item, ["crate", *module])

@@ -1,10 +1,11 @@
 """Which derives Rattle writes for what a type holds."""
 from typing import Dict, Iterator
 
-from .attributes import SERDE
+from .attributes import CRATES, DEFAULT, SERDE, no_rule
 from .declarations import Item, Refused
 from .files import File
 from .homes import placed
+from .tokens import ROOTS
 from .types import Type
 
 NEEDS = {"Copy": ["Clone"], "Eq": ["PartialEq"], "PartialOrd": ["PartialEq"], "Ord": ["Eq", "PartialOrd"], "Hash": ["Eq"]}
@@ -30,7 +31,7 @@ def lacking(t: Type, trait: str, items: Dict[str, Item], file: File) -> Iterator
 
 def check_default(item: Item) -> Iterator[Refused]:
     """Refuses `#[default]` where it is no Rust, or lacks."""
-    marked = [v for v in item.variants if "#[default]" in v.head]
+    marked = [v for v in item.variants if DEFAULT in v.head]
     if "Default" in item.derives:
         if item.variants and (len(marked) != 1 or marked[0].data.fields):
             yield Refused(item.line, "`derive(Default)` on an enum needs `#[default]` before one variant with no values",
@@ -40,6 +41,15 @@ def check_default(item: Item) -> Iterator[Refused]:
                       f"{item.name}.{marked[0].name}")
 
 
+def check_imports(item: Item, file: File) -> Iterator[Refused]:
+    """Refuses derives that the file takes from other crates. What has `serde` in its path is Serde's, and what comes
+    from the user's own crate is taken for the one of that name."""
+    for trait in item.derives:
+        path = file.uses.get(trait, ["std"])
+        if path[0] not in CRATES | ROOTS and "serde" not in path:
+            yield Refused(item.line, no_rule("::".join(path)), item.name)
+
+
 def check_derives(item: Item, items: Dict[str, Item], file: File) -> Iterator[Refused]:
     """Refuses derives that Rattle does not write for what an item holds."""
     derived = set(item.derives) | {trait for trait, name in file.impls if name == item.name}
@@ -47,6 +57,7 @@ def check_derives(item: Item, items: Dict[str, Item], file: File) -> Iterator[Re
         missing = [needed for needed in NEEDS.get(trait, []) if needed not in derived]
         if missing:
             yield Refused(item.line, f"`derive({trait})` needs {' and '.join(missing)}: derive that too", item.name)
+    yield from check_imports(item, file)
     yield from check_default(item)
     for trait in item.derives:
         for where, f in placed(item) if trait not in PASSED and not (trait == "Default" and item.variants) else ():

@@ -5,7 +5,7 @@ from typing import Dict, List, Set, Tuple
 from .attributes import SERDE, Head, doc_line
 from .declarations import Item, NotRust, Refused
 from .parser import Parser
-from .tokens import text_of
+from .tokens import KEYWORDS, ROOTS, text_of
 from .types import Type
 
 # the words that may stand before the one that says what an item is
@@ -99,13 +99,13 @@ class Reader(Parser):
         path = before[:]
         self.eat("::")
         while self.next.sort == "name":
-            path.append(self.take().text)
+            path.append(self.imported(root=ROOTS.issuperset(path[len(before):])))
             if not self.eat("::"):
                 name = path[-1]
                 if name == "self":
                     path.pop()
                     name = path[-1] if path else name
-                self.into.uses[self.take().text if self.eat("as") else name] = path
+                self.into.uses[self.imported() if self.eat("as") else name] = path
                 return
         if self.eat("*"):
             if path[:1] not in (["std"], ["serde"]):
@@ -113,6 +113,13 @@ class Reader(Parser):
             return
         self.expect("{")
         self.listed("}", lambda: self.used(path))
+
+    def imported(self, root: bool = False) -> str:
+        """A name in a `use`: any, as a type may not need it."""
+        token = self.take()
+        if token.sort != "name" or (token.text in KEYWORDS and not (root and token.text in ROOTS)):
+            raise NotRust(token.line, f"expected a name, found `{token.text}`")
+        return token.text
 
     def alias(self, start: int) -> None:
         """An alias of a type, which is written in its place."""

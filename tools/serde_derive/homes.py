@@ -11,6 +11,9 @@ from .types import HOLDERS, LEAVES, NUMBERS, Type, snake
 from .words import SEEN, TAKEN, WORDS
 
 STANDARD = {"std", "core", "alloc"}
+# where the standard library has the types that are covered
+MODULES = {**{name: ["primitive"] for name in LEAVES}, "String": ["string"], "Option": ["option"], "Vec": ["vec"],
+           "Box": ["boxed"], "BTreeMap": ["collections", "collections::btree_map"]}
 MOST_PARTS = 500
 DEEPEST_FLATTENED = 16
 
@@ -63,6 +66,9 @@ class Homes:
                     f.type = Type("()")
 
     def resolved(self, t: Type, holder: Item) -> Type:
+        first = t.name.split("::")[0]
+        if first in self.file.passed:
+            raise ValueError(f"`{first}` {self.file.passed[first]}")
         name = holder.name if t.name == "Self" else self.short(t.name)
         if name in self.file.aliases and not t.arguments:
             return self.alias(name, holder)
@@ -97,8 +103,8 @@ class Homes:
         path = self.path(name)
         if path[:-1] in (["self"], ["crate", *self.module]):
             return path[-1]
-        known = path[-1] in LEAVES or path[-1] in HOLDERS or path[-1] in NOT_COVERED
         if path[0] in STANDARD and len(path) > 1:
+            known = path[-1] in NOT_COVERED or "::".join(path[1:-1]) in MODULES.get(path[-1], [])
             return path[-1] if known else "::".join(path)
         if len(path) > 1 and name in (*LEAVES, *HOLDERS):
             raise ValueError(f"`{name}` is `{'::'.join(path)}` here, which is not covered: import it by another name")
@@ -196,7 +202,7 @@ class Homes:
             if t.name == "BTreeMap":
                 self.check_key(arguments[0])
             return Type(t.name, arguments)
-        if arguments or t.name in NOT_COVERED:
+        if arguments or t.name in HOLDERS or t.name in NOT_COVERED:
             raise ValueError(NOT_COVERED.get(t.name, f"the type `{t.rust()}` is not covered: the types that are stand"
                                              " in docs/OWN_TYPES.md"))
         return self.part(t.name, holder) if t.name in self.items else self.own(t.name)
@@ -220,14 +226,15 @@ class Homes:
     def own(self, name: str) -> Type:
         """An own type of another file."""
         path = self.path(name)
-        if path[0] in self.file.passed:
-            raise ValueError(f"`{path[0]}` {self.file.passed[path[0]]}")
         if path[0] in STANDARD | {"serde"} and len(path) > 1:
             raise ValueError(f"the type `{'::'.join(path)}` is not covered: hold what it is made of, as a number or"
                              " a String")
         if len(path) < 2 or path[0] in ("self", "super"):
             raise ValueError(f"the type `{name}` is not covered; one of your own is declared in this"
                              " file, or named by its full path")
+        raw = [part for part in path if part.startswith("r#")]
+        if raw:
+            raise ValueError(f"the name `{raw[0]}` is not covered: give it a plain one")
         first = name.split("::")[0]
         if first in TAKEN or path[-1] in (*WORDS, *SEEN):
             raise ValueError(f"the name `{path[-1]}` is one that the module uses itself: call that type otherwise")

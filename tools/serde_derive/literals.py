@@ -5,7 +5,7 @@ A proof that had each name as its letters would depend on how long it is. So con
 of names is handed out by a function of its own."""
 import re
 from itertools import chain, count
-from typing import Dict, List
+from typing import Dict, Iterator, List, Set
 
 from .text import clause, ghost
 
@@ -52,21 +52,23 @@ def name_function(function: str, name: str) -> str:
             + clause("ensures", f'result.now ≡ name "{name}"') + f'{{\n"{name}"\n}}\n')
 
 
-def function_names(names: List[str]) -> Dict[str, str]:
+def function_names(names: List[str], taken: Set[str]) -> Dict[str, str]:
     """What the function of each name is called: by its words, and by a number where that is taken."""
     functions: Dict[str, str] = {}
+    choices: Dict[str, Iterator[str]] = {}
     for name in names:
         words = re.findall(r"[A-Z]?[a-z0-9]+|[A-Z0-9]+", name) or ["sign"]
         plain = "name_" + "_".join(words).lower()
-        free = (called for called in chain([plain], (f"{plain}_{i}" for i in count(2)))
-                if called not in functions.values())
-        functions[name] = next(free)
+        left = choices.setdefault(plain, chain([plain], (f"{plain}_{i}" for i in count(2))))
+        functions[name] = next(called for called in left if called not in taken)
+        taken.add(functions[name])
     return functions
 
 
-def with_names(body: str) -> str:
-    """The text with calls in the place of its names, and after it the functions that they call."""
+def with_names(body: str, types: List[str]) -> str:
+    """The text with calls in the place of its names, and after it the functions that they call, which are called
+    as none of the types."""
     names = list(dict.fromkeys(CALL.findall(body)))
-    functions = function_names(names)
+    functions = function_names(names, {name.lower() for name in types})
     called = CALL.sub(lambda found: f"{functions[found.group(1)]}()", body)
     return "\n".join([called] + [name_function(functions[name], name) for name in names])

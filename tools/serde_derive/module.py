@@ -87,7 +87,7 @@ def tried(item: Item, refused: List[Refused], step) -> None:
 def settled(file: File, homes: Homes) -> Dict[str, Writer]:
     """The writers of a file's types, once all names and types are known; a Refusals says what is not covered."""
     refused, writers = file.refused, {}
-    for why in check(file.items, homes.module):
+    for why in check(file, homes.module):
         refused.append(why)
         homes.items[why.where.split(".")[0]].covered = False
     homes.resolve()
@@ -156,7 +156,7 @@ def module(source: str, name: str, crate: str, place: str, cbor: bool = False,
     homes = Homes(crate, place, file)
     writers = settled(file, homes)
     texts = [text for item in file.items for text in texts_of(item, writers[item.name], cbor)]
-    body = with_names("\n".join(texts))
+    body = with_names("\n".join(texts), [item.name for item in file.items])
     docs = file.docs or ["//! Types that are sent and read."]
     docs += ["//!", f"//! Written by `tools/derive` from `{doc_line(name)}`: change that file, and write this one anew."]
     return "\n".join([*docs, "", *uses(file, homes, [body]), "", body])

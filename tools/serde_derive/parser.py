@@ -124,9 +124,14 @@ class Parser(Attributes):
         def read() -> None:
             into[-1].name = self.name()
             into[-1].data = self.data()
+            for f in into[-1].data.fields:
+                if f.visible:
+                    raise NotRust(f.line, f"`{f.visible.strip()}` is not for a field of a variant: delete it")
             if self.next.text == "=":
                 start, line = self.place, self.next.line
                 self.pass_to(",")
+                if self.place == start + 1:
+                    raise NotRust(self.next.line, f"expected a value, found `{self.next.text}`")
                 self.notes.append((line, f"left out: the discriminant `{into[-1].name} {self.shown(start)}`"))
 
         self.guarded(into[-1].name, head, read)

@@ -31,7 +31,8 @@ TOKEN = re.compile(r"""
   | (?P<sign>::|->|=>|[!#$%&()*+,./:;<=>?@\[\]^{|}~-])
   | (?P<unknown>.)""", re.VERBOSE | re.DOTALL)
 KEYWORDS = set("""as async await break const continue crate dyn else enum extern false fn for if impl in let loop match
-mod move mut pub ref return self Self static struct super trait true type unsafe use where while""".split())
+mod move mut pub ref return self Self static struct super trait true type unsafe use where while
+abstract become box do final macro override priv try typeof unsized virtual yield""".split())
 ROOTS = {"crate", "self", "super", "Self"}
 LONGEST = 100
 CLOSES = {"(": ")", "[": "]", "{": "}"}
@@ -172,11 +173,11 @@ class Cursor:
         return self.take().text
 
     def path(self) -> List[str]:
-        """Names with `::` between them."""
+        """Names with `::` between them; only the first, or a `super` after it, is one of the roots."""
         names = [] if self.eat("::") else [self.name(root=True)]
         while not names or (self.next.text == "::" and self.after().sort == "name"):
             self.place += bool(names)
-            names.append(self.name(root=True))
+            names.append(self.name(root=self.next.text == "super" and names[-1:] in (["self"], ["super"])))
         return names
 
     def listed(self, close: str, one: Callable[[], None]) -> bool:

@@ -9,6 +9,7 @@ from .types import snake
 from .words import USES, WORDS
 
 FUNCTIONS = {name for names in USES.values() for name in names.split() if name.islower()}
+ROW = re.compile(r"(?:fields|names|(?:field|part|from)\d+)of(.+)")  # what is called after an owner
 KINDS = ("serialize", "round_trip", "cbor_round_trip", "not_null", "ord")
 
 
@@ -20,14 +21,17 @@ def fresh(name: str, more: str, clashes: Callable[[str], bool]) -> str:
 
 
 def name_functions(items: List[Item]) -> None:
-    """Names what the functions of items and variants are called after; those of items come first."""
+    """Names what the functions, lists and rows of items and variants are called after; those of items come first.
+    Rattle does not tell names that differ in the case of letters alone."""
     taken: Set[str] = set()
-    declared = {item.name.lower() for item in items}
-    forbidden = FUNCTIONS | set(WORDS) | declared
-    rows = {found.group(1) for found in map(re.compile(r"(?:fields|names|(?:field|part|from)\d+)of(.+)").fullmatch, declared) if found}
+    lists: Set[str] = set()
+    names = {item.name.lower() for item in items}
+    forbidden = FUNCTIONS | set(WORDS) | names
+    owned = {found.group(1) for found in map(ROW.fullmatch, names) if found}
 
     def clashes(name: str) -> bool:
-        return (name in taken or pascal(name).lower() in rows
+        listed = pascal(name).lower()
+        return (name in taken or listed in lists or listed in owned
                 or any(f"{verb}_{name}" in forbidden for verb in ("send_whole", "read", "make")))
 
     for more, named in ("_type", [(item, item.name) for item in items]), (
@@ -35,6 +39,7 @@ def name_functions(items: List[Item]) -> None:
         for one, name in named:
             one.owner = fresh(snake(name), more, clashes)
             taken.add(one.owner)
+            lists.add(pascal(one.owner).lower())
 
 
 def name_cases(items: List[Item], others: List[str]) -> None:

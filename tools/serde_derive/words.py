@@ -109,7 +109,11 @@ NO_PLACES = RESERVED | {"alloc", "fields", "serializer", "result", "row"} | {
 IN_TEXT = {"[]": r"\[\]", "form": r"\(form t\)", "custom": r"\(custom ", "Some": r"\(Some \(", "None": "≡ None",
            "true": r"(?:fits|λ b\.) true", "false": "≡ false", "name": 'name "', "variants": r"variants \( \(name"}
 METHODS = {"Parts": r"\.(?:with|around)\("}
-TAKEN = {name for names in USES.values() for name in names.split()} | set(HOLDERS) | {"String", "Ok", "Err"}
+# what no own type is called; `S` is the type of a serialiser, and contracts name the two traits
+TAKEN = {name for names in USES.values() for name in names.split()} | set(HOLDERS) | {
+    "String", "Ok", "Err", "S", "PartialEq", "Ord"}
+# what a module names its crates by
+CRATES = {path.split("::")[0] for path in USES} | {module.split(".")[0] for module in WORDS.values()} | {"core"}
 
 
 WORD = re.compile(r"[^\W\d]\w*|[^\w\s]")
