@@ -258,25 +258,15 @@ enum NamesOfE { X }
 enum E { X }
 
 // - fn name_a()
-// - fn read_c_from_3<
 // - fn send_whole_a_b<
 #[derive(Serialize, Deserialize)]
 struct name_a(u8);
-#[derive(Serialize, Deserialize)]
-struct read_c_from_3(u8);
 #[derive(Serialize, Deserialize)]
 struct send_whole_a_b(u8);
 #[derive(Serialize, Deserialize)]
 enum A { B(u8, u8, u8) }
 #[derive(Serialize, Deserialize)]
-struct C { a: u8, b: u8, c: u8, d: u8, e: u8, f: u8, g: u8, h: u8 }
-
-// + fn send_whole_d_e<
-// + fn send_whole_d_e<
-#[derive(Serialize, Deserialize)]
-struct WholeDE { x: u8, y: u8, z: u8 }
-#[derive(Serialize, Deserialize)]
-enum D { E(u8, u8, u8) }
+struct B { a: u8 }
 
 use rocket::serde::{Deserialize, Serialize};
 use crate::prelude::Debug;
