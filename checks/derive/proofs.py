@@ -13,7 +13,7 @@ from typing import Dict, List, Optional
 from matrix import matrix
 
 LIBRARIES = ["content_tree", "content_ser", "content_build", "content_de", "serde_content", "content_cbor"]
-TOGETHER = 8
+TOGETHER = 16
 
 
 def drawn(which: List[str]) -> Dict[str, str]:

@@ -3,7 +3,7 @@ from typing import Callable, List, NamedTuple, Optional, Tuple
 
 from .cases import pascal
 from .declarations import Data, Field
-from .literals import list_impl, list_term, name_call, name_term
+from .literals import list_impl, list_term, name_call, name_method, name_term
 from .text import fields_reader, function, ghost, together
 from .types import READ, TRIP, nest, snake
 
@@ -40,8 +40,8 @@ BY_PLACE = Row(
 BY_NAME = Row(
     ("field_first {name} {inner}", "end_script"),
     ("field_fits {inner}", "struct_end_fits"),
-    ("named{or_}_then {name} {inner}", "({left} {known})"),
-    ("Named{Or}Then {name}{missing} {inner}", "NoOthers"),
+    ("row{or_}_then {name} {inner}", "({left} {known})"),
+    ("Row{Or}Then {name}{missing} {inner}", "NoOthers"),
     ("named{or_}_back {name}{missing} {inner} {see}", "({end}_back {known})"),
     ("named{or_}_keeps {name}{missing} {see} {inner}", "({end}_keeps {known})"),
     ("named{or_}_kept {name}{missing} {inner} {see}", "({end}_kept {known})"))
@@ -57,6 +57,7 @@ class Holder:
     contracts or code name them."""
 
     most = 2  # as many values are sent without a function of their own
+    read_by = "ReadStruct"
     by_key = BY_NAME
 
     def __init__(self, sort: str, names: list, data: Data, owner: str):
@@ -67,7 +68,7 @@ class Holder:
         self.names = " ".join(str(n) if isinstance(n, int) else name_term(n) for n in names)
         written = [str(n) if isinstance(n, int) else name_call(n) for n in names + [self.count] * self.many]
         self.call = f"Call::{self.camel}({', '.join(written)})"
-        self.of_variant = sort == "Variant"
+        self.of_variant, self.wire = sort == "Variant", names[0] if names else ""
         self.reader, self.owner = f"read_{owner}", pascal(owner)
         self.list = f"FieldsOf{self.owner}"
         self.names_known = [f.wire for f in data.fields]
@@ -93,7 +94,7 @@ class Holder:
         return self.run(place) if place % LONGEST_ROW == 0 and place < self.count else self.row_type(place)
 
     def run(self, start: int) -> str:
-        """The struct that values from a place on are read as."""
+        """The struct around the row from a place on."""
         return f"From{start + 1}Of{self.owner}"
 
     def starts(self) -> List[int]:
@@ -111,56 +112,41 @@ class Holder:
         return [rows] + [self.run_read(start) for start in self.starts()]
 
     def run_read(self, start: int) -> str:
-        """A struct of values from a place on, and how it is read."""
-        fields, rest = self.fields[start:start + LONGEST_ROW], start + LONGEST_ROW
+        """The struct around the row from a place on, and how it is read."""
         trait, source = ("ReadFields", "fields: FieldsByName") if self.data.named else ("ReadParts", "parts: serde_content::de::Seq")
-        refusals = [f"({f.type.member(READ, 'refusal')})" for f in fields]
-        gives = [f"({f.type.member(READ, 'gives')}) z.{i}" for i, f in enumerate(fields)]
-        more = [self.run(rest)] if rest < self.count else []
-        inside = [f"(⟦<{one} as {trait}<'de>>⟧.{{}})" for one in more]
-        refusal = self.row("refusal", refusals, start=start, rest="".join(inside).format("refusal"))
-        given = self.row("gives", gives, start=start, rest="".join(inside).format(f"gives z.{LONGEST_ROW}"))
-        places = [f"x{i + 1}" for i in range(len(fields))]
-        read = function(f"fn read<'n: 'de>(alloc: Global, {source}<'de, 'n>) -> Result<Self>",
-                        *self.taken(trait, source.split(":")[0], places, start),
-                        f"Ok({self.run(start)}({', '.join(places + ['row'] * len(more))}))")
-        members = "\n\n".join([ghost("refusal", refusal), ghost("gives", f"λ z. {given}"), read])
-        return (f"/// Values from place {start + 1} on.\n#[derive(Drop)]\nstruct {self.run(start)}("
-                f"{', '.join([f.type.rust() for f in fields] + more)});\n\n"
+        row, read = self.row_type(start), f"{trait}::read(alloc, {source.split(':')[0]})?"
+        member = f"⟦<{row} as {trait}<'de>>⟧"
+        members = "\n\n".join([
+            ghost("refusal", f"{member}.refusal"), ghost("gives", f"λ z. {member}.gives z.0"),
+            function(f"fn read<'n: 'de>(alloc: Global, {source}<'de, 'n>) -> Result<Self>", f"Ok({self.run(start)}({read}))")])
+        return (f"/// The row from place {start + 1} on.\n#[derive(Drop)]\nstruct {self.run(start)}({row});\n\n"
                 f"impl<'de> {trait}<'de> for {self.run(start)} {{\n{members}\n}}\n")
 
     def index(self, f: Field) -> int:
         """The index of a field's name among all."""
         return self.names_known.index(f.wire)
 
-    def taken(self, trait: str, source: str, places: List[str], start: int = 0) -> List[str]:
-        """The statements that read values as a row, from a place on, and take it apart."""
-        lines = [f"let row: {self.row_type(start)} = {trait}::read(alloc, {source})?;"]
-        for f, place in zip(self.fields[start:start + LONGEST_ROW], places):
+    def taken(self, trait: str, source: str, places: List[str]) -> List[str]:
+        """The statements that read all values as a row, and take it apart."""
+        lines = [f"let row: {self.row_type(0)} = {trait}::read(alloc, {source})?;"]
+        for at, (f, place) in enumerate(zip(self.fields, places)):
             sort = f"ReadField{'Or' * bool(f.missing)}" if self.data.named else "ReadPart"
-            rest = "_" if f is self.fields[-1] else "row"
+            rest = "_" if at + 1 == self.count else "row"
+            lines += [f"let {self.run(at)}(row) = row;"] * (at in self.starts())
             lines.append(f"let {sort}({place}, {rest}{', _' * self.data.named}) = row;")
         return lines
 
-    def all_taken(self, trait: str, source: str, places: List[str]) -> List[str]:
-        """The statements that read all values, and take them apart."""
-        runs = [(start, places[start:start + LONGEST_ROW]) for start in self.starts()]
-        return self.taken(trait, source, places) + [
-            f"let {self.run(start)}({', '.join(some + ['row'] * (start + LONGEST_ROW < self.count))}) = row;"
-            for start, some in runs]
-
-    def row(self, member: str, inners: List[str], sees: Optional[List[str]] = None, start: int = 0, rest: str = "") -> str:
-        """All its values in a member of the impls, or the one, after a blank or a line's end; or some
-        from a place on, before the rest."""
+    def row(self, member: str, inners: List[str], sees: Optional[List[str]] = None) -> str:
+        """All its values in a member of the impls, or the one, after a blank or a line's end."""
         if not self.many:
             return "".join(f" {inner}" for inner in inners)
         part, end = getattr(self.by_key if self.data.named else BY_PLACE, member)
         parts = [part.format(
-            inner=inner, see=see, place=start + place, count=self.count, name=name_term(f.wire),
+            inner=inner, see=see, place=place, count=self.count, name=name_term(f.wire),
             or_="_or" * bool(f.missing), Or="Or" * bool(f.missing), missing=f.absent())
-            for place, (f, inner, see) in enumerate(zip(self.fields[start:], inners, sees or inners))]
-        words = ("no_others", "closed") if self.data.closed else ("others_skipped", "skipped")
-        return nest(parts, rest or end.format(known=list_term(self.names_known), left=words[0], end=words[1], count=self.count))
+            for place, (f, inner, see) in enumerate(zip(self.fields, inners, sees or inners))]
+        words = ("no_others", "closed") if self.data.closed else ("others_left", "skipped")
+        return nest(parts, end.format(known=list_term(self.names_known), left=words[0], end=words[1], count=self.count))
 
     def by_name(self, word: str, row: str) -> str:
         """A row of fields, which is read by name."""
@@ -209,13 +195,13 @@ class Holder:
         places = self.data.places()
         if not self.fields:
             return [f"{start};", f"Ok({make([])})"]
+        if self.data.named and not self.of_variant:
+            return [f"read_struct::<{self.list}, Self>(alloc, from)"]
         if self.data.named:
-            lines = [f"let fields = {start}.by_name();"]
-            if not self.of_variant:
-                return lines + [f"{self.reader}(alloc, fields)"]
-            return lines + [f"let {together(places)} = {self.reader}(alloc, fields)?;", f"Ok({make(places)})"]
+            return [f"let fields = {start}.by_name();", f"let {together(places)} = {self.reader}(alloc, fields)?;",
+                    f"Ok({make(places)})"]
         if self.many:
-            return [f"let parts = {start};", *self.all_taken("ReadParts", "parts", places), f"Ok({make(places)})"]
+            return [f"let parts = {start};", *self.taken("ReadParts", "parts", places), f"Ok({make(places)})"]
         if self.of_variant:
             return [f"Ok({make([start])})"]
         return [f"let inside = {start};", f"Ok({make(['inside.deserialize(alloc)?'])})"]
@@ -225,8 +211,24 @@ class Holder:
         see these values."""
         if not self.data.named or not self.fields:
             return []
-        lines = self.all_taken("ReadFields", "fields", self.data.places()) + [f"Ok({made})"]
+        lines = self.taken("ReadFields", "fields", self.data.places()) + [f"Ok({made})"]
         return [fields_reader(self.reader, result, self.refusal_row(), self.gives_row(values), lines)]
+
+    def read_impl(self, made: str, name: str, values: List[str]) -> List[str]:
+        """How the fields of a struct of this name are read, wherever they are; contracts see these values of it."""
+        if not self.data.named or not self.fields:
+            return []
+        read = function(f"fn read<'n: 'de>(alloc: Global, fields: FieldsByName<'de, 'n>) -> Result<{name}>",
+                        *self.taken("ReadFields", "fields", self.data.places()), f"Ok({made})")
+        members = [ghost("refusal", self.refusal_row().strip()[1:-1]), ghost("gives", f"λ z. {self.gives_row(values)}")]
+        members = [*self.named_by(ghost("name", name_term(self.wire)[1:-1])), *members,
+                   *self.named_by(name_method("name", self.wire)), read]
+        return [f"impl<'de> {self.read_by}<'de> for {name} {{\n" + "\n\n".join(members) + "\n}\n"]
+
+    @staticmethod
+    def named_by(member: str) -> List[str]:
+        """A member that says the name of what is read."""
+        return [member]
 
     def trip_row(self, member: str, laws: List[str], values: List[str], sees: List[str]) -> str:
         """All its values in a law of what comes back, each with the fact that it exists."""

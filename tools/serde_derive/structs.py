@@ -11,6 +11,7 @@ class FlattenedHolder(Holder):
     """What a struct with flattened fields holds: it is sent as a map and read from one."""
 
     by_key = FLATTENED
+    read_by = "ReadFields"
 
     def __init__(self, item: Item):
         super().__init__("Struct", [], item.data.flat(), item.owner)
@@ -24,7 +25,11 @@ class FlattenedHolder(Holder):
         return f"SendEntry({self.list}, {self.index(f)}, {value}, row)"
 
     def read(self, make: Callable[[List[str]], str]) -> List[str]:
-        return ["let fields = from.deserialize_map(alloc)?.by_name();", f"{self.reader}(alloc, fields)"]
+        return ["read_flattened(alloc, from)"]
+
+    @staticmethod
+    def named_by(member: str) -> List[str]:
+        return []
 
     def back(self, values: List[str], sees: List[str]) -> str:
         return self.back_row(values, sees)
@@ -50,7 +55,7 @@ class StructWriter:
 
     def functions(self) -> List[str]:
         """Those that the impls call."""
-        read = self.holder.read_function(
+        read = self.holder.read_impl(
             self.item.data.made(self.item.name, self.holder.data.places()), self.item.name,
             [f"z.{in_term(f.name)}" for f in self.fields])
         return self.holder.names_list() + (self.holder.row_types() + read) * self.reads

@@ -192,7 +192,7 @@ class Type:
     def seen(self) -> str:
         inside = [a.seen() for a in self.arguments]
         if self.name == "tuple":
-            return f"({' × '.join(inside)})"
+            return f"({' × '.join(inside)})" if len(inside) > 1 else f"(record {{0 : {inside[0]}}})"
         return self.laws.seen.format(*inside, declared=self.declared)
 
     def takes(self) -> Optional[Tuple[str, str]]:

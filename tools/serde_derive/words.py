@@ -39,12 +39,12 @@ content_de.specs.Reads.Tuples part_then end_of_parts PartThen NoPart
 content_de.specs.Accesses.ByName fields_left
 content_de.specs.Reads.Read Reads
 content_de.specs.Reads.Attempts IsTakenAs or_next
-content_de.specs.Reads.ByName read_by_name named_then named_or_then others_skipped no_others
-content_de.specs.Reads.ByName ReadByName NamedThen NamedOrThen NoOthers
+content_de.specs.Reads.ByName read_by_name no_others
+content_de.specs.Reads.ByName ReadByName NoOthers
 content_de.specs.Reads.Tagged tag_then TagThen tag_then_buffered TagThenBuffered
 content_de.specs.Reads.Own enum_refusal EnumGives
 content_de.specs.Reads.Own {' '.join(f'{s}_refusal {pascal(s)}Gives' for s in STYLES)}
-serde_content.specs.Literals name
+serde_content.specs.Literals name row_then row_or_then RowThen RowOrThen others_left
 serde_content.specs.Variants index_among variants
 serde_content.specs.RoundTrip ComesBack CoercionKeeps
 serde_content.specs.Laws.Leaves heedless_keeps natural_keeps integer_keeps
@@ -98,8 +98,9 @@ USES = {
     "serde_content::de": "Deserialize FieldsByName VariantAccess attempt",
     "serde_content::derive_support":
         f"Names {' '.join(sorted(one for _, one in CHOICES))} OthersRefused OthersSkipped PartsEnd ReadField ReadFieldOr ReadFields"
-        f" ReadPart ReadParts SendElement SendEnd SendEntry SendField SendOpen SendPart SendTag TaggedVariants Variants"
-        f" {' '.join(sorted(first for first, _ in CHOICES))} no_such_variant read_adjacent read_enum read_tagged send_row variant_index",
+        f" ReadPart ReadParts ReadStruct SendElement SendEnd SendEntry SendField SendOpen SendPart SendTag TaggedVariants Variants"
+        f" {' '.join(sorted(first for first, _ in CHOICES))} no_such_variant read_adjacent read_enum read_flattened read_struct read_tagged send_row"
+        " variant_index",
     "serde_content::ser": "Call Parts Serialize Serializer",
     "std::alloc": "Global",
     "std::collections": "BTreeMap",

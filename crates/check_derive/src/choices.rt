@@ -15,12 +15,11 @@ ghost use Rattle.content_de.specs.Sources.Origin.{tree_under, in_buffer, bufferi
 ghost use Rattle.content_de.specs.Accesses.ByName.{fields_left};
 ghost use Rattle.content_de.specs.Reads.Read.{Reads};
 ghost use Rattle.content_de.specs.Reads.Attempts.{IsTakenAs, or_next};
-ghost use Rattle.content_de.specs.Reads.ByName.{read_by_name, named_then, named_or_then};
-ghost use Rattle.content_de.specs.Reads.ByName.{others_skipped, ReadByName, NamedThen, NamedOrThen};
-ghost use Rattle.content_de.specs.Reads.ByName.{NoOthers};
+ghost use Rattle.content_de.specs.Reads.ByName.{read_by_name, ReadByName, NoOthers};
 ghost use Rattle.content_de.specs.Reads.Tagged.{tag_then_buffered, TagThenBuffered};
 ghost use Rattle.content_de.specs.Reads.Own.{struct_refusal, StructGives};
-ghost use Rattle.serde_content.specs.Literals.{name};
+ghost use Rattle.serde_content.specs.Literals.{name, row_then, row_or_then, RowThen, RowOrThen};
+ghost use Rattle.serde_content.specs.Literals.{others_left};
 ghost use Rattle.serde_content.specs.Variants.{index_among, variants};
 ghost use Rattle.serde_content.specs.RoundTrip.{ComesBack};
 ghost use Rattle.serde_content.specs.Laws.Leaves.{bool_back, text_back, u8_back, i32_back};
@@ -144,13 +143,13 @@ fn read_command_move<'de, 'n: 'de>(
     fields: FieldsByName<'de, 'n>,
 ) -> Result<(i32, Option<i32>)>
     ensures { Reads (
-        (named_then (name "x") (⟦<i32 as Deserialize<'de>>⟧.refusal)
-        (named_or_then (name "y") (⟦<Option<i32> as Deserialize<'de>>⟧.refusal)
-        (others_skipped (name "kind" ∷ name "x" ∷ name "y" ∷ []))))
+        (row_then (name "x") (⟦<i32 as Deserialize<'de>>⟧.refusal)
+        (row_or_then (name "y") (⟦<Option<i32> as Deserialize<'de>>⟧.refusal)
+        (others_left (name "kind" ∷ name "x" ∷ name "y" ∷ []))))
         (fields_left fields.entry))
         (λ z.
-        (NamedThen (name "x") (⟦<i32 as Deserialize<'de>>⟧.gives) z.0
-        (NamedOrThen (name "y") (λ (x : (Option ℤ)). x ≡ None)
+        (RowThen (name "x") (⟦<i32 as Deserialize<'de>>⟧.gives) z.0
+        (RowOrThen (name "y") (λ (x : (Option ℤ)). x ≡ None)
         (⟦<Option<i32> as Deserialize<'de>>⟧.gives) z.1
         NoOthers))
         (fields_left fields.entry)) result }
@@ -214,12 +213,12 @@ impl<'de> TaggedVariants<'de> for Command {
     ghost tag_name = { name "kind" };
 
     ghost refusal = { variants (
-        (name "stop", (others_skipped (name "kind" ∷ [])))
+        (name "stop", (others_left (name "kind" ∷ [])))
         ∷ (
           name "move",
-          (named_then (name "x") (⟦<i32 as Deserialize<'de>>⟧.refusal)
-              (named_or_then (name "y") (⟦<Option<i32> as Deserialize<'de>>⟧.refusal)
-              (others_skipped (name "kind" ∷ name "x" ∷ name "y" ∷ [])))),
+          (row_then (name "x") (⟦<i32 as Deserialize<'de>>⟧.refusal)
+              (row_or_then (name "y") (⟦<Option<i32> as Deserialize<'de>>⟧.refusal)
+              (others_left (name "kind" ∷ name "x" ∷ name "y" ∷ [])))),
         )
         ∷ []) };
 
@@ -230,8 +229,8 @@ impl<'de> TaggedVariants<'de> for Command {
 
     ghost held = { elim [
       | command.Stop ↦ NoOthers
-      | command.Move x1 x2 ↦ (NamedThen (name "x") (⟦<i32 as Deserialize<'de>>⟧.gives) x1
-          (NamedOrThen (name "y") (λ (x : (Option ℤ)). x ≡ None)
+      | command.Move x1 x2 ↦ (RowThen (name "x") (⟦<i32 as Deserialize<'de>>⟧.gives) x1
+          (RowOrThen (name "y") (λ (x : (Option ℤ)). x ≡ None)
           (⟦<Option<i32> as Deserialize<'de>>⟧.gives) x2
           NoOthers))
     ] };
@@ -336,8 +335,8 @@ impl<'de> RoundTrip<'de> for Command {
             (tag_keeps_buffered (name "kind") (name "move")
             ⟦<Command as TaggedVariants<'de>>⟧.refusal
             (λ (z : ℤ × (Option ℤ)).
-            (NamedThen (name "x") (⟦<i32 as Deserialize<'de>>⟧.gives) z.0
-            (NamedOrThen (name "y") (λ (x : (Option ℤ)). x ≡ None)
+            (RowThen (name "x") (⟦<i32 as Deserialize<'de>>⟧.gives) z.0
+            (RowOrThen (name "y") (λ (x : (Option ℤ)). x ≡ None)
             (⟦<Option<i32> as Deserialize<'de>>⟧.gives) z.1
             NoOthers)))))).of_origin o people (x1, x2)
             (record { free = p.free; given = p.given }) in

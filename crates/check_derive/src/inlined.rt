@@ -13,12 +13,11 @@ ghost use Rattle.content_de.specs.Reads.Standard.{HasContent};
 ghost use Rattle.content_de.specs.Sources.Origin.{buffering};
 ghost use Rattle.content_de.specs.Accesses.ByName.{fields_left};
 ghost use Rattle.content_de.specs.Reads.Read.{Reads};
-ghost use Rattle.content_de.specs.Reads.ByName.{read_by_name, named_then, named_or_then};
-ghost use Rattle.content_de.specs.Reads.ByName.{others_skipped, ReadByName, NamedThen, NamedOrThen};
-ghost use Rattle.content_de.specs.Reads.ByName.{NoOthers};
+ghost use Rattle.content_de.specs.Reads.ByName.{read_by_name, ReadByName, NoOthers};
 ghost use Rattle.content_de.specs.Reads.Tagged.{tag_then_buffered, TagThenBuffered};
 ghost use Rattle.content_de.specs.Reads.Own.{struct_refusal, StructGives};
-ghost use Rattle.serde_content.specs.Literals.{name};
+ghost use Rattle.serde_content.specs.Literals.{name, row_then, row_or_then, RowThen, RowOrThen};
+ghost use Rattle.serde_content.specs.Literals.{others_left};
 ghost use Rattle.serde_content.specs.Variants.{index_among, variants};
 ghost use Rattle.serde_content.specs.RoundTrip.{ComesBack, CoercionKeeps};
 ghost use Rattle.serde_content.specs.Laws.Leaves.{heedless_keeps, natural_keeps, integer_keeps};
@@ -53,8 +52,9 @@ ghost use Rattle.check_derive.specs.declared.inlined.Change.TheVariants as chang
 use content_cbor::{CborRoundTrip, NotNull};
 use serde_content::de::{Deserialize, FieldsByName};
 use serde_content::derive_support::{
-    Names, OthersSkipped, ReadField, ReadFieldOr, ReadFields, SendEnd, SendEntry, SendField,
-    SendOpen, SendTag, TaggedVariants, no_such_variant, read_tagged, send_row, variant_index,
+    Names, OthersSkipped, ReadField, ReadFieldOr, ReadFields, ReadStruct, SendEnd, SendEntry,
+    SendField, SendOpen, SendTag, TaggedVariants, no_such_variant, read_flattened, read_struct,
+    read_tagged, send_row, variant_index,
 };
 use serde_content::ser::{Call, Serialize, Serializer};
 use serde_content::{Deserializer, Result, RoundTrip};
@@ -86,24 +86,30 @@ type Field1OfAmount = ReadField<FieldsOfAmount, 0, i32, Field2OfAmount>;
 
 type Field2OfAmount = ReadFieldOr<FieldsOfAmount, 1, Option<String>, OthersSkipped<FieldsOfAmount>>;
 
-/// Reads the fields, in any order.
-fn read_amount<'de, 'n: 'de>(alloc: Global, fields: FieldsByName<'de, 'n>) -> Result<Amount>
-    ensures { Reads (
-        (named_then (name "count") (⟦<i32 as Deserialize<'de>>⟧.refusal)
-        (named_or_then (name "unit") (⟦<Option<String> as Deserialize<'de>>⟧.refusal)
-        (others_skipped (name "count" ∷ name "unit" ∷ []))))
-        (fields_left fields.entry))
-        (λ z.
-        (NamedThen (name "count") (⟦<i32 as Deserialize<'de>>⟧.gives) z.count
-        (NamedOrThen (name "unit") (λ (x : (Option (String Global))). x ≡ None)
+impl<'de> ReadStruct<'de> for Amount {
+    ghost name = { name "Amount" };
+
+    ghost refusal = { row_then (name "count") (⟦<i32 as Deserialize<'de>>⟧.refusal)
+        (row_or_then (name "unit") (⟦<Option<String> as Deserialize<'de>>⟧.refusal)
+        (others_left (name "count" ∷ name "unit" ∷ []))) };
+
+    ghost gives = { λ z.
+        (RowThen (name "count") (⟦<i32 as Deserialize<'de>>⟧.gives) z.count
+        (RowOrThen (name "unit") (λ (x : (Option (String Global))). x ≡ None)
         (⟦<Option<String> as Deserialize<'de>>⟧.gives) z.unit
-        NoOthers))
-        (fields_left fields.entry)) result }
-{
-    let row: Field1OfAmount = ReadFields::read(alloc, fields)?;
-    let ReadField(count, row, _) = row;
-    let ReadFieldOr(unit, _, _) = row;
-    Ok(Amount { count, unit })
+        NoOthers)) };
+
+    #[tactic(auto, unfolding(serde_content::specs::Literals::name))]
+    fn name() -> &'static str {
+        "Amount"
+    }
+
+    fn read<'n: 'de>(alloc: Global, fields: FieldsByName<'de, 'n>) -> Result<Amount> {
+        let row: Field1OfAmount = ReadFields::read(alloc, fields)?;
+        let ReadField(count, row, _) = row;
+        let ReadFieldOr(unit, _, _) = row;
+        Ok(Amount { count, unit })
+    }
 }
 
 impl Serialize for Amount {
@@ -128,21 +134,18 @@ impl Serialize for Amount {
 
 impl<'de> Deserialize<'de> for Amount {
     ghost refusal = { struct_refusal (name "Amount") (read_by_name
-        (named_then (name "count") (⟦<i32 as Deserialize<'de>>⟧.refusal)
-        (named_or_then (name "unit") (⟦<Option<String> as Deserialize<'de>>⟧.refusal)
-        (others_skipped (name "count" ∷ name "unit" ∷ []))))) };
+        (row_then (name "count") (⟦<i32 as Deserialize<'de>>⟧.refusal)
+        (row_or_then (name "unit") (⟦<Option<String> as Deserialize<'de>>⟧.refusal)
+        (others_left (name "count" ∷ name "unit" ∷ []))))) };
 
     ghost gives = { λ s p. StructGives (name "Amount") (ReadByName
-        (NamedThen (name "count") (⟦<i32 as Deserialize<'de>>⟧.gives) p.count
-        (NamedOrThen (name "unit") (λ (x : (Option (String Global))). x ≡ None)
+        (RowThen (name "count") (⟦<i32 as Deserialize<'de>>⟧.gives) p.count
+        (RowOrThen (name "unit") (λ (x : (Option (String Global))). x ≡ None)
         (⟦<Option<String> as Deserialize<'de>>⟧.gives) p.unit
         NoOthers))) s };
 
     fn deserialize<'n: 'de>(alloc: Global, from: Deserializer<'de, 'n>) -> Result<Amount> {
-        let fields = from
-            .deserialize_struct(alloc, name_amount(), FieldsOfAmount::names())?
-            .by_name();
-        read_amount(alloc, fields)
+        read_struct::<FieldsOfAmount, Self>(alloc, from)
     }
 }
 
@@ -229,37 +232,36 @@ type Field3OfLine = ReadFieldOr<FieldsOfLine, 2, Option<String>, Field4OfLine>;
 
 type Field4OfLine = ReadField<FieldsOfLine, 3, u64, OthersSkipped<FieldsOfLine>>;
 
-/// Reads the fields, in any order.
-fn read_line<'de, 'n: 'de>(alloc: Global, fields: FieldsByName<'de, 'n>) -> Result<Line>
-    ensures { Reads (
-        (named_then (name "goods") (⟦<String as Deserialize<'de>>⟧.refusal)
-        (named_then (name "count") (⟦<i32 as Deserialize<'de>>⟧.refusal)
-        (named_or_then (name "unit") (⟦<Option<String> as Deserialize<'de>>⟧.refusal)
-        (named_then (name "price") (⟦<u64 as Deserialize<'de>>⟧.refusal)
-        (others_skipped (name "goods" ∷ name "count" ∷ name "unit" ∷ name "price" ∷ []))))))
-        (fields_left fields.entry))
-        (λ z.
-        (NamedThen (name "goods") (⟦<String as Deserialize<'de>>⟧.gives) z.goods
-        (NamedThen (name "count") (⟦<i32 as Deserialize<'de>>⟧.gives) z.amount.count
-        (NamedOrThen (name "unit") (λ (x : (Option (String Global))). x ≡ None)
+impl<'de> ReadFields<'de> for Line {
+    ghost refusal = { row_then (name "goods") (⟦<String as Deserialize<'de>>⟧.refusal)
+        (row_then (name "count") (⟦<i32 as Deserialize<'de>>⟧.refusal)
+        (row_or_then (name "unit") (⟦<Option<String> as Deserialize<'de>>⟧.refusal)
+        (row_then (name "price") (⟦<u64 as Deserialize<'de>>⟧.refusal)
+        (others_left (name "goods" ∷ name "count" ∷ name "unit" ∷ name "price" ∷ []))))) };
+
+    ghost gives = { λ z.
+        (RowThen (name "goods") (⟦<String as Deserialize<'de>>⟧.gives) z.goods
+        (RowThen (name "count") (⟦<i32 as Deserialize<'de>>⟧.gives) z.amount.count
+        (RowOrThen (name "unit") (λ (x : (Option (String Global))). x ≡ None)
         (⟦<Option<String> as Deserialize<'de>>⟧.gives) z.amount.unit
-        (NamedThen (name "price") (⟦<u64 as Deserialize<'de>>⟧.gives) z.price
-        NoOthers))))
-        (fields_left fields.entry)) result }
-{
-    let row: Field1OfLine = ReadFields::read(alloc, fields)?;
-    let ReadField(goods, row, _) = row;
-    let ReadField(amount_count, row, _) = row;
-    let ReadFieldOr(amount_unit, row, _) = row;
-    let ReadField(price, _, _) = row;
-    Ok(Line {
-        goods,
-        amount: Amount {
-            count: amount_count,
-            unit: amount_unit,
-        },
-        price,
-    })
+        (RowThen (name "price") (⟦<u64 as Deserialize<'de>>⟧.gives) z.price
+        NoOthers)))) };
+
+    fn read<'n: 'de>(alloc: Global, fields: FieldsByName<'de, 'n>) -> Result<Line> {
+        let row: Field1OfLine = ReadFields::read(alloc, fields)?;
+        let ReadField(goods, row, _) = row;
+        let ReadField(amount_count, row, _) = row;
+        let ReadFieldOr(amount_unit, row, _) = row;
+        let ReadField(price, _, _) = row;
+        Ok(Line {
+            goods,
+            amount: Amount {
+                count: amount_count,
+                unit: amount_unit,
+            },
+            price,
+        })
+    }
 }
 
 impl Serialize for Line {
@@ -291,24 +293,22 @@ impl Serialize for Line {
 
 impl<'de> Deserialize<'de> for Line {
     ghost refusal = { flattened_refusal (read_by_name
-        (named_then (name "goods") (⟦<String as Deserialize<'de>>⟧.refusal)
-        (named_then (name "count") (⟦<i32 as Deserialize<'de>>⟧.refusal)
-        (named_or_then (name "unit") (⟦<Option<String> as Deserialize<'de>>⟧.refusal)
-        (named_then (name "price") (⟦<u64 as Deserialize<'de>>⟧.refusal)
-        (others_skipped (name "goods" ∷ name "count" ∷ name "unit" ∷ name "price" ∷
-        []))))))) };
+        (row_then (name "goods") (⟦<String as Deserialize<'de>>⟧.refusal)
+        (row_then (name "count") (⟦<i32 as Deserialize<'de>>⟧.refusal)
+        (row_or_then (name "unit") (⟦<Option<String> as Deserialize<'de>>⟧.refusal)
+        (row_then (name "price") (⟦<u64 as Deserialize<'de>>⟧.refusal)
+        (others_left (name "goods" ∷ name "count" ∷ name "unit" ∷ name "price" ∷ []))))))) };
 
     ghost gives = { λ s p. FlattenedGives (ReadByName
-        (NamedThen (name "goods") (⟦<String as Deserialize<'de>>⟧.gives) p.goods
-        (NamedThen (name "count") (⟦<i32 as Deserialize<'de>>⟧.gives) p.amount.count
-        (NamedOrThen (name "unit") (λ (x : (Option (String Global))). x ≡ None)
+        (RowThen (name "goods") (⟦<String as Deserialize<'de>>⟧.gives) p.goods
+        (RowThen (name "count") (⟦<i32 as Deserialize<'de>>⟧.gives) p.amount.count
+        (RowOrThen (name "unit") (λ (x : (Option (String Global))). x ≡ None)
         (⟦<Option<String> as Deserialize<'de>>⟧.gives) p.amount.unit
-        (NamedThen (name "price") (⟦<u64 as Deserialize<'de>>⟧.gives) p.price
+        (RowThen (name "price") (⟦<u64 as Deserialize<'de>>⟧.gives) p.price
         NoOthers))))) s };
 
     fn deserialize<'n: 'de>(alloc: Global, from: Deserializer<'de, 'n>) -> Result<Line> {
-        let fields = from.deserialize_map(alloc)?.by_name();
-        read_line(alloc, fields)
+        read_flattened(alloc, from)
     }
 }
 
@@ -428,13 +428,13 @@ type Field2OfChangeAdd = ReadFieldOr<
 /// Reads the fields, in any order.
 fn read_change_add<'de, 'n: 'de>(alloc: Global, fields: FieldsByName<'de, 'n>) -> Result<Amount>
     ensures { Reads (
-        (named_then (name "count") (⟦<i32 as Deserialize<'de>>⟧.refusal)
-        (named_or_then (name "unit") (⟦<Option<String> as Deserialize<'de>>⟧.refusal)
-        (others_skipped (name "op" ∷ name "count" ∷ name "unit" ∷ []))))
+        (row_then (name "count") (⟦<i32 as Deserialize<'de>>⟧.refusal)
+        (row_or_then (name "unit") (⟦<Option<String> as Deserialize<'de>>⟧.refusal)
+        (others_left (name "op" ∷ name "count" ∷ name "unit" ∷ []))))
         (fields_left fields.entry))
         (λ z.
-        (NamedThen (name "count") (⟦<i32 as Deserialize<'de>>⟧.gives) z.count
-        (NamedOrThen (name "unit") (λ (x : (Option (String Global))). x ≡ None)
+        (RowThen (name "count") (⟦<i32 as Deserialize<'de>>⟧.gives) z.count
+        (RowOrThen (name "unit") (λ (x : (Option (String Global))). x ≡ None)
         (⟦<Option<String> as Deserialize<'de>>⟧.gives) z.unit
         NoOthers))
         (fields_left fields.entry)) result }
@@ -488,9 +488,9 @@ impl<'de> TaggedVariants<'de> for Change {
 
     ghost refusal = { variants ((
       name "add",
-      (named_then (name "count") (⟦<i32 as Deserialize<'de>>⟧.refusal)
-          (named_or_then (name "unit") (⟦<Option<String> as Deserialize<'de>>⟧.refusal)
-          (others_skipped (name "op" ∷ name "count" ∷ name "unit" ∷ [])))),
+      (row_then (name "count") (⟦<i32 as Deserialize<'de>>⟧.refusal)
+          (row_or_then (name "unit") (⟦<Option<String> as Deserialize<'de>>⟧.refusal)
+          (others_left (name "op" ∷ name "count" ∷ name "unit" ∷ [])))),
     )
         ∷ []) };
 
@@ -499,9 +499,9 @@ impl<'de> TaggedVariants<'de> for Change {
     ] };
 
     ghost held = { elim [
-      | change.Add x1 ↦ (NamedThen (name "count") (⟦<i32 as Deserialize<'de>>⟧.gives)
+      | change.Add x1 ↦ (RowThen (name "count") (⟦<i32 as Deserialize<'de>>⟧.gives)
           x1.count
-          (NamedOrThen (name "unit") (λ (x : (Option (String Global))). x ≡ None)
+          (RowOrThen (name "unit") (λ (x : (Option (String Global))). x ≡ None)
           (⟦<Option<String> as Deserialize<'de>>⟧.gives) x1.unit
           NoOthers))
     ] };
@@ -587,8 +587,8 @@ impl<'de> RoundTrip<'de> for Change {
             (tag_keeps_buffered (name "op") (name "add")
             ⟦<Change as TaggedVariants<'de>>⟧.refusal
             (λ (z : ℤ × (Option (String Global))).
-            (NamedThen (name "count") (⟦<i32 as Deserialize<'de>>⟧.gives) z.0
-            (NamedOrThen (name "unit") (λ (x : (Option (String Global))). x ≡ None)
+            (RowThen (name "count") (⟦<i32 as Deserialize<'de>>⟧.gives) z.0
+            (RowOrThen (name "unit") (λ (x : (Option (String Global))). x ≡ None)
             (⟦<Option<String> as Deserialize<'de>>⟧.gives) z.1
             NoOthers)))))).of_origin o people (x1.count, x1.unit)
             (record { free = p.free; given = p.given }) in

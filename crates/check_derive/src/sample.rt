@@ -28,9 +28,7 @@ ghost use Rattle.content_de.specs.Reads.Tuples.{part_then, end_of_parts, PartThe
 ghost use Rattle.content_de.specs.Accesses.ByName.{fields_left};
 ghost use Rattle.content_de.specs.Reads.Read.{Reads};
 ghost use Rattle.content_de.specs.Reads.Attempts.{IsTakenAs, or_next};
-ghost use Rattle.content_de.specs.Reads.ByName.{read_by_name, named_then, named_or_then};
-ghost use Rattle.content_de.specs.Reads.ByName.{others_skipped, no_others, ReadByName, NamedThen};
-ghost use Rattle.content_de.specs.Reads.ByName.{NamedOrThen, NoOthers};
+ghost use Rattle.content_de.specs.Reads.ByName.{read_by_name, no_others, ReadByName, NoOthers};
 ghost use Rattle.content_de.specs.Reads.Tagged.{tag_then, TagThen, tag_then_buffered};
 ghost use Rattle.content_de.specs.Reads.Tagged.{TagThenBuffered};
 ghost use Rattle.content_de.specs.Reads.Own.{enum_refusal, EnumGives, unit_struct_refusal};
@@ -40,7 +38,8 @@ ghost use Rattle.content_de.specs.Reads.Own.{tuple_struct_refusal, TupleStructGi
 ghost use Rattle.content_de.specs.Reads.Own.{tuple_variant_refusal, TupleVariantGives};
 ghost use Rattle.content_de.specs.Reads.Own.{struct_refusal, StructGives, struct_variant_refusal};
 ghost use Rattle.content_de.specs.Reads.Own.{StructVariantGives};
-ghost use Rattle.serde_content.specs.Literals.{name};
+ghost use Rattle.serde_content.specs.Literals.{name, row_then, row_or_then, RowThen, RowOrThen};
+ghost use Rattle.serde_content.specs.Literals.{others_left};
 ghost use Rattle.serde_content.specs.Variants.{index_among, variants};
 ghost use Rattle.serde_content.specs.RoundTrip.{ComesBack, CoercionKeeps};
 ghost use Rattle.serde_content.specs.Laws.Leaves.{heedless_keeps, natural_keeps, integer_keeps};
@@ -91,9 +90,10 @@ ghost use Rattle.check_derive.specs.declared.sample.WordInVariantRecord.TheVaria
 use serde_content::de::{Deserialize, FieldsByName, VariantAccess};
 use serde_content::derive_support::{
     Names, OneOfFour, OneOfThree, OthersRefused, OthersSkipped, PartsEnd, ReadField, ReadFieldOr,
-    ReadFields, ReadPart, ReadParts, SendElement, SendEnd, SendEntry, SendField, SendOpen,
-    SendPart, SendTag, TaggedVariants, Variants, first_of_four, first_of_three, no_such_variant,
-    read_adjacent, read_enum, read_tagged, send_row, variant_index,
+    ReadFields, ReadPart, ReadParts, ReadStruct, SendElement, SendEnd, SendEntry, SendField,
+    SendOpen, SendPart, SendTag, TaggedVariants, Variants, first_of_four, first_of_three,
+    no_such_variant, read_adjacent, read_enum, read_flattened, read_struct, read_tagged, send_row,
+    variant_index,
 };
 use serde_content::ser::{Call, Parts, Serialize, Serializer};
 use serde_content::{Deserializer, Result, RoundTrip};
@@ -122,23 +122,29 @@ type Field1OfOwn = ReadField<FieldsOfOwn, 0, u8, Field2OfOwn>;
 
 type Field2OfOwn = ReadField<FieldsOfOwn, 1, String, OthersSkipped<FieldsOfOwn>>;
 
-/// Reads the fields, in any order.
-fn read_own<'de, 'n: 'de>(alloc: Global, fields: FieldsByName<'de, 'n>) -> Result<Own>
-    ensures { Reads (
-        (named_then (name "a") (⟦<u8 as Deserialize<'de>>⟧.refusal)
-        (named_then (name "b") (⟦<String as Deserialize<'de>>⟧.refusal)
-        (others_skipped (name "a" ∷ name "b" ∷ []))))
-        (fields_left fields.entry))
-        (λ z.
-        (NamedThen (name "a") (⟦<u8 as Deserialize<'de>>⟧.gives) z.a
-        (NamedThen (name "b") (⟦<String as Deserialize<'de>>⟧.gives) z.b
-        NoOthers))
-        (fields_left fields.entry)) result }
-{
-    let row: Field1OfOwn = ReadFields::read(alloc, fields)?;
-    let ReadField(a, row, _) = row;
-    let ReadField(b, _, _) = row;
-    Ok(Own { a, b })
+impl<'de> ReadStruct<'de> for Own {
+    ghost name = { name "Own" };
+
+    ghost refusal = { row_then (name "a") (⟦<u8 as Deserialize<'de>>⟧.refusal)
+        (row_then (name "b") (⟦<String as Deserialize<'de>>⟧.refusal)
+        (others_left (name "a" ∷ name "b" ∷ []))) };
+
+    ghost gives = { λ z.
+        (RowThen (name "a") (⟦<u8 as Deserialize<'de>>⟧.gives) z.a
+        (RowThen (name "b") (⟦<String as Deserialize<'de>>⟧.gives) z.b
+        NoOthers)) };
+
+    #[tactic(auto, unfolding(serde_content::specs::Literals::name))]
+    fn name() -> &'static str {
+        "Own"
+    }
+
+    fn read<'n: 'de>(alloc: Global, fields: FieldsByName<'de, 'n>) -> Result<Own> {
+        let row: Field1OfOwn = ReadFields::read(alloc, fields)?;
+        let ReadField(a, row, _) = row;
+        let ReadField(b, _, _) = row;
+        Ok(Own { a, b })
+    }
 }
 
 impl Serialize for Own {
@@ -163,20 +169,17 @@ impl Serialize for Own {
 
 impl<'de> Deserialize<'de> for Own {
     ghost refusal = { struct_refusal (name "Own") (read_by_name
-        (named_then (name "a") (⟦<u8 as Deserialize<'de>>⟧.refusal)
-        (named_then (name "b") (⟦<String as Deserialize<'de>>⟧.refusal)
-        (others_skipped (name "a" ∷ name "b" ∷ []))))) };
+        (row_then (name "a") (⟦<u8 as Deserialize<'de>>⟧.refusal)
+        (row_then (name "b") (⟦<String as Deserialize<'de>>⟧.refusal)
+        (others_left (name "a" ∷ name "b" ∷ []))))) };
 
     ghost gives = { λ s p. StructGives (name "Own") (ReadByName
-        (NamedThen (name "a") (⟦<u8 as Deserialize<'de>>⟧.gives) p.a
-        (NamedThen (name "b") (⟦<String as Deserialize<'de>>⟧.gives) p.b
+        (RowThen (name "a") (⟦<u8 as Deserialize<'de>>⟧.gives) p.a
+        (RowThen (name "b") (⟦<String as Deserialize<'de>>⟧.gives) p.b
         NoOthers))) s };
 
     fn deserialize<'n: 'de>(alloc: Global, from: Deserializer<'de, 'n>) -> Result<Own> {
-        let fields = from
-            .deserialize_struct(alloc, name_own(), FieldsOfOwn::names())?
-            .by_name();
-        read_own(alloc, fields)
+        read_struct::<FieldsOfOwn, Self>(alloc, from)
     }
 }
 
@@ -363,23 +366,29 @@ type Field1OfDeep = ReadField<FieldsOfDeep, 0, Own, Field2OfDeep>;
 
 type Field2OfDeep = ReadField<FieldsOfDeep, 1, Vec<Deeper>, OthersSkipped<FieldsOfDeep>>;
 
-/// Reads the fields, in any order.
-fn read_deep<'de, 'n: 'de>(alloc: Global, fields: FieldsByName<'de, 'n>) -> Result<Deep>
-    ensures { Reads (
-        (named_then (name "own") (⟦<Own as Deserialize<'de>>⟧.refusal)
-        (named_then (name "deeper") (⟦<Vec<Deeper> as Deserialize<'de>>⟧.refusal)
-        (others_skipped (name "own" ∷ name "deeper" ∷ []))))
-        (fields_left fields.entry))
-        (λ z.
-        (NamedThen (name "own") (⟦<Own as Deserialize<'de>>⟧.gives) z.own
-        (NamedThen (name "deeper") (⟦<Vec<Deeper> as Deserialize<'de>>⟧.gives) z.deeper
-        NoOthers))
-        (fields_left fields.entry)) result }
-{
-    let row: Field1OfDeep = ReadFields::read(alloc, fields)?;
-    let ReadField(own, row, _) = row;
-    let ReadField(deeper, _, _) = row;
-    Ok(Deep { own, deeper })
+impl<'de> ReadStruct<'de> for Deep {
+    ghost name = { name "Deep" };
+
+    ghost refusal = { row_then (name "own") (⟦<Own as Deserialize<'de>>⟧.refusal)
+        (row_then (name "deeper") (⟦<Vec<Deeper> as Deserialize<'de>>⟧.refusal)
+        (others_left (name "own" ∷ name "deeper" ∷ []))) };
+
+    ghost gives = { λ z.
+        (RowThen (name "own") (⟦<Own as Deserialize<'de>>⟧.gives) z.own
+        (RowThen (name "deeper") (⟦<Vec<Deeper> as Deserialize<'de>>⟧.gives) z.deeper
+        NoOthers)) };
+
+    #[tactic(auto, unfolding(serde_content::specs::Literals::name))]
+    fn name() -> &'static str {
+        "Deep"
+    }
+
+    fn read<'n: 'de>(alloc: Global, fields: FieldsByName<'de, 'n>) -> Result<Deep> {
+        let row: Field1OfDeep = ReadFields::read(alloc, fields)?;
+        let ReadField(own, row, _) = row;
+        let ReadField(deeper, _, _) = row;
+        Ok(Deep { own, deeper })
+    }
 }
 
 impl Serialize for Deep {
@@ -408,20 +417,17 @@ impl Serialize for Deep {
 
 impl<'de> Deserialize<'de> for Deep {
     ghost refusal = { struct_refusal (name "Deep") (read_by_name
-        (named_then (name "own") (⟦<Own as Deserialize<'de>>⟧.refusal)
-        (named_then (name "deeper") (⟦<Vec<Deeper> as Deserialize<'de>>⟧.refusal)
-        (others_skipped (name "own" ∷ name "deeper" ∷ []))))) };
+        (row_then (name "own") (⟦<Own as Deserialize<'de>>⟧.refusal)
+        (row_then (name "deeper") (⟦<Vec<Deeper> as Deserialize<'de>>⟧.refusal)
+        (others_left (name "own" ∷ name "deeper" ∷ []))))) };
 
     ghost gives = { λ s p. StructGives (name "Deep") (ReadByName
-        (NamedThen (name "own") (⟦<Own as Deserialize<'de>>⟧.gives) p.own
-        (NamedThen (name "deeper") (⟦<Vec<Deeper> as Deserialize<'de>>⟧.gives) p.deeper
+        (RowThen (name "own") (⟦<Own as Deserialize<'de>>⟧.gives) p.own
+        (RowThen (name "deeper") (⟦<Vec<Deeper> as Deserialize<'de>>⟧.gives) p.deeper
         NoOthers))) s };
 
     fn deserialize<'n: 'de>(alloc: Global, from: Deserializer<'de, 'n>) -> Result<Deep> {
-        let fields = from
-            .deserialize_struct(alloc, name_deep(), FieldsOfDeep::names())?
-            .by_name();
-        read_deep(alloc, fields)
+        read_struct::<FieldsOfDeep, Self>(alloc, from)
     }
 }
 
@@ -565,101 +571,91 @@ type Field12OfStructMixed12 = ReadField<
     OthersSkipped<FieldsOfStructMixed12>,
 >;
 
-/// Values from place 9 on.
+/// The row from place 9 on.
 #[derive(Drop)]
-struct From9OfStructMixed12(String, u8, Option<u8>, bool);
+struct From9OfStructMixed12(Field9OfStructMixed12);
 
 impl<'de> ReadFields<'de> for From9OfStructMixed12 {
-    ghost refusal = { (named_then (name "f8") (⟦<String as Deserialize<'de>>⟧.refusal)
-        (named_then (name "f9") (⟦<u8 as Deserialize<'de>>⟧.refusal)
-        (named_or_then (name "f10") (⟦<Option<u8> as Deserialize<'de>>⟧.refusal)
-        (named_then (name "f11") (⟦<bool as Deserialize<'de>>⟧.refusal)
-        (others_skipped (name "f0" ∷ name "f1" ∷ name "f2" ∷ name "f3" ∷ name "f4" ∷
-        name "f5" ∷ name "f6" ∷ name "f7" ∷ name "f8" ∷ name "f9" ∷ name "f10" ∷ name "f11"
-        ∷ [])))))) };
+    ghost refusal = { ⟦<Field9OfStructMixed12 as ReadFields<'de>>⟧.refusal };
 
-    ghost gives = { λ z.
-        (NamedThen (name "f8") (⟦<String as Deserialize<'de>>⟧.gives) z.0
-        (NamedThen (name "f9") (⟦<u8 as Deserialize<'de>>⟧.gives) z.1
-        (NamedOrThen (name "f10") (λ (x : (Option ℕ)). x ≡ None)
-        (⟦<Option<u8> as Deserialize<'de>>⟧.gives) z.2
-        (NamedThen (name "f11") (⟦<bool as Deserialize<'de>>⟧.gives) z.3
-        NoOthers)))) };
+    ghost gives = { λ z. ⟦<Field9OfStructMixed12 as ReadFields<'de>>⟧.gives z.0 };
 
     fn read<'n: 'de>(alloc: Global, fields: FieldsByName<'de, 'n>) -> Result<Self> {
-        let row: Field9OfStructMixed12 = ReadFields::read(alloc, fields)?;
-        let ReadField(x1, row, _) = row;
-        let ReadField(x2, row, _) = row;
-        let ReadFieldOr(x3, row, _) = row;
-        let ReadField(x4, _, _) = row;
-        Ok(From9OfStructMixed12(x1, x2, x3, x4))
+        Ok(From9OfStructMixed12(ReadFields::read(alloc, fields)?))
     }
 }
 
-/// Reads the fields, in any order.
-fn read_struct_mixed12<'de, 'n: 'de>(
-    alloc: Global,
-    fields: FieldsByName<'de, 'n>,
-) -> Result<StructMixed12>
-    ensures { Reads (
-        (named_then (name "f0") (⟦<String as Deserialize<'de>>⟧.refusal)
-        (named_then (name "f1") (⟦<u8 as Deserialize<'de>>⟧.refusal)
-        (named_or_then (name "f2") (⟦<Option<u8> as Deserialize<'de>>⟧.refusal)
-        (named_then (name "f3") (⟦<bool as Deserialize<'de>>⟧.refusal)
-        (named_then (name "f4") (⟦<i32 as Deserialize<'de>>⟧.refusal)
-        (named_then (name "f5") (⟦<Vec<u8> as Deserialize<'de>>⟧.refusal)
-        (named_then (name "f6") (⟦<char as Deserialize<'de>>⟧.refusal)
-        (named_then (name "f7") (⟦<u64 as Deserialize<'de>>⟧.refusal)
-        (named_then (name "f8") (⟦<String as Deserialize<'de>>⟧.refusal)
-        (named_then (name "f9") (⟦<u8 as Deserialize<'de>>⟧.refusal)
-        (named_or_then (name "f10") (⟦<Option<u8> as Deserialize<'de>>⟧.refusal)
-        (named_then (name "f11") (⟦<bool as Deserialize<'de>>⟧.refusal)
-        (others_skipped (name "f0" ∷ name "f1" ∷ name "f2" ∷ name "f3" ∷ name "f4" ∷
-        name "f5" ∷ name "f6" ∷ name "f7" ∷ name "f8" ∷ name "f9" ∷ name "f10" ∷ name "f11"
-        ∷ []))))))))))))))
-        (fields_left fields.entry))
-        (λ z.
-        (NamedThen (name "f0") (⟦<String as Deserialize<'de>>⟧.gives) z.f0
-        (NamedThen (name "f1") (⟦<u8 as Deserialize<'de>>⟧.gives) z.f1
-        (NamedOrThen (name "f2") (λ (x : (Option ℕ)). x ≡ None)
+impl<'de> ReadStruct<'de> for StructMixed12 {
+    ghost name = { name "StructMixed12" };
+
+    ghost refusal = { row_then (name "f0") (⟦<String as Deserialize<'de>>⟧.refusal)
+        (row_then (name "f1") (⟦<u8 as Deserialize<'de>>⟧.refusal)
+        (row_or_then (name "f2") (⟦<Option<u8> as Deserialize<'de>>⟧.refusal)
+        (row_then (name "f3") (⟦<bool as Deserialize<'de>>⟧.refusal)
+        (row_then (name "f4") (⟦<i32 as Deserialize<'de>>⟧.refusal)
+        (row_then (name "f5") (⟦<Vec<u8> as Deserialize<'de>>⟧.refusal)
+        (row_then (name "f6") (⟦<char as Deserialize<'de>>⟧.refusal)
+        (row_then (name "f7") (⟦<u64 as Deserialize<'de>>⟧.refusal)
+        (row_then (name "f8") (⟦<String as Deserialize<'de>>⟧.refusal)
+        (row_then (name "f9") (⟦<u8 as Deserialize<'de>>⟧.refusal)
+        (row_or_then (name "f10") (⟦<Option<u8> as Deserialize<'de>>⟧.refusal)
+        (row_then (name "f11") (⟦<bool as Deserialize<'de>>⟧.refusal)
+        (others_left (name "f0" ∷ name "f1" ∷ name "f2" ∷ name "f3" ∷ name "f4" ∷ name "f5"
+        ∷ name "f6" ∷ name "f7" ∷ name "f8" ∷ name "f9" ∷ name "f10" ∷ name "f11" ∷
+        []))))))))))))) };
+
+    ghost gives = { λ z.
+        (RowThen (name "f0") (⟦<String as Deserialize<'de>>⟧.gives) z.f0
+        (RowThen (name "f1") (⟦<u8 as Deserialize<'de>>⟧.gives) z.f1
+        (RowOrThen (name "f2") (λ (x : (Option ℕ)). x ≡ None)
         (⟦<Option<u8> as Deserialize<'de>>⟧.gives) z.f2
-        (NamedThen (name "f3") (⟦<bool as Deserialize<'de>>⟧.gives) z.f3
-        (NamedThen (name "f4") (⟦<i32 as Deserialize<'de>>⟧.gives) z.f4
-        (NamedThen (name "f5") (⟦<Vec<u8> as Deserialize<'de>>⟧.gives) z.f5
-        (NamedThen (name "f6") (⟦<char as Deserialize<'de>>⟧.gives) z.f6
-        (NamedThen (name "f7") (⟦<u64 as Deserialize<'de>>⟧.gives) z.f7
-        (NamedThen (name "f8") (⟦<String as Deserialize<'de>>⟧.gives) z.f8
-        (NamedThen (name "f9") (⟦<u8 as Deserialize<'de>>⟧.gives) z.f9
-        (NamedOrThen (name "f10") (λ (x : (Option ℕ)). x ≡ None)
+        (RowThen (name "f3") (⟦<bool as Deserialize<'de>>⟧.gives) z.f3
+        (RowThen (name "f4") (⟦<i32 as Deserialize<'de>>⟧.gives) z.f4
+        (RowThen (name "f5") (⟦<Vec<u8> as Deserialize<'de>>⟧.gives) z.f5
+        (RowThen (name "f6") (⟦<char as Deserialize<'de>>⟧.gives) z.f6
+        (RowThen (name "f7") (⟦<u64 as Deserialize<'de>>⟧.gives) z.f7
+        (RowThen (name "f8") (⟦<String as Deserialize<'de>>⟧.gives) z.f8
+        (RowThen (name "f9") (⟦<u8 as Deserialize<'de>>⟧.gives) z.f9
+        (RowOrThen (name "f10") (λ (x : (Option ℕ)). x ≡ None)
         (⟦<Option<u8> as Deserialize<'de>>⟧.gives) z.f10
-        (NamedThen (name "f11") (⟦<bool as Deserialize<'de>>⟧.gives) z.f11
-        NoOthers))))))))))))
-        (fields_left fields.entry)) result }
-{
-    let row: Field1OfStructMixed12 = ReadFields::read(alloc, fields)?;
-    let ReadField(f0, row, _) = row;
-    let ReadField(f1, row, _) = row;
-    let ReadFieldOr(f2, row, _) = row;
-    let ReadField(f3, row, _) = row;
-    let ReadField(f4, row, _) = row;
-    let ReadField(f5, row, _) = row;
-    let ReadField(f6, row, _) = row;
-    let ReadField(f7, row, _) = row;
-    let From9OfStructMixed12(f8, f9, f10, f11) = row;
-    Ok(StructMixed12 {
-        f0,
-        f1,
-        f2,
-        f3,
-        f4,
-        f5,
-        f6,
-        f7,
-        f8,
-        f9,
-        f10,
-        f11,
-    })
+        (RowThen (name "f11") (⟦<bool as Deserialize<'de>>⟧.gives) z.f11
+        NoOthers)))))))))))) };
+
+    #[tactic(auto, unfolding(serde_content::specs::Literals::name))]
+    fn name() -> &'static str {
+        "StructMixed12"
+    }
+
+    fn read<'n: 'de>(alloc: Global, fields: FieldsByName<'de, 'n>) -> Result<StructMixed12> {
+        let row: Field1OfStructMixed12 = ReadFields::read(alloc, fields)?;
+        let ReadField(f0, row, _) = row;
+        let ReadField(f1, row, _) = row;
+        let ReadFieldOr(f2, row, _) = row;
+        let ReadField(f3, row, _) = row;
+        let ReadField(f4, row, _) = row;
+        let ReadField(f5, row, _) = row;
+        let ReadField(f6, row, _) = row;
+        let ReadField(f7, row, _) = row;
+        let From9OfStructMixed12(row) = row;
+        let ReadField(f8, row, _) = row;
+        let ReadField(f9, row, _) = row;
+        let ReadFieldOr(f10, row, _) = row;
+        let ReadField(f11, _, _) = row;
+        Ok(StructMixed12 {
+            f0,
+            f1,
+            f2,
+            f3,
+            f4,
+            f5,
+            f6,
+            f7,
+            f8,
+            f9,
+            f10,
+            f11,
+        })
+    }
 }
 
 impl Serialize for StructMixed12 {
@@ -714,44 +710,41 @@ impl Serialize for StructMixed12 {
 
 impl<'de> Deserialize<'de> for StructMixed12 {
     ghost refusal = { struct_refusal (name "StructMixed12") (read_by_name
-        (named_then (name "f0") (⟦<String as Deserialize<'de>>⟧.refusal)
-        (named_then (name "f1") (⟦<u8 as Deserialize<'de>>⟧.refusal)
-        (named_or_then (name "f2") (⟦<Option<u8> as Deserialize<'de>>⟧.refusal)
-        (named_then (name "f3") (⟦<bool as Deserialize<'de>>⟧.refusal)
-        (named_then (name "f4") (⟦<i32 as Deserialize<'de>>⟧.refusal)
-        (named_then (name "f5") (⟦<Vec<u8> as Deserialize<'de>>⟧.refusal)
-        (named_then (name "f6") (⟦<char as Deserialize<'de>>⟧.refusal)
-        (named_then (name "f7") (⟦<u64 as Deserialize<'de>>⟧.refusal)
-        (named_then (name "f8") (⟦<String as Deserialize<'de>>⟧.refusal)
-        (named_then (name "f9") (⟦<u8 as Deserialize<'de>>⟧.refusal)
-        (named_or_then (name "f10") (⟦<Option<u8> as Deserialize<'de>>⟧.refusal)
-        (named_then (name "f11") (⟦<bool as Deserialize<'de>>⟧.refusal)
-        (others_skipped (name "f0" ∷ name "f1" ∷ name "f2" ∷ name "f3" ∷ name "f4" ∷
-        name "f5" ∷ name "f6" ∷ name "f7" ∷ name "f8" ∷ name "f9" ∷ name "f10" ∷ name "f11"
-        ∷ []))))))))))))))) };
+        (row_then (name "f0") (⟦<String as Deserialize<'de>>⟧.refusal)
+        (row_then (name "f1") (⟦<u8 as Deserialize<'de>>⟧.refusal)
+        (row_or_then (name "f2") (⟦<Option<u8> as Deserialize<'de>>⟧.refusal)
+        (row_then (name "f3") (⟦<bool as Deserialize<'de>>⟧.refusal)
+        (row_then (name "f4") (⟦<i32 as Deserialize<'de>>⟧.refusal)
+        (row_then (name "f5") (⟦<Vec<u8> as Deserialize<'de>>⟧.refusal)
+        (row_then (name "f6") (⟦<char as Deserialize<'de>>⟧.refusal)
+        (row_then (name "f7") (⟦<u64 as Deserialize<'de>>⟧.refusal)
+        (row_then (name "f8") (⟦<String as Deserialize<'de>>⟧.refusal)
+        (row_then (name "f9") (⟦<u8 as Deserialize<'de>>⟧.refusal)
+        (row_or_then (name "f10") (⟦<Option<u8> as Deserialize<'de>>⟧.refusal)
+        (row_then (name "f11") (⟦<bool as Deserialize<'de>>⟧.refusal)
+        (others_left (name "f0" ∷ name "f1" ∷ name "f2" ∷ name "f3" ∷ name "f4" ∷ name "f5"
+        ∷ name "f6" ∷ name "f7" ∷ name "f8" ∷ name "f9" ∷ name "f10" ∷ name "f11" ∷
+        []))))))))))))))) };
 
     ghost gives = { λ s p. StructGives (name "StructMixed12") (ReadByName
-        (NamedThen (name "f0") (⟦<String as Deserialize<'de>>⟧.gives) p.f0
-        (NamedThen (name "f1") (⟦<u8 as Deserialize<'de>>⟧.gives) p.f1
-        (NamedOrThen (name "f2") (λ (x : (Option ℕ)). x ≡ None)
+        (RowThen (name "f0") (⟦<String as Deserialize<'de>>⟧.gives) p.f0
+        (RowThen (name "f1") (⟦<u8 as Deserialize<'de>>⟧.gives) p.f1
+        (RowOrThen (name "f2") (λ (x : (Option ℕ)). x ≡ None)
         (⟦<Option<u8> as Deserialize<'de>>⟧.gives) p.f2
-        (NamedThen (name "f3") (⟦<bool as Deserialize<'de>>⟧.gives) p.f3
-        (NamedThen (name "f4") (⟦<i32 as Deserialize<'de>>⟧.gives) p.f4
-        (NamedThen (name "f5") (⟦<Vec<u8> as Deserialize<'de>>⟧.gives) p.f5
-        (NamedThen (name "f6") (⟦<char as Deserialize<'de>>⟧.gives) p.f6
-        (NamedThen (name "f7") (⟦<u64 as Deserialize<'de>>⟧.gives) p.f7
-        (NamedThen (name "f8") (⟦<String as Deserialize<'de>>⟧.gives) p.f8
-        (NamedThen (name "f9") (⟦<u8 as Deserialize<'de>>⟧.gives) p.f9
-        (NamedOrThen (name "f10") (λ (x : (Option ℕ)). x ≡ None)
+        (RowThen (name "f3") (⟦<bool as Deserialize<'de>>⟧.gives) p.f3
+        (RowThen (name "f4") (⟦<i32 as Deserialize<'de>>⟧.gives) p.f4
+        (RowThen (name "f5") (⟦<Vec<u8> as Deserialize<'de>>⟧.gives) p.f5
+        (RowThen (name "f6") (⟦<char as Deserialize<'de>>⟧.gives) p.f6
+        (RowThen (name "f7") (⟦<u64 as Deserialize<'de>>⟧.gives) p.f7
+        (RowThen (name "f8") (⟦<String as Deserialize<'de>>⟧.gives) p.f8
+        (RowThen (name "f9") (⟦<u8 as Deserialize<'de>>⟧.gives) p.f9
+        (RowOrThen (name "f10") (λ (x : (Option ℕ)). x ≡ None)
         (⟦<Option<u8> as Deserialize<'de>>⟧.gives) p.f10
-        (NamedThen (name "f11") (⟦<bool as Deserialize<'de>>⟧.gives) p.f11
+        (RowThen (name "f11") (⟦<bool as Deserialize<'de>>⟧.gives) p.f11
         NoOthers))))))))))))) s };
 
     fn deserialize<'n: 'de>(alloc: Global, from: Deserializer<'de, 'n>) -> Result<StructMixed12> {
-        let fields = from
-            .deserialize_struct(alloc, name_struct_mixed12(), FieldsOfStructMixed12::names())?
-            .by_name();
-        read_struct_mixed12(alloc, fields)
+        read_struct::<FieldsOfStructMixed12, Self>(alloc, from)
     }
 }
 
@@ -890,78 +883,76 @@ type Field9OfStructByte9 = ReadField<
     OthersSkipped<FieldsOfStructByte9>,
 >;
 
-/// Values from place 9 on.
+/// The row from place 9 on.
 #[derive(Drop)]
-struct From9OfStructByte9(u8);
+struct From9OfStructByte9(Field9OfStructByte9);
 
 impl<'de> ReadFields<'de> for From9OfStructByte9 {
-    ghost refusal = { (named_then (name "f8") (⟦<u8 as Deserialize<'de>>⟧.refusal)
-        (others_skipped (name "f0" ∷ name "f1" ∷ name "f2" ∷ name "f3" ∷ name "f4" ∷
-        name "f5" ∷ name "f6" ∷ name "f7" ∷ name "f8" ∷ []))) };
+    ghost refusal = { ⟦<Field9OfStructByte9 as ReadFields<'de>>⟧.refusal };
 
-    ghost gives = { λ z.
-        (NamedThen (name "f8") (⟦<u8 as Deserialize<'de>>⟧.gives) z.0
-        NoOthers) };
+    ghost gives = { λ z. ⟦<Field9OfStructByte9 as ReadFields<'de>>⟧.gives z.0 };
 
     fn read<'n: 'de>(alloc: Global, fields: FieldsByName<'de, 'n>) -> Result<Self> {
-        let row: Field9OfStructByte9 = ReadFields::read(alloc, fields)?;
-        let ReadField(x1, _, _) = row;
-        Ok(From9OfStructByte9(x1))
+        Ok(From9OfStructByte9(ReadFields::read(alloc, fields)?))
     }
 }
 
-/// Reads the fields, in any order.
-fn read_struct_byte9<'de, 'n: 'de>(
-    alloc: Global,
-    fields: FieldsByName<'de, 'n>,
-) -> Result<StructByte9>
-    ensures { Reads (
-        (named_then (name "f0") (⟦<u8 as Deserialize<'de>>⟧.refusal)
-        (named_then (name "f1") (⟦<u8 as Deserialize<'de>>⟧.refusal)
-        (named_then (name "f2") (⟦<u8 as Deserialize<'de>>⟧.refusal)
-        (named_then (name "f3") (⟦<u8 as Deserialize<'de>>⟧.refusal)
-        (named_then (name "f4") (⟦<u8 as Deserialize<'de>>⟧.refusal)
-        (named_then (name "f5") (⟦<u8 as Deserialize<'de>>⟧.refusal)
-        (named_then (name "f6") (⟦<u8 as Deserialize<'de>>⟧.refusal)
-        (named_then (name "f7") (⟦<u8 as Deserialize<'de>>⟧.refusal)
-        (named_then (name "f8") (⟦<u8 as Deserialize<'de>>⟧.refusal)
-        (others_skipped (name "f0" ∷ name "f1" ∷ name "f2" ∷ name "f3" ∷ name "f4" ∷
-        name "f5" ∷ name "f6" ∷ name "f7" ∷ name "f8" ∷ [])))))))))))
-        (fields_left fields.entry))
-        (λ z.
-        (NamedThen (name "f0") (⟦<u8 as Deserialize<'de>>⟧.gives) z.f0
-        (NamedThen (name "f1") (⟦<u8 as Deserialize<'de>>⟧.gives) z.f1
-        (NamedThen (name "f2") (⟦<u8 as Deserialize<'de>>⟧.gives) z.f2
-        (NamedThen (name "f3") (⟦<u8 as Deserialize<'de>>⟧.gives) z.f3
-        (NamedThen (name "f4") (⟦<u8 as Deserialize<'de>>⟧.gives) z.f4
-        (NamedThen (name "f5") (⟦<u8 as Deserialize<'de>>⟧.gives) z.f5
-        (NamedThen (name "f6") (⟦<u8 as Deserialize<'de>>⟧.gives) z.f6
-        (NamedThen (name "f7") (⟦<u8 as Deserialize<'de>>⟧.gives) z.f7
-        (NamedThen (name "f8") (⟦<u8 as Deserialize<'de>>⟧.gives) z.f8
-        NoOthers)))))))))
-        (fields_left fields.entry)) result }
-{
-    let row: Field1OfStructByte9 = ReadFields::read(alloc, fields)?;
-    let ReadField(f0, row, _) = row;
-    let ReadField(f1, row, _) = row;
-    let ReadField(f2, row, _) = row;
-    let ReadField(f3, row, _) = row;
-    let ReadField(f4, row, _) = row;
-    let ReadField(f5, row, _) = row;
-    let ReadField(f6, row, _) = row;
-    let ReadField(f7, row, _) = row;
-    let From9OfStructByte9(f8) = row;
-    Ok(StructByte9 {
-        f0,
-        f1,
-        f2,
-        f3,
-        f4,
-        f5,
-        f6,
-        f7,
-        f8,
-    })
+impl<'de> ReadStruct<'de> for StructByte9 {
+    ghost name = { name "StructByte9" };
+
+    ghost refusal = { row_then (name "f0") (⟦<u8 as Deserialize<'de>>⟧.refusal)
+        (row_then (name "f1") (⟦<u8 as Deserialize<'de>>⟧.refusal)
+        (row_then (name "f2") (⟦<u8 as Deserialize<'de>>⟧.refusal)
+        (row_then (name "f3") (⟦<u8 as Deserialize<'de>>⟧.refusal)
+        (row_then (name "f4") (⟦<u8 as Deserialize<'de>>⟧.refusal)
+        (row_then (name "f5") (⟦<u8 as Deserialize<'de>>⟧.refusal)
+        (row_then (name "f6") (⟦<u8 as Deserialize<'de>>⟧.refusal)
+        (row_then (name "f7") (⟦<u8 as Deserialize<'de>>⟧.refusal)
+        (row_then (name "f8") (⟦<u8 as Deserialize<'de>>⟧.refusal)
+        (others_left (name "f0" ∷ name "f1" ∷ name "f2" ∷ name "f3" ∷ name "f4" ∷ name "f5"
+        ∷ name "f6" ∷ name "f7" ∷ name "f8" ∷ [])))))))))) };
+
+    ghost gives = { λ z.
+        (RowThen (name "f0") (⟦<u8 as Deserialize<'de>>⟧.gives) z.f0
+        (RowThen (name "f1") (⟦<u8 as Deserialize<'de>>⟧.gives) z.f1
+        (RowThen (name "f2") (⟦<u8 as Deserialize<'de>>⟧.gives) z.f2
+        (RowThen (name "f3") (⟦<u8 as Deserialize<'de>>⟧.gives) z.f3
+        (RowThen (name "f4") (⟦<u8 as Deserialize<'de>>⟧.gives) z.f4
+        (RowThen (name "f5") (⟦<u8 as Deserialize<'de>>⟧.gives) z.f5
+        (RowThen (name "f6") (⟦<u8 as Deserialize<'de>>⟧.gives) z.f6
+        (RowThen (name "f7") (⟦<u8 as Deserialize<'de>>⟧.gives) z.f7
+        (RowThen (name "f8") (⟦<u8 as Deserialize<'de>>⟧.gives) z.f8
+        NoOthers))))))))) };
+
+    #[tactic(auto, unfolding(serde_content::specs::Literals::name))]
+    fn name() -> &'static str {
+        "StructByte9"
+    }
+
+    fn read<'n: 'de>(alloc: Global, fields: FieldsByName<'de, 'n>) -> Result<StructByte9> {
+        let row: Field1OfStructByte9 = ReadFields::read(alloc, fields)?;
+        let ReadField(f0, row, _) = row;
+        let ReadField(f1, row, _) = row;
+        let ReadField(f2, row, _) = row;
+        let ReadField(f3, row, _) = row;
+        let ReadField(f4, row, _) = row;
+        let ReadField(f5, row, _) = row;
+        let ReadField(f6, row, _) = row;
+        let ReadField(f7, row, _) = row;
+        let From9OfStructByte9(row) = row;
+        let ReadField(f8, _, _) = row;
+        Ok(StructByte9 {
+            f0,
+            f1,
+            f2,
+            f3,
+            f4,
+            f5,
+            f6,
+            f7,
+            f8,
+        })
+    }
 }
 
 impl Serialize for StructByte9 {
@@ -1007,35 +998,32 @@ impl Serialize for StructByte9 {
 
 impl<'de> Deserialize<'de> for StructByte9 {
     ghost refusal = { struct_refusal (name "StructByte9") (read_by_name
-        (named_then (name "f0") (⟦<u8 as Deserialize<'de>>⟧.refusal)
-        (named_then (name "f1") (⟦<u8 as Deserialize<'de>>⟧.refusal)
-        (named_then (name "f2") (⟦<u8 as Deserialize<'de>>⟧.refusal)
-        (named_then (name "f3") (⟦<u8 as Deserialize<'de>>⟧.refusal)
-        (named_then (name "f4") (⟦<u8 as Deserialize<'de>>⟧.refusal)
-        (named_then (name "f5") (⟦<u8 as Deserialize<'de>>⟧.refusal)
-        (named_then (name "f6") (⟦<u8 as Deserialize<'de>>⟧.refusal)
-        (named_then (name "f7") (⟦<u8 as Deserialize<'de>>⟧.refusal)
-        (named_then (name "f8") (⟦<u8 as Deserialize<'de>>⟧.refusal)
-        (others_skipped (name "f0" ∷ name "f1" ∷ name "f2" ∷ name "f3" ∷ name "f4" ∷
-        name "f5" ∷ name "f6" ∷ name "f7" ∷ name "f8" ∷ [])))))))))))) };
+        (row_then (name "f0") (⟦<u8 as Deserialize<'de>>⟧.refusal)
+        (row_then (name "f1") (⟦<u8 as Deserialize<'de>>⟧.refusal)
+        (row_then (name "f2") (⟦<u8 as Deserialize<'de>>⟧.refusal)
+        (row_then (name "f3") (⟦<u8 as Deserialize<'de>>⟧.refusal)
+        (row_then (name "f4") (⟦<u8 as Deserialize<'de>>⟧.refusal)
+        (row_then (name "f5") (⟦<u8 as Deserialize<'de>>⟧.refusal)
+        (row_then (name "f6") (⟦<u8 as Deserialize<'de>>⟧.refusal)
+        (row_then (name "f7") (⟦<u8 as Deserialize<'de>>⟧.refusal)
+        (row_then (name "f8") (⟦<u8 as Deserialize<'de>>⟧.refusal)
+        (others_left (name "f0" ∷ name "f1" ∷ name "f2" ∷ name "f3" ∷ name "f4" ∷ name "f5"
+        ∷ name "f6" ∷ name "f7" ∷ name "f8" ∷ [])))))))))))) };
 
     ghost gives = { λ s p. StructGives (name "StructByte9") (ReadByName
-        (NamedThen (name "f0") (⟦<u8 as Deserialize<'de>>⟧.gives) p.f0
-        (NamedThen (name "f1") (⟦<u8 as Deserialize<'de>>⟧.gives) p.f1
-        (NamedThen (name "f2") (⟦<u8 as Deserialize<'de>>⟧.gives) p.f2
-        (NamedThen (name "f3") (⟦<u8 as Deserialize<'de>>⟧.gives) p.f3
-        (NamedThen (name "f4") (⟦<u8 as Deserialize<'de>>⟧.gives) p.f4
-        (NamedThen (name "f5") (⟦<u8 as Deserialize<'de>>⟧.gives) p.f5
-        (NamedThen (name "f6") (⟦<u8 as Deserialize<'de>>⟧.gives) p.f6
-        (NamedThen (name "f7") (⟦<u8 as Deserialize<'de>>⟧.gives) p.f7
-        (NamedThen (name "f8") (⟦<u8 as Deserialize<'de>>⟧.gives) p.f8
+        (RowThen (name "f0") (⟦<u8 as Deserialize<'de>>⟧.gives) p.f0
+        (RowThen (name "f1") (⟦<u8 as Deserialize<'de>>⟧.gives) p.f1
+        (RowThen (name "f2") (⟦<u8 as Deserialize<'de>>⟧.gives) p.f2
+        (RowThen (name "f3") (⟦<u8 as Deserialize<'de>>⟧.gives) p.f3
+        (RowThen (name "f4") (⟦<u8 as Deserialize<'de>>⟧.gives) p.f4
+        (RowThen (name "f5") (⟦<u8 as Deserialize<'de>>⟧.gives) p.f5
+        (RowThen (name "f6") (⟦<u8 as Deserialize<'de>>⟧.gives) p.f6
+        (RowThen (name "f7") (⟦<u8 as Deserialize<'de>>⟧.gives) p.f7
+        (RowThen (name "f8") (⟦<u8 as Deserialize<'de>>⟧.gives) p.f8
         NoOthers)))))))))) s };
 
     fn deserialize<'n: 'de>(alloc: Global, from: Deserializer<'de, 'n>) -> Result<StructByte9> {
-        let fields = from
-            .deserialize_struct(alloc, name_struct_byte9(), FieldsOfStructByte9::names())?
-            .by_name();
-        read_struct_byte9(alloc, fields)
+        read_struct::<FieldsOfStructByte9, Self>(alloc, from)
     }
 }
 
@@ -1111,44 +1099,50 @@ type Field5OfClosed6 = ReadField<FieldsOfClosed6, 4, i32, Field6OfClosed6>;
 
 type Field6OfClosed6 = ReadField<FieldsOfClosed6, 5, Vec<u8>, OthersRefused<FieldsOfClosed6>>;
 
-/// Reads the fields, in any order.
-fn read_closed6<'de, 'n: 'de>(alloc: Global, fields: FieldsByName<'de, 'n>) -> Result<Closed6>
-    ensures { Reads (
-        (named_then (name "f0") (⟦<String as Deserialize<'de>>⟧.refusal)
-        (named_then (name "f1") (⟦<u8 as Deserialize<'de>>⟧.refusal)
-        (named_or_then (name "f2") (⟦<Option<u8> as Deserialize<'de>>⟧.refusal)
-        (named_then (name "f3") (⟦<bool as Deserialize<'de>>⟧.refusal)
-        (named_then (name "f4") (⟦<i32 as Deserialize<'de>>⟧.refusal)
-        (named_then (name "f5") (⟦<Vec<u8> as Deserialize<'de>>⟧.refusal)
+impl<'de> ReadStruct<'de> for Closed6 {
+    ghost name = { name "Closed6" };
+
+    ghost refusal = { row_then (name "f0") (⟦<String as Deserialize<'de>>⟧.refusal)
+        (row_then (name "f1") (⟦<u8 as Deserialize<'de>>⟧.refusal)
+        (row_or_then (name "f2") (⟦<Option<u8> as Deserialize<'de>>⟧.refusal)
+        (row_then (name "f3") (⟦<bool as Deserialize<'de>>⟧.refusal)
+        (row_then (name "f4") (⟦<i32 as Deserialize<'de>>⟧.refusal)
+        (row_then (name "f5") (⟦<Vec<u8> as Deserialize<'de>>⟧.refusal)
         (no_others (name "f0" ∷ name "f1" ∷ name "f2" ∷ name "f3" ∷ name "f4" ∷ name "f5" ∷
-        []))))))))
-        (fields_left fields.entry))
-        (λ z.
-        (NamedThen (name "f0") (⟦<String as Deserialize<'de>>⟧.gives) z.f0
-        (NamedThen (name "f1") (⟦<u8 as Deserialize<'de>>⟧.gives) z.f1
-        (NamedOrThen (name "f2") (λ (x : (Option ℕ)). x ≡ None)
+        []))))))) };
+
+    ghost gives = { λ z.
+        (RowThen (name "f0") (⟦<String as Deserialize<'de>>⟧.gives) z.f0
+        (RowThen (name "f1") (⟦<u8 as Deserialize<'de>>⟧.gives) z.f1
+        (RowOrThen (name "f2") (λ (x : (Option ℕ)). x ≡ None)
         (⟦<Option<u8> as Deserialize<'de>>⟧.gives) z.f2
-        (NamedThen (name "f3") (⟦<bool as Deserialize<'de>>⟧.gives) z.f3
-        (NamedThen (name "f4") (⟦<i32 as Deserialize<'de>>⟧.gives) z.f4
-        (NamedThen (name "f5") (⟦<Vec<u8> as Deserialize<'de>>⟧.gives) z.f5
-        NoOthers))))))
-        (fields_left fields.entry)) result }
-{
-    let row: Field1OfClosed6 = ReadFields::read(alloc, fields)?;
-    let ReadField(f0, row, _) = row;
-    let ReadField(f1, row, _) = row;
-    let ReadFieldOr(f2, row, _) = row;
-    let ReadField(f3, row, _) = row;
-    let ReadField(f4, row, _) = row;
-    let ReadField(f5, _, _) = row;
-    Ok(Closed6 {
-        f0,
-        f1,
-        f2,
-        f3,
-        f4,
-        f5,
-    })
+        (RowThen (name "f3") (⟦<bool as Deserialize<'de>>⟧.gives) z.f3
+        (RowThen (name "f4") (⟦<i32 as Deserialize<'de>>⟧.gives) z.f4
+        (RowThen (name "f5") (⟦<Vec<u8> as Deserialize<'de>>⟧.gives) z.f5
+        NoOthers)))))) };
+
+    #[tactic(auto, unfolding(serde_content::specs::Literals::name))]
+    fn name() -> &'static str {
+        "Closed6"
+    }
+
+    fn read<'n: 'de>(alloc: Global, fields: FieldsByName<'de, 'n>) -> Result<Closed6> {
+        let row: Field1OfClosed6 = ReadFields::read(alloc, fields)?;
+        let ReadField(f0, row, _) = row;
+        let ReadField(f1, row, _) = row;
+        let ReadFieldOr(f2, row, _) = row;
+        let ReadField(f3, row, _) = row;
+        let ReadField(f4, row, _) = row;
+        let ReadField(f5, _, _) = row;
+        Ok(Closed6 {
+            f0,
+            f1,
+            f2,
+            f3,
+            f4,
+            f5,
+        })
+    }
 }
 
 impl Serialize for Closed6 {
@@ -1185,30 +1179,27 @@ impl Serialize for Closed6 {
 
 impl<'de> Deserialize<'de> for Closed6 {
     ghost refusal = { struct_refusal (name "Closed6") (read_by_name
-        (named_then (name "f0") (⟦<String as Deserialize<'de>>⟧.refusal)
-        (named_then (name "f1") (⟦<u8 as Deserialize<'de>>⟧.refusal)
-        (named_or_then (name "f2") (⟦<Option<u8> as Deserialize<'de>>⟧.refusal)
-        (named_then (name "f3") (⟦<bool as Deserialize<'de>>⟧.refusal)
-        (named_then (name "f4") (⟦<i32 as Deserialize<'de>>⟧.refusal)
-        (named_then (name "f5") (⟦<Vec<u8> as Deserialize<'de>>⟧.refusal)
+        (row_then (name "f0") (⟦<String as Deserialize<'de>>⟧.refusal)
+        (row_then (name "f1") (⟦<u8 as Deserialize<'de>>⟧.refusal)
+        (row_or_then (name "f2") (⟦<Option<u8> as Deserialize<'de>>⟧.refusal)
+        (row_then (name "f3") (⟦<bool as Deserialize<'de>>⟧.refusal)
+        (row_then (name "f4") (⟦<i32 as Deserialize<'de>>⟧.refusal)
+        (row_then (name "f5") (⟦<Vec<u8> as Deserialize<'de>>⟧.refusal)
         (no_others (name "f0" ∷ name "f1" ∷ name "f2" ∷ name "f3" ∷ name "f4" ∷ name "f5" ∷
         []))))))))) };
 
     ghost gives = { λ s p. StructGives (name "Closed6") (ReadByName
-        (NamedThen (name "f0") (⟦<String as Deserialize<'de>>⟧.gives) p.f0
-        (NamedThen (name "f1") (⟦<u8 as Deserialize<'de>>⟧.gives) p.f1
-        (NamedOrThen (name "f2") (λ (x : (Option ℕ)). x ≡ None)
+        (RowThen (name "f0") (⟦<String as Deserialize<'de>>⟧.gives) p.f0
+        (RowThen (name "f1") (⟦<u8 as Deserialize<'de>>⟧.gives) p.f1
+        (RowOrThen (name "f2") (λ (x : (Option ℕ)). x ≡ None)
         (⟦<Option<u8> as Deserialize<'de>>⟧.gives) p.f2
-        (NamedThen (name "f3") (⟦<bool as Deserialize<'de>>⟧.gives) p.f3
-        (NamedThen (name "f4") (⟦<i32 as Deserialize<'de>>⟧.gives) p.f4
-        (NamedThen (name "f5") (⟦<Vec<u8> as Deserialize<'de>>⟧.gives) p.f5
+        (RowThen (name "f3") (⟦<bool as Deserialize<'de>>⟧.gives) p.f3
+        (RowThen (name "f4") (⟦<i32 as Deserialize<'de>>⟧.gives) p.f4
+        (RowThen (name "f5") (⟦<Vec<u8> as Deserialize<'de>>⟧.gives) p.f5
         NoOthers))))))) s };
 
     fn deserialize<'n: 'de>(alloc: Global, from: Deserializer<'de, 'n>) -> Result<Closed6> {
-        let fields = from
-            .deserialize_struct(alloc, name_closed6(), FieldsOfClosed6::names())?
-            .by_name();
-        read_closed6(alloc, fields)
+        read_struct::<FieldsOfClosed6, Self>(alloc, from)
     }
 }
 
@@ -1386,140 +1377,130 @@ type Field11OfRead12 = ReadFieldOr<FieldsOfRead12, 10, Option<u8>, Field12OfRead
 
 type Field12OfRead12 = ReadField<FieldsOfRead12, 11, bool, OthersSkipped<FieldsOfRead12>>;
 
-/// Values from place 9 on.
+/// The row from place 9 on.
 #[derive(Drop)]
-struct From9OfRead12(String, u8, Option<u8>, bool);
+struct From9OfRead12(Field9OfRead12);
 
 impl<'de> ReadFields<'de> for From9OfRead12 {
-    ghost refusal = { (named_then (name "f8") (⟦<String as Deserialize<'de>>⟧.refusal)
-        (named_then (name "f9") (⟦<u8 as Deserialize<'de>>⟧.refusal)
-        (named_or_then (name "f10") (⟦<Option<u8> as Deserialize<'de>>⟧.refusal)
-        (named_then (name "f11") (⟦<bool as Deserialize<'de>>⟧.refusal)
-        (others_skipped (name "f0" ∷ name "f1" ∷ name "f2" ∷ name "f3" ∷ name "f4" ∷
-        name "f5" ∷ name "f6" ∷ name "f7" ∷ name "f8" ∷ name "f9" ∷ name "f10" ∷ name "f11"
-        ∷ [])))))) };
+    ghost refusal = { ⟦<Field9OfRead12 as ReadFields<'de>>⟧.refusal };
 
-    ghost gives = { λ z.
-        (NamedThen (name "f8") (⟦<String as Deserialize<'de>>⟧.gives) z.0
-        (NamedThen (name "f9") (⟦<u8 as Deserialize<'de>>⟧.gives) z.1
-        (NamedOrThen (name "f10") (λ (x : (Option ℕ)). x ≡ None)
-        (⟦<Option<u8> as Deserialize<'de>>⟧.gives) z.2
-        (NamedThen (name "f11") (⟦<bool as Deserialize<'de>>⟧.gives) z.3
-        NoOthers)))) };
+    ghost gives = { λ z. ⟦<Field9OfRead12 as ReadFields<'de>>⟧.gives z.0 };
 
     fn read<'n: 'de>(alloc: Global, fields: FieldsByName<'de, 'n>) -> Result<Self> {
-        let row: Field9OfRead12 = ReadFields::read(alloc, fields)?;
-        let ReadField(x1, row, _) = row;
-        let ReadField(x2, row, _) = row;
-        let ReadFieldOr(x3, row, _) = row;
-        let ReadField(x4, _, _) = row;
-        Ok(From9OfRead12(x1, x2, x3, x4))
+        Ok(From9OfRead12(ReadFields::read(alloc, fields)?))
     }
 }
 
-/// Reads the fields, in any order.
-fn read_read12<'de, 'n: 'de>(alloc: Global, fields: FieldsByName<'de, 'n>) -> Result<Read12>
-    ensures { Reads (
-        (named_then (name "f0") (⟦<String as Deserialize<'de>>⟧.refusal)
-        (named_then (name "f1") (⟦<u8 as Deserialize<'de>>⟧.refusal)
-        (named_or_then (name "f2") (⟦<Option<u8> as Deserialize<'de>>⟧.refusal)
-        (named_then (name "f3") (⟦<bool as Deserialize<'de>>⟧.refusal)
-        (named_then (name "f4") (⟦<i32 as Deserialize<'de>>⟧.refusal)
-        (named_then (name "f5") (⟦<Vec<u8> as Deserialize<'de>>⟧.refusal)
-        (named_then (name "f6") (⟦<char as Deserialize<'de>>⟧.refusal)
-        (named_then (name "f7") (⟦<u64 as Deserialize<'de>>⟧.refusal)
-        (named_then (name "f8") (⟦<String as Deserialize<'de>>⟧.refusal)
-        (named_then (name "f9") (⟦<u8 as Deserialize<'de>>⟧.refusal)
-        (named_or_then (name "f10") (⟦<Option<u8> as Deserialize<'de>>⟧.refusal)
-        (named_then (name "f11") (⟦<bool as Deserialize<'de>>⟧.refusal)
-        (others_skipped (name "f0" ∷ name "f1" ∷ name "f2" ∷ name "f3" ∷ name "f4" ∷
-        name "f5" ∷ name "f6" ∷ name "f7" ∷ name "f8" ∷ name "f9" ∷ name "f10" ∷ name "f11"
-        ∷ []))))))))))))))
-        (fields_left fields.entry))
-        (λ z.
-        (NamedThen (name "f0") (⟦<String as Deserialize<'de>>⟧.gives) z.f0
-        (NamedThen (name "f1") (⟦<u8 as Deserialize<'de>>⟧.gives) z.f1
-        (NamedOrThen (name "f2") (λ (x : (Option ℕ)). x ≡ None)
+impl<'de> ReadStruct<'de> for Read12 {
+    ghost name = { name "Read12" };
+
+    ghost refusal = { row_then (name "f0") (⟦<String as Deserialize<'de>>⟧.refusal)
+        (row_then (name "f1") (⟦<u8 as Deserialize<'de>>⟧.refusal)
+        (row_or_then (name "f2") (⟦<Option<u8> as Deserialize<'de>>⟧.refusal)
+        (row_then (name "f3") (⟦<bool as Deserialize<'de>>⟧.refusal)
+        (row_then (name "f4") (⟦<i32 as Deserialize<'de>>⟧.refusal)
+        (row_then (name "f5") (⟦<Vec<u8> as Deserialize<'de>>⟧.refusal)
+        (row_then (name "f6") (⟦<char as Deserialize<'de>>⟧.refusal)
+        (row_then (name "f7") (⟦<u64 as Deserialize<'de>>⟧.refusal)
+        (row_then (name "f8") (⟦<String as Deserialize<'de>>⟧.refusal)
+        (row_then (name "f9") (⟦<u8 as Deserialize<'de>>⟧.refusal)
+        (row_or_then (name "f10") (⟦<Option<u8> as Deserialize<'de>>⟧.refusal)
+        (row_then (name "f11") (⟦<bool as Deserialize<'de>>⟧.refusal)
+        (others_left (name "f0" ∷ name "f1" ∷ name "f2" ∷ name "f3" ∷ name "f4" ∷ name "f5"
+        ∷ name "f6" ∷ name "f7" ∷ name "f8" ∷ name "f9" ∷ name "f10" ∷ name "f11" ∷
+        []))))))))))))) };
+
+    ghost gives = { λ z.
+        (RowThen (name "f0") (⟦<String as Deserialize<'de>>⟧.gives) z.f0
+        (RowThen (name "f1") (⟦<u8 as Deserialize<'de>>⟧.gives) z.f1
+        (RowOrThen (name "f2") (λ (x : (Option ℕ)). x ≡ None)
         (⟦<Option<u8> as Deserialize<'de>>⟧.gives) z.f2
-        (NamedThen (name "f3") (⟦<bool as Deserialize<'de>>⟧.gives) z.f3
-        (NamedThen (name "f4") (⟦<i32 as Deserialize<'de>>⟧.gives) z.f4
-        (NamedThen (name "f5") (⟦<Vec<u8> as Deserialize<'de>>⟧.gives) z.f5
-        (NamedThen (name "f6") (⟦<char as Deserialize<'de>>⟧.gives) z.f6
-        (NamedThen (name "f7") (⟦<u64 as Deserialize<'de>>⟧.gives) z.f7
-        (NamedThen (name "f8") (⟦<String as Deserialize<'de>>⟧.gives) z.f8
-        (NamedThen (name "f9") (⟦<u8 as Deserialize<'de>>⟧.gives) z.f9
-        (NamedOrThen (name "f10") (λ (x : (Option ℕ)). x ≡ None)
+        (RowThen (name "f3") (⟦<bool as Deserialize<'de>>⟧.gives) z.f3
+        (RowThen (name "f4") (⟦<i32 as Deserialize<'de>>⟧.gives) z.f4
+        (RowThen (name "f5") (⟦<Vec<u8> as Deserialize<'de>>⟧.gives) z.f5
+        (RowThen (name "f6") (⟦<char as Deserialize<'de>>⟧.gives) z.f6
+        (RowThen (name "f7") (⟦<u64 as Deserialize<'de>>⟧.gives) z.f7
+        (RowThen (name "f8") (⟦<String as Deserialize<'de>>⟧.gives) z.f8
+        (RowThen (name "f9") (⟦<u8 as Deserialize<'de>>⟧.gives) z.f9
+        (RowOrThen (name "f10") (λ (x : (Option ℕ)). x ≡ None)
         (⟦<Option<u8> as Deserialize<'de>>⟧.gives) z.f10
-        (NamedThen (name "f11") (⟦<bool as Deserialize<'de>>⟧.gives) z.f11
-        NoOthers))))))))))))
-        (fields_left fields.entry)) result }
-{
-    let row: Field1OfRead12 = ReadFields::read(alloc, fields)?;
-    let ReadField(f0, row, _) = row;
-    let ReadField(f1, row, _) = row;
-    let ReadFieldOr(f2, row, _) = row;
-    let ReadField(f3, row, _) = row;
-    let ReadField(f4, row, _) = row;
-    let ReadField(f5, row, _) = row;
-    let ReadField(f6, row, _) = row;
-    let ReadField(f7, row, _) = row;
-    let From9OfRead12(f8, f9, f10, f11) = row;
-    Ok(Read12 {
-        f0,
-        f1,
-        f2,
-        f3,
-        f4,
-        f5,
-        f6,
-        f7,
-        f8,
-        f9,
-        f10,
-        f11,
-    })
+        (RowThen (name "f11") (⟦<bool as Deserialize<'de>>⟧.gives) z.f11
+        NoOthers)))))))))))) };
+
+    #[tactic(auto, unfolding(serde_content::specs::Literals::name))]
+    fn name() -> &'static str {
+        "Read12"
+    }
+
+    fn read<'n: 'de>(alloc: Global, fields: FieldsByName<'de, 'n>) -> Result<Read12> {
+        let row: Field1OfRead12 = ReadFields::read(alloc, fields)?;
+        let ReadField(f0, row, _) = row;
+        let ReadField(f1, row, _) = row;
+        let ReadFieldOr(f2, row, _) = row;
+        let ReadField(f3, row, _) = row;
+        let ReadField(f4, row, _) = row;
+        let ReadField(f5, row, _) = row;
+        let ReadField(f6, row, _) = row;
+        let ReadField(f7, row, _) = row;
+        let From9OfRead12(row) = row;
+        let ReadField(f8, row, _) = row;
+        let ReadField(f9, row, _) = row;
+        let ReadFieldOr(f10, row, _) = row;
+        let ReadField(f11, _, _) = row;
+        Ok(Read12 {
+            f0,
+            f1,
+            f2,
+            f3,
+            f4,
+            f5,
+            f6,
+            f7,
+            f8,
+            f9,
+            f10,
+            f11,
+        })
+    }
 }
 
 impl<'de> Deserialize<'de> for Read12 {
     ghost refusal = { struct_refusal (name "Read12") (read_by_name
-        (named_then (name "f0") (⟦<String as Deserialize<'de>>⟧.refusal)
-        (named_then (name "f1") (⟦<u8 as Deserialize<'de>>⟧.refusal)
-        (named_or_then (name "f2") (⟦<Option<u8> as Deserialize<'de>>⟧.refusal)
-        (named_then (name "f3") (⟦<bool as Deserialize<'de>>⟧.refusal)
-        (named_then (name "f4") (⟦<i32 as Deserialize<'de>>⟧.refusal)
-        (named_then (name "f5") (⟦<Vec<u8> as Deserialize<'de>>⟧.refusal)
-        (named_then (name "f6") (⟦<char as Deserialize<'de>>⟧.refusal)
-        (named_then (name "f7") (⟦<u64 as Deserialize<'de>>⟧.refusal)
-        (named_then (name "f8") (⟦<String as Deserialize<'de>>⟧.refusal)
-        (named_then (name "f9") (⟦<u8 as Deserialize<'de>>⟧.refusal)
-        (named_or_then (name "f10") (⟦<Option<u8> as Deserialize<'de>>⟧.refusal)
-        (named_then (name "f11") (⟦<bool as Deserialize<'de>>⟧.refusal)
-        (others_skipped (name "f0" ∷ name "f1" ∷ name "f2" ∷ name "f3" ∷ name "f4" ∷
-        name "f5" ∷ name "f6" ∷ name "f7" ∷ name "f8" ∷ name "f9" ∷ name "f10" ∷ name "f11"
-        ∷ []))))))))))))))) };
+        (row_then (name "f0") (⟦<String as Deserialize<'de>>⟧.refusal)
+        (row_then (name "f1") (⟦<u8 as Deserialize<'de>>⟧.refusal)
+        (row_or_then (name "f2") (⟦<Option<u8> as Deserialize<'de>>⟧.refusal)
+        (row_then (name "f3") (⟦<bool as Deserialize<'de>>⟧.refusal)
+        (row_then (name "f4") (⟦<i32 as Deserialize<'de>>⟧.refusal)
+        (row_then (name "f5") (⟦<Vec<u8> as Deserialize<'de>>⟧.refusal)
+        (row_then (name "f6") (⟦<char as Deserialize<'de>>⟧.refusal)
+        (row_then (name "f7") (⟦<u64 as Deserialize<'de>>⟧.refusal)
+        (row_then (name "f8") (⟦<String as Deserialize<'de>>⟧.refusal)
+        (row_then (name "f9") (⟦<u8 as Deserialize<'de>>⟧.refusal)
+        (row_or_then (name "f10") (⟦<Option<u8> as Deserialize<'de>>⟧.refusal)
+        (row_then (name "f11") (⟦<bool as Deserialize<'de>>⟧.refusal)
+        (others_left (name "f0" ∷ name "f1" ∷ name "f2" ∷ name "f3" ∷ name "f4" ∷ name "f5"
+        ∷ name "f6" ∷ name "f7" ∷ name "f8" ∷ name "f9" ∷ name "f10" ∷ name "f11" ∷
+        []))))))))))))))) };
 
     ghost gives = { λ s p. StructGives (name "Read12") (ReadByName
-        (NamedThen (name "f0") (⟦<String as Deserialize<'de>>⟧.gives) p.f0
-        (NamedThen (name "f1") (⟦<u8 as Deserialize<'de>>⟧.gives) p.f1
-        (NamedOrThen (name "f2") (λ (x : (Option ℕ)). x ≡ None)
+        (RowThen (name "f0") (⟦<String as Deserialize<'de>>⟧.gives) p.f0
+        (RowThen (name "f1") (⟦<u8 as Deserialize<'de>>⟧.gives) p.f1
+        (RowOrThen (name "f2") (λ (x : (Option ℕ)). x ≡ None)
         (⟦<Option<u8> as Deserialize<'de>>⟧.gives) p.f2
-        (NamedThen (name "f3") (⟦<bool as Deserialize<'de>>⟧.gives) p.f3
-        (NamedThen (name "f4") (⟦<i32 as Deserialize<'de>>⟧.gives) p.f4
-        (NamedThen (name "f5") (⟦<Vec<u8> as Deserialize<'de>>⟧.gives) p.f5
-        (NamedThen (name "f6") (⟦<char as Deserialize<'de>>⟧.gives) p.f6
-        (NamedThen (name "f7") (⟦<u64 as Deserialize<'de>>⟧.gives) p.f7
-        (NamedThen (name "f8") (⟦<String as Deserialize<'de>>⟧.gives) p.f8
-        (NamedThen (name "f9") (⟦<u8 as Deserialize<'de>>⟧.gives) p.f9
-        (NamedOrThen (name "f10") (λ (x : (Option ℕ)). x ≡ None)
+        (RowThen (name "f3") (⟦<bool as Deserialize<'de>>⟧.gives) p.f3
+        (RowThen (name "f4") (⟦<i32 as Deserialize<'de>>⟧.gives) p.f4
+        (RowThen (name "f5") (⟦<Vec<u8> as Deserialize<'de>>⟧.gives) p.f5
+        (RowThen (name "f6") (⟦<char as Deserialize<'de>>⟧.gives) p.f6
+        (RowThen (name "f7") (⟦<u64 as Deserialize<'de>>⟧.gives) p.f7
+        (RowThen (name "f8") (⟦<String as Deserialize<'de>>⟧.gives) p.f8
+        (RowThen (name "f9") (⟦<u8 as Deserialize<'de>>⟧.gives) p.f9
+        (RowOrThen (name "f10") (λ (x : (Option ℕ)). x ≡ None)
         (⟦<Option<u8> as Deserialize<'de>>⟧.gives) p.f10
-        (NamedThen (name "f11") (⟦<bool as Deserialize<'de>>⟧.gives) p.f11
+        (RowThen (name "f11") (⟦<bool as Deserialize<'de>>⟧.gives) p.f11
         NoOthers))))))))))))) s };
 
     fn deserialize<'n: 'de>(alloc: Global, from: Deserializer<'de, 'n>) -> Result<Read12> {
-        let fields = from
-            .deserialize_struct(alloc, name_read12(), FieldsOfRead12::names())?
-            .by_name();
-        read_read12(alloc, fields)
+        read_struct::<FieldsOfRead12, Self>(alloc, from)
     }
 }
 
@@ -1554,22 +1535,17 @@ type Part8OfPlaceMixed9 = ReadPart<9, 7, u64, From9OfPlaceMixed9>;
 
 type Part9OfPlaceMixed9 = ReadPart<9, 8, String, PartsEnd<9>>;
 
-/// Values from place 9 on.
+/// The row from place 9 on.
 #[derive(Drop)]
-struct From9OfPlaceMixed9(String);
+struct From9OfPlaceMixed9(Part9OfPlaceMixed9);
 
 impl<'de> ReadParts<'de> for From9OfPlaceMixed9 {
-    ghost refusal = { (part_then 9 8 (⟦<String as Deserialize<'de>>⟧.refusal)
-        (end_of_parts 9)) };
+    ghost refusal = { ⟦<Part9OfPlaceMixed9 as ReadParts<'de>>⟧.refusal };
 
-    ghost gives = { λ z.
-        (PartThen (⟦<String as Deserialize<'de>>⟧.gives) z.0
-        NoPart) };
+    ghost gives = { λ z. ⟦<Part9OfPlaceMixed9 as ReadParts<'de>>⟧.gives z.0 };
 
     fn read<'n: 'de>(alloc: Global, parts: serde_content::de::Seq<'de, 'n>) -> Result<Self> {
-        let row: Part9OfPlaceMixed9 = ReadParts::read(alloc, parts)?;
-        let ReadPart(x1, _) = row;
-        Ok(From9OfPlaceMixed9(x1))
+        Ok(From9OfPlaceMixed9(ReadParts::read(alloc, parts)?))
     }
 }
 
@@ -1650,7 +1626,8 @@ impl<'de> Deserialize<'de> for PlaceMixed9 {
         let ReadPart(x6, row) = row;
         let ReadPart(x7, row) = row;
         let ReadPart(x8, row) = row;
-        let From9OfPlaceMixed9(x9) = row;
+        let From9OfPlaceMixed9(row) = row;
+        let ReadPart(x9, _) = row;
         Ok(PlaceMixed9(x1, x2, x3, x4, x5, x6, x7, x8, x9))
     }
 }
@@ -1794,15 +1771,15 @@ fn read_external_mixed4_v3<'de, 'n: 'de>(
     fields: FieldsByName<'de, 'n>,
 ) -> Result<(i32, u8, String)>
     ensures { Reads (
-        (named_then (name "f0") (⟦<i32 as Deserialize<'de>>⟧.refusal)
-        (named_then (name "f1") (⟦<u8 as Deserialize<'de>>⟧.refusal)
-        (named_then (name "f2") (⟦<String as Deserialize<'de>>⟧.refusal)
-        (others_skipped (name "f0" ∷ name "f1" ∷ name "f2" ∷ [])))))
+        (row_then (name "f0") (⟦<i32 as Deserialize<'de>>⟧.refusal)
+        (row_then (name "f1") (⟦<u8 as Deserialize<'de>>⟧.refusal)
+        (row_then (name "f2") (⟦<String as Deserialize<'de>>⟧.refusal)
+        (others_left (name "f0" ∷ name "f1" ∷ name "f2" ∷ [])))))
         (fields_left fields.entry))
         (λ z.
-        (NamedThen (name "f0") (⟦<i32 as Deserialize<'de>>⟧.gives) z.0
-        (NamedThen (name "f1") (⟦<u8 as Deserialize<'de>>⟧.gives) z.1
-        (NamedThen (name "f2") (⟦<String as Deserialize<'de>>⟧.gives) z.2
+        (RowThen (name "f0") (⟦<i32 as Deserialize<'de>>⟧.gives) z.0
+        (RowThen (name "f1") (⟦<u8 as Deserialize<'de>>⟧.gives) z.1
+        (RowThen (name "f2") (⟦<String as Deserialize<'de>>⟧.gives) z.2
         NoOthers)))
         (fields_left fields.entry)) result }
 {
@@ -1901,10 +1878,10 @@ impl<'de> Variants<'de> for ExternalMixed4 {
         ∷ (
           name "V3",
           struct_variant_refusal (read_by_name
-              (named_then (name "f0") (⟦<i32 as Deserialize<'de>>⟧.refusal)
-              (named_then (name "f1") (⟦<u8 as Deserialize<'de>>⟧.refusal)
-              (named_then (name "f2") (⟦<String as Deserialize<'de>>⟧.refusal)
-              (others_skipped (name "f0" ∷ name "f1" ∷ name "f2" ∷ [])))))),
+              (row_then (name "f0") (⟦<i32 as Deserialize<'de>>⟧.refusal)
+              (row_then (name "f1") (⟦<u8 as Deserialize<'de>>⟧.refusal)
+              (row_then (name "f2") (⟦<String as Deserialize<'de>>⟧.refusal)
+              (others_left (name "f0" ∷ name "f1" ∷ name "f2" ∷ [])))))),
         )
         ∷ []) };
 
@@ -1924,9 +1901,9 @@ impl<'de> Variants<'de> for ExternalMixed4 {
           (PartThen (⟦<bool as Deserialize<'de>>⟧.gives) x2
           NoPart))
       | external_mixed4.V3 x1 x2 x3 ↦ StructVariantGives (ReadByName
-          (NamedThen (name "f0") (⟦<i32 as Deserialize<'de>>⟧.gives) x1
-          (NamedThen (name "f1") (⟦<u8 as Deserialize<'de>>⟧.gives) x2
-          (NamedThen (name "f2") (⟦<String as Deserialize<'de>>⟧.gives) x3
+          (RowThen (name "f0") (⟦<i32 as Deserialize<'de>>⟧.gives) x1
+          (RowThen (name "f1") (⟦<u8 as Deserialize<'de>>⟧.gives) x2
+          (RowThen (name "f2") (⟦<String as Deserialize<'de>>⟧.gives) x3
           NoOthers))))
     ] };
 
@@ -2068,11 +2045,11 @@ impl<'de> RoundTrip<'de> for ExternalMixed4 {
             record { free = q.0; given = q.1 }
         | external_mixed4.V3 x1 x2 x3 ↦ λ p.
             let q = variant_kept {own = (struct_variant_refusal (read_by_name
-            (named_then (name "f0") (⟦<i32 as Deserialize<'de>>⟧.refusal)
-            (named_then (name "f1") (⟦<u8 as Deserialize<'de>>⟧.refusal)
-            (named_then (name "f2") (⟦<String as Deserialize<'de>>⟧.refusal)
-            (others_skipped (name "f0" ∷ name "f1" ∷ name "f2" ∷ [])))))))}
-            (name "ExternalMixed4") (name "V3")
+            (row_then (name "f0") (⟦<i32 as Deserialize<'de>>⟧.refusal)
+            (row_then (name "f1") (⟦<u8 as Deserialize<'de>>⟧.refusal)
+            (row_then (name "f2") (⟦<String as Deserialize<'de>>⟧.refusal)
+            (others_left (name "f0" ∷ name "f1" ∷ name "f2" ∷ [])))))))} (name "ExternalMixed4")
+            (name "V3")
             ⟦<ExternalMixed4 as Variants<'de>>⟧.refusal (unfold name index_among in λ v. refl)
             (struct_variant_keeps (by_name_keeps
             (named_keeps (name "f0") (λ (z : ℤ × ℕ × (String Global)). z.0)
@@ -2370,15 +2347,15 @@ fn read_internal_fields2_v0<'de, 'n: 'de>(
     fields: FieldsByName<'de, 'n>,
 ) -> Result<(i32, u8, String)>
     ensures { Reads (
-        (named_then (name "f0") (⟦<i32 as Deserialize<'de>>⟧.refusal)
-        (named_then (name "f1") (⟦<u8 as Deserialize<'de>>⟧.refusal)
-        (named_then (name "f2") (⟦<String as Deserialize<'de>>⟧.refusal)
-        (others_skipped (name "kind" ∷ name "f0" ∷ name "f1" ∷ name "f2" ∷ [])))))
+        (row_then (name "f0") (⟦<i32 as Deserialize<'de>>⟧.refusal)
+        (row_then (name "f1") (⟦<u8 as Deserialize<'de>>⟧.refusal)
+        (row_then (name "f2") (⟦<String as Deserialize<'de>>⟧.refusal)
+        (others_left (name "kind" ∷ name "f0" ∷ name "f1" ∷ name "f2" ∷ [])))))
         (fields_left fields.entry))
         (λ z.
-        (NamedThen (name "f0") (⟦<i32 as Deserialize<'de>>⟧.gives) z.0
-        (NamedThen (name "f1") (⟦<u8 as Deserialize<'de>>⟧.gives) z.1
-        (NamedThen (name "f2") (⟦<String as Deserialize<'de>>⟧.gives) z.2
+        (RowThen (name "f0") (⟦<i32 as Deserialize<'de>>⟧.gives) z.0
+        (RowThen (name "f1") (⟦<u8 as Deserialize<'de>>⟧.gives) z.1
+        (RowThen (name "f2") (⟦<String as Deserialize<'de>>⟧.gives) z.2
         NoOthers)))
         (fields_left fields.entry)) result }
 {
@@ -2459,15 +2436,15 @@ fn read_internal_fields2_v1<'de, 'n: 'de>(
     fields: FieldsByName<'de, 'n>,
 ) -> Result<(i32, u8, String)>
     ensures { Reads (
-        (named_then (name "f0") (⟦<i32 as Deserialize<'de>>⟧.refusal)
-        (named_then (name "f1") (⟦<u8 as Deserialize<'de>>⟧.refusal)
-        (named_then (name "f2") (⟦<String as Deserialize<'de>>⟧.refusal)
-        (others_skipped (name "kind" ∷ name "f0" ∷ name "f1" ∷ name "f2" ∷ [])))))
+        (row_then (name "f0") (⟦<i32 as Deserialize<'de>>⟧.refusal)
+        (row_then (name "f1") (⟦<u8 as Deserialize<'de>>⟧.refusal)
+        (row_then (name "f2") (⟦<String as Deserialize<'de>>⟧.refusal)
+        (others_left (name "kind" ∷ name "f0" ∷ name "f1" ∷ name "f2" ∷ [])))))
         (fields_left fields.entry))
         (λ z.
-        (NamedThen (name "f0") (⟦<i32 as Deserialize<'de>>⟧.gives) z.0
-        (NamedThen (name "f1") (⟦<u8 as Deserialize<'de>>⟧.gives) z.1
-        (NamedThen (name "f2") (⟦<String as Deserialize<'de>>⟧.gives) z.2
+        (RowThen (name "f0") (⟦<i32 as Deserialize<'de>>⟧.gives) z.0
+        (RowThen (name "f1") (⟦<u8 as Deserialize<'de>>⟧.gives) z.1
+        (RowThen (name "f2") (⟦<String as Deserialize<'de>>⟧.gives) z.2
         NoOthers)))
         (fields_left fields.entry)) result }
 {
@@ -2541,17 +2518,17 @@ impl<'de> TaggedVariants<'de> for InternalFields2 {
 
     ghost refusal = { variants ((
       name "V0",
-      (named_then (name "f0") (⟦<i32 as Deserialize<'de>>⟧.refusal)
-          (named_then (name "f1") (⟦<u8 as Deserialize<'de>>⟧.refusal)
-          (named_then (name "f2") (⟦<String as Deserialize<'de>>⟧.refusal)
-          (others_skipped (name "kind" ∷ name "f0" ∷ name "f1" ∷ name "f2" ∷ []))))),
+      (row_then (name "f0") (⟦<i32 as Deserialize<'de>>⟧.refusal)
+          (row_then (name "f1") (⟦<u8 as Deserialize<'de>>⟧.refusal)
+          (row_then (name "f2") (⟦<String as Deserialize<'de>>⟧.refusal)
+          (others_left (name "kind" ∷ name "f0" ∷ name "f1" ∷ name "f2" ∷ []))))),
     )
         ∷ (
           name "V1",
-          (named_then (name "f0") (⟦<i32 as Deserialize<'de>>⟧.refusal)
-              (named_then (name "f1") (⟦<u8 as Deserialize<'de>>⟧.refusal)
-              (named_then (name "f2") (⟦<String as Deserialize<'de>>⟧.refusal)
-              (others_skipped (name "kind" ∷ name "f0" ∷ name "f1" ∷ name "f2" ∷ []))))),
+          (row_then (name "f0") (⟦<i32 as Deserialize<'de>>⟧.refusal)
+              (row_then (name "f1") (⟦<u8 as Deserialize<'de>>⟧.refusal)
+              (row_then (name "f2") (⟦<String as Deserialize<'de>>⟧.refusal)
+              (others_left (name "kind" ∷ name "f0" ∷ name "f1" ∷ name "f2" ∷ []))))),
         )
         ∷ []) };
 
@@ -2562,14 +2539,14 @@ impl<'de> TaggedVariants<'de> for InternalFields2 {
 
     ghost held = { elim [
       | internal_fields2.V0 x1 x2 x3 ↦
-          (NamedThen (name "f0") (⟦<i32 as Deserialize<'de>>⟧.gives) x1
-          (NamedThen (name "f1") (⟦<u8 as Deserialize<'de>>⟧.gives) x2
-          (NamedThen (name "f2") (⟦<String as Deserialize<'de>>⟧.gives) x3
+          (RowThen (name "f0") (⟦<i32 as Deserialize<'de>>⟧.gives) x1
+          (RowThen (name "f1") (⟦<u8 as Deserialize<'de>>⟧.gives) x2
+          (RowThen (name "f2") (⟦<String as Deserialize<'de>>⟧.gives) x3
           NoOthers)))
       | internal_fields2.V1 x1 x2 x3 ↦
-          (NamedThen (name "f0") (⟦<i32 as Deserialize<'de>>⟧.gives) x1
-          (NamedThen (name "f1") (⟦<u8 as Deserialize<'de>>⟧.gives) x2
-          (NamedThen (name "f2") (⟦<String as Deserialize<'de>>⟧.gives) x3
+          (RowThen (name "f0") (⟦<i32 as Deserialize<'de>>⟧.gives) x1
+          (RowThen (name "f1") (⟦<u8 as Deserialize<'de>>⟧.gives) x2
+          (RowThen (name "f2") (⟦<String as Deserialize<'de>>⟧.gives) x3
           NoOthers)))
     ] };
 
@@ -2654,9 +2631,9 @@ impl<'de> RoundTrip<'de> for InternalFields2 {
             (tag_keeps_buffered (name "kind") (name "V0")
             ⟦<InternalFields2 as TaggedVariants<'de>>⟧.refusal
             (λ (z : ℤ × ℕ × (String Global)).
-            (NamedThen (name "f0") (⟦<i32 as Deserialize<'de>>⟧.gives) z.0
-            (NamedThen (name "f1") (⟦<u8 as Deserialize<'de>>⟧.gives) z.1
-            (NamedThen (name "f2") (⟦<String as Deserialize<'de>>⟧.gives) z.2
+            (RowThen (name "f0") (⟦<i32 as Deserialize<'de>>⟧.gives) z.0
+            (RowThen (name "f1") (⟦<u8 as Deserialize<'de>>⟧.gives) z.1
+            (RowThen (name "f2") (⟦<String as Deserialize<'de>>⟧.gives) z.2
             NoOthers))))))).of_origin o people (x1, x2, x3)
             (record { free = p.free; given = p.given }) in
             record { free = q.free; given = q.given }
@@ -2665,9 +2642,9 @@ impl<'de> RoundTrip<'de> for InternalFields2 {
             (tag_keeps_buffered (name "kind") (name "V1")
             ⟦<InternalFields2 as TaggedVariants<'de>>⟧.refusal
             (λ (z : ℤ × ℕ × (String Global)).
-            (NamedThen (name "f0") (⟦<i32 as Deserialize<'de>>⟧.gives) z.0
-            (NamedThen (name "f1") (⟦<u8 as Deserialize<'de>>⟧.gives) z.1
-            (NamedThen (name "f2") (⟦<String as Deserialize<'de>>⟧.gives) z.2
+            (RowThen (name "f0") (⟦<i32 as Deserialize<'de>>⟧.gives) z.0
+            (RowThen (name "f1") (⟦<u8 as Deserialize<'de>>⟧.gives) z.1
+            (RowThen (name "f2") (⟦<String as Deserialize<'de>>⟧.gives) z.2
             NoOthers))))))).of_origin o people (x1, x2, x3)
             (record { free = p.free; given = p.given }) in
             record { free = q.free; given = q.given }
@@ -2763,8 +2740,8 @@ impl<'de> TaggedVariants<'de> for InternalMixed2 {
     ghost tag_name = { name "kind" };
 
     ghost refusal = { variants (
-        (name "V0", (others_skipped (name "kind" ∷ [])))
-        ∷ (name "V1", (others_skipped (name "kind" ∷ [])))
+        (name "V0", (others_left (name "kind" ∷ [])))
+        ∷ (name "V1", (others_left (name "kind" ∷ [])))
         ∷ []) };
 
     ghost named = { elim [
@@ -2894,11 +2871,11 @@ type Field1OfAdjacentOne2V0 = ReadField<
 /// Reads the fields, in any order.
 fn read_adjacent_one2_v0<'de, 'n: 'de>(alloc: Global, fields: FieldsByName<'de, 'n>) -> Result<u8>
     ensures { Reads (
-        (named_then (name "of") (⟦<u8 as Deserialize<'de>>⟧.refusal)
-        (others_skipped (name "kind" ∷ name "of" ∷ [])))
+        (row_then (name "of") (⟦<u8 as Deserialize<'de>>⟧.refusal)
+        (others_left (name "kind" ∷ name "of" ∷ [])))
         (fields_left fields.entry))
         (λ z.
-        (NamedThen (name "of") (⟦<u8 as Deserialize<'de>>⟧.gives) z
+        (RowThen (name "of") (⟦<u8 as Deserialize<'de>>⟧.gives) z
         NoOthers)
         (fields_left fields.entry)) result }
 {
@@ -2930,11 +2907,11 @@ type Field1OfAdjacentOne2V1 = ReadField<
 /// Reads the fields, in any order.
 fn read_adjacent_one2_v1<'de, 'n: 'de>(alloc: Global, fields: FieldsByName<'de, 'n>) -> Result<u8>
     ensures { Reads (
-        (named_then (name "of") (⟦<u8 as Deserialize<'de>>⟧.refusal)
-        (others_skipped (name "kind" ∷ name "of" ∷ [])))
+        (row_then (name "of") (⟦<u8 as Deserialize<'de>>⟧.refusal)
+        (others_left (name "kind" ∷ name "of" ∷ [])))
         (fields_left fields.entry))
         (λ z.
-        (NamedThen (name "of") (⟦<u8 as Deserialize<'de>>⟧.gives) z
+        (RowThen (name "of") (⟦<u8 as Deserialize<'de>>⟧.gives) z
         NoOthers)
         (fields_left fields.entry)) result }
 {
@@ -3006,13 +2983,13 @@ impl<'de> TaggedVariants<'de> for AdjacentOne2 {
 
     ghost refusal = { variants ((
       name "V0",
-      (named_then (name "of") (⟦<u8 as Deserialize<'de>>⟧.refusal)
-          (others_skipped (name "kind" ∷ name "of" ∷ []))),
+      (row_then (name "of") (⟦<u8 as Deserialize<'de>>⟧.refusal)
+          (others_left (name "kind" ∷ name "of" ∷ []))),
     )
         ∷ (
           name "V1",
-          (named_then (name "of") (⟦<u8 as Deserialize<'de>>⟧.refusal)
-              (others_skipped (name "kind" ∷ name "of" ∷ []))),
+          (row_then (name "of") (⟦<u8 as Deserialize<'de>>⟧.refusal)
+              (others_left (name "kind" ∷ name "of" ∷ []))),
         )
         ∷ []) };
 
@@ -3022,9 +2999,9 @@ impl<'de> TaggedVariants<'de> for AdjacentOne2 {
     ] };
 
     ghost held = { elim [
-      | adjacent_one2.V0 x1 ↦ (NamedThen (name "of") (⟦<u8 as Deserialize<'de>>⟧.gives) x1
+      | adjacent_one2.V0 x1 ↦ (RowThen (name "of") (⟦<u8 as Deserialize<'de>>⟧.gives) x1
           NoOthers)
-      | adjacent_one2.V1 x1 ↦ (NamedThen (name "of") (⟦<u8 as Deserialize<'de>>⟧.gives) x1
+      | adjacent_one2.V1 x1 ↦ (RowThen (name "of") (⟦<u8 as Deserialize<'de>>⟧.gives) x1
           NoOthers)
     ] };
 
@@ -3101,8 +3078,8 @@ impl<'de> RoundTrip<'de> for AdjacentOne2 {
         | adjacent_one2.V0 x1 ↦ λ p.
             let q = (struct_keeps (name "AdjacentOne2") (by_name_keeps
             (tag_keeps {own =
-            (named_then (name "of") (⟦<u8 as Deserialize<'de>>⟧.refusal)
-            (others_skipped (name "kind" ∷ name "of" ∷ [])))} (name "kind") (name "V0")
+            (row_then (name "of") (⟦<u8 as Deserialize<'de>>⟧.refusal)
+            (others_left (name "kind" ∷ name "of" ∷ [])))} (name "kind") (name "V0")
             ⟦<AdjacentOne2 as TaggedVariants<'de>>⟧.refusal
             (unfold name index_among in λ f. refl)
             (named_keeps (name "of") (λ (z : ℕ). z) (natural_keeps kind.u8)
@@ -3112,8 +3089,8 @@ impl<'de> RoundTrip<'de> for AdjacentOne2 {
         | adjacent_one2.V1 x1 ↦ λ p.
             let q = (struct_keeps (name "AdjacentOne2") (by_name_keeps
             (tag_keeps {own =
-            (named_then (name "of") (⟦<u8 as Deserialize<'de>>⟧.refusal)
-            (others_skipped (name "kind" ∷ name "of" ∷ [])))} (name "kind") (name "V1")
+            (row_then (name "of") (⟦<u8 as Deserialize<'de>>⟧.refusal)
+            (others_left (name "kind" ∷ name "of" ∷ [])))} (name "kind") (name "V1")
             ⟦<AdjacentOne2 as TaggedVariants<'de>>⟧.refusal
             (unfold name index_among in λ f. refl)
             (named_keeps (name "of") (λ (z : ℕ). z) (natural_keeps kind.u8)
@@ -3462,30 +3439,38 @@ type Field3OfAaabcdefghijklmnopqrstuvwxyzabcdefghijkl = ReadFieldOr<
     OthersSkipped<FieldsOfAaabcdefghijklmnopqrstuvwxyzabcdefghijkl>,
 >;
 
-/// Reads the fields, in any order.
-fn read_aaabcdefghijklmnopqrstuvwxyzabcdefghijkl<'de, 'n: 'de>(
-    alloc: Global,
-    fields: FieldsByName<'de, 'n>,
-) -> Result<Aaabcdefghijklmnopqrstuvwxyzabcdefghijkl>
-    ensures { Reads (
-        (named_then (name "f0") (⟦<String as Deserialize<'de>>⟧.refusal)
-        (named_then (name "f1") (⟦<u8 as Deserialize<'de>>⟧.refusal)
-        (named_or_then (name "f2") (⟦<Option<u8> as Deserialize<'de>>⟧.refusal)
-        (others_skipped (name "f0" ∷ name "f1" ∷ name "f2" ∷ [])))))
-        (fields_left fields.entry))
-        (λ z.
-        (NamedThen (name "f0") (⟦<String as Deserialize<'de>>⟧.gives) z.f0
-        (NamedThen (name "f1") (⟦<u8 as Deserialize<'de>>⟧.gives) z.f1
-        (NamedOrThen (name "f2") (λ (x : (Option ℕ)). x ≡ None)
+impl<'de> ReadStruct<'de> for Aaabcdefghijklmnopqrstuvwxyzabcdefghijkl {
+    ghost name = { name "Aaabcdefghijklmnopqrstuvwxyzabcdefghijkl" };
+
+    ghost refusal = { row_then (name "f0") (⟦<String as Deserialize<'de>>⟧.refusal)
+        (row_then (name "f1") (⟦<u8 as Deserialize<'de>>⟧.refusal)
+        (row_or_then (name "f2") (⟦<Option<u8> as Deserialize<'de>>⟧.refusal)
+        (others_left (name "f0" ∷ name "f1" ∷ name "f2" ∷ [])))) };
+
+    ghost gives = { λ z.
+        (RowThen (name "f0") (⟦<String as Deserialize<'de>>⟧.gives) z.f0
+        (RowThen (name "f1") (⟦<u8 as Deserialize<'de>>⟧.gives) z.f1
+        (RowOrThen (name "f2") (λ (x : (Option ℕ)). x ≡ None)
         (⟦<Option<u8> as Deserialize<'de>>⟧.gives) z.f2
-        NoOthers)))
-        (fields_left fields.entry)) result }
-{
-    let row: Field1OfAaabcdefghijklmnopqrstuvwxyzabcdefghijkl = ReadFields::read(alloc, fields)?;
-    let ReadField(f0, row, _) = row;
-    let ReadField(f1, row, _) = row;
-    let ReadFieldOr(f2, _, _) = row;
-    Ok(Aaabcdefghijklmnopqrstuvwxyzabcdefghijkl { f0, f1, f2 })
+        NoOthers))) };
+
+    #[tactic(auto, unfolding(serde_content::specs::Literals::name))]
+    fn name() -> &'static str {
+        "Aaabcdefghijklmnopqrstuvwxyzabcdefghijkl"
+    }
+
+    fn read<'n: 'de>(
+        alloc: Global,
+        fields: FieldsByName<'de, 'n>,
+    ) -> Result<Aaabcdefghijklmnopqrstuvwxyzabcdefghijkl> {
+        let row: Field1OfAaabcdefghijklmnopqrstuvwxyzabcdefghijkl = ReadFields::read(
+            alloc, fields,
+        )?;
+        let ReadField(f0, row, _) = row;
+        let ReadField(f1, row, _) = row;
+        let ReadFieldOr(f2, _, _) = row;
+        Ok(Aaabcdefghijklmnopqrstuvwxyzabcdefghijkl { f0, f1, f2 })
+    }
 }
 
 impl Serialize for Aaabcdefghijklmnopqrstuvwxyzabcdefghijkl {
@@ -3533,16 +3518,16 @@ impl Serialize for Aaabcdefghijklmnopqrstuvwxyzabcdefghijkl {
 impl<'de> Deserialize<'de> for Aaabcdefghijklmnopqrstuvwxyzabcdefghijkl {
     ghost refusal = { struct_refusal (name "Aaabcdefghijklmnopqrstuvwxyzabcdefghijkl")
         (read_by_name
-        (named_then (name "f0") (⟦<String as Deserialize<'de>>⟧.refusal)
-        (named_then (name "f1") (⟦<u8 as Deserialize<'de>>⟧.refusal)
-        (named_or_then (name "f2") (⟦<Option<u8> as Deserialize<'de>>⟧.refusal)
-        (others_skipped (name "f0" ∷ name "f1" ∷ name "f2" ∷ [])))))) };
+        (row_then (name "f0") (⟦<String as Deserialize<'de>>⟧.refusal)
+        (row_then (name "f1") (⟦<u8 as Deserialize<'de>>⟧.refusal)
+        (row_or_then (name "f2") (⟦<Option<u8> as Deserialize<'de>>⟧.refusal)
+        (others_left (name "f0" ∷ name "f1" ∷ name "f2" ∷ [])))))) };
 
     ghost gives = { λ s p. StructGives (name "Aaabcdefghijklmnopqrstuvwxyzabcdefghijkl")
         (ReadByName
-        (NamedThen (name "f0") (⟦<String as Deserialize<'de>>⟧.gives) p.f0
-        (NamedThen (name "f1") (⟦<u8 as Deserialize<'de>>⟧.gives) p.f1
-        (NamedOrThen (name "f2") (λ (x : (Option ℕ)). x ≡ None)
+        (RowThen (name "f0") (⟦<String as Deserialize<'de>>⟧.gives) p.f0
+        (RowThen (name "f1") (⟦<u8 as Deserialize<'de>>⟧.gives) p.f1
+        (RowOrThen (name "f2") (λ (x : (Option ℕ)). x ≡ None)
         (⟦<Option<u8> as Deserialize<'de>>⟧.gives) p.f2
         NoOthers)))) s };
 
@@ -3550,14 +3535,7 @@ impl<'de> Deserialize<'de> for Aaabcdefghijklmnopqrstuvwxyzabcdefghijkl {
         alloc: Global,
         from: Deserializer<'de, 'n>,
     ) -> Result<Aaabcdefghijklmnopqrstuvwxyzabcdefghijkl> {
-        let fields = from
-            .deserialize_struct(
-                alloc,
-                name_aaabcdefghijklmnopqrstuvwxyzabcdefghijkl(),
-                FieldsOfAaabcdefghijklmnopqrstuvwxyzabcdefghijkl::names(),
-            )?
-            .by_name();
-        read_aaabcdefghijklmnopqrstuvwxyzabcdefghijkl(alloc, fields)
+        read_struct::<FieldsOfAaabcdefghijklmnopqrstuvwxyzabcdefghijkl, Self>(alloc, from)
     }
 }
 
@@ -3653,54 +3631,58 @@ type Field6OfNamesOfFields20 = ReadField<
     OthersSkipped<FieldsOfNamesOfFields20>,
 >;
 
-/// Reads the fields, in any order.
-fn read_names_of_fields20<'de, 'n: 'de>(
-    alloc: Global,
-    fields: FieldsByName<'de, 'n>,
-) -> Result<NamesOfFields20>
-    ensures { Reads (
-        (named_then (name "aaabcdefghijklmnopqr") (⟦<String as Deserialize<'de>>⟧.refusal)
-        (named_then (name "baabcdefghijklmnopqr") (⟦<u8 as Deserialize<'de>>⟧.refusal)
-        (named_or_then (name "caabcdefghijklmnopqr")
+impl<'de> ReadStruct<'de> for NamesOfFields20 {
+    ghost name = { name "NamesOfFields20" };
+
+    ghost refusal = { row_then (name "aaabcdefghijklmnopqr")
+        (⟦<String as Deserialize<'de>>⟧.refusal)
+        (row_then (name "baabcdefghijklmnopqr") (⟦<u8 as Deserialize<'de>>⟧.refusal)
+        (row_or_then (name "caabcdefghijklmnopqr")
         (⟦<Option<u8> as Deserialize<'de>>⟧.refusal)
-        (named_then (name "daabcdefghijklmnopqr") (⟦<bool as Deserialize<'de>>⟧.refusal)
-        (named_then (name "eaabcdefghijklmnopqr") (⟦<i32 as Deserialize<'de>>⟧.refusal)
-        (named_then (name "faabcdefghijklmnopqr") (⟦<Vec<u8> as Deserialize<'de>>⟧.refusal)
-        (others_skipped (name "aaabcdefghijklmnopqr" ∷ name "baabcdefghijklmnopqr" ∷
+        (row_then (name "daabcdefghijklmnopqr") (⟦<bool as Deserialize<'de>>⟧.refusal)
+        (row_then (name "eaabcdefghijklmnopqr") (⟦<i32 as Deserialize<'de>>⟧.refusal)
+        (row_then (name "faabcdefghijklmnopqr") (⟦<Vec<u8> as Deserialize<'de>>⟧.refusal)
+        (others_left (name "aaabcdefghijklmnopqr" ∷ name "baabcdefghijklmnopqr" ∷
         name "caabcdefghijklmnopqr" ∷ name "daabcdefghijklmnopqr" ∷
-        name "eaabcdefghijklmnopqr" ∷ name "faabcdefghijklmnopqr" ∷ []))))))))
-        (fields_left fields.entry))
-        (λ z.
-        (NamedThen (name "aaabcdefghijklmnopqr") (⟦<String as Deserialize<'de>>⟧.gives)
+        name "eaabcdefghijklmnopqr" ∷ name "faabcdefghijklmnopqr" ∷ []))))))) };
+
+    ghost gives = { λ z.
+        (RowThen (name "aaabcdefghijklmnopqr") (⟦<String as Deserialize<'de>>⟧.gives)
         z.aaabcdefghijklmnopqr
-        (NamedThen (name "baabcdefghijklmnopqr") (⟦<u8 as Deserialize<'de>>⟧.gives)
+        (RowThen (name "baabcdefghijklmnopqr") (⟦<u8 as Deserialize<'de>>⟧.gives)
         z.baabcdefghijklmnopqr
-        (NamedOrThen (name "caabcdefghijklmnopqr") (λ (x : (Option ℕ)). x ≡ None)
+        (RowOrThen (name "caabcdefghijklmnopqr") (λ (x : (Option ℕ)). x ≡ None)
         (⟦<Option<u8> as Deserialize<'de>>⟧.gives) z.caabcdefghijklmnopqr
-        (NamedThen (name "daabcdefghijklmnopqr") (⟦<bool as Deserialize<'de>>⟧.gives)
+        (RowThen (name "daabcdefghijklmnopqr") (⟦<bool as Deserialize<'de>>⟧.gives)
         z.daabcdefghijklmnopqr
-        (NamedThen (name "eaabcdefghijklmnopqr") (⟦<i32 as Deserialize<'de>>⟧.gives)
+        (RowThen (name "eaabcdefghijklmnopqr") (⟦<i32 as Deserialize<'de>>⟧.gives)
         z.eaabcdefghijklmnopqr
-        (NamedThen (name "faabcdefghijklmnopqr") (⟦<Vec<u8> as Deserialize<'de>>⟧.gives)
+        (RowThen (name "faabcdefghijklmnopqr") (⟦<Vec<u8> as Deserialize<'de>>⟧.gives)
         z.faabcdefghijklmnopqr
-        NoOthers))))))
-        (fields_left fields.entry)) result }
-{
-    let row: Field1OfNamesOfFields20 = ReadFields::read(alloc, fields)?;
-    let ReadField(aaabcdefghijklmnopqr, row, _) = row;
-    let ReadField(baabcdefghijklmnopqr, row, _) = row;
-    let ReadFieldOr(caabcdefghijklmnopqr, row, _) = row;
-    let ReadField(daabcdefghijklmnopqr, row, _) = row;
-    let ReadField(eaabcdefghijklmnopqr, row, _) = row;
-    let ReadField(faabcdefghijklmnopqr, _, _) = row;
-    Ok(NamesOfFields20 {
-        aaabcdefghijklmnopqr,
-        baabcdefghijklmnopqr,
-        caabcdefghijklmnopqr,
-        daabcdefghijklmnopqr,
-        eaabcdefghijklmnopqr,
-        faabcdefghijklmnopqr,
-    })
+        NoOthers)))))) };
+
+    #[tactic(auto, unfolding(serde_content::specs::Literals::name))]
+    fn name() -> &'static str {
+        "NamesOfFields20"
+    }
+
+    fn read<'n: 'de>(alloc: Global, fields: FieldsByName<'de, 'n>) -> Result<NamesOfFields20> {
+        let row: Field1OfNamesOfFields20 = ReadFields::read(alloc, fields)?;
+        let ReadField(aaabcdefghijklmnopqr, row, _) = row;
+        let ReadField(baabcdefghijklmnopqr, row, _) = row;
+        let ReadFieldOr(caabcdefghijklmnopqr, row, _) = row;
+        let ReadField(daabcdefghijklmnopqr, row, _) = row;
+        let ReadField(eaabcdefghijklmnopqr, row, _) = row;
+        let ReadField(faabcdefghijklmnopqr, _, _) = row;
+        Ok(NamesOfFields20 {
+            aaabcdefghijklmnopqr,
+            baabcdefghijklmnopqr,
+            caabcdefghijklmnopqr,
+            daabcdefghijklmnopqr,
+            eaabcdefghijklmnopqr,
+            faabcdefghijklmnopqr,
+        })
+    }
 }
 
 impl Serialize for NamesOfFields20 {
@@ -3745,41 +3727,34 @@ impl Serialize for NamesOfFields20 {
 
 impl<'de> Deserialize<'de> for NamesOfFields20 {
     ghost refusal = { struct_refusal (name "NamesOfFields20") (read_by_name
-        (named_then (name "aaabcdefghijklmnopqr") (⟦<String as Deserialize<'de>>⟧.refusal)
-        (named_then (name "baabcdefghijklmnopqr") (⟦<u8 as Deserialize<'de>>⟧.refusal)
-        (named_or_then (name "caabcdefghijklmnopqr")
+        (row_then (name "aaabcdefghijklmnopqr") (⟦<String as Deserialize<'de>>⟧.refusal)
+        (row_then (name "baabcdefghijklmnopqr") (⟦<u8 as Deserialize<'de>>⟧.refusal)
+        (row_or_then (name "caabcdefghijklmnopqr")
         (⟦<Option<u8> as Deserialize<'de>>⟧.refusal)
-        (named_then (name "daabcdefghijklmnopqr") (⟦<bool as Deserialize<'de>>⟧.refusal)
-        (named_then (name "eaabcdefghijklmnopqr") (⟦<i32 as Deserialize<'de>>⟧.refusal)
-        (named_then (name "faabcdefghijklmnopqr") (⟦<Vec<u8> as Deserialize<'de>>⟧.refusal)
-        (others_skipped (name "aaabcdefghijklmnopqr" ∷ name "baabcdefghijklmnopqr" ∷
+        (row_then (name "daabcdefghijklmnopqr") (⟦<bool as Deserialize<'de>>⟧.refusal)
+        (row_then (name "eaabcdefghijklmnopqr") (⟦<i32 as Deserialize<'de>>⟧.refusal)
+        (row_then (name "faabcdefghijklmnopqr") (⟦<Vec<u8> as Deserialize<'de>>⟧.refusal)
+        (others_left (name "aaabcdefghijklmnopqr" ∷ name "baabcdefghijklmnopqr" ∷
         name "caabcdefghijklmnopqr" ∷ name "daabcdefghijklmnopqr" ∷
         name "eaabcdefghijklmnopqr" ∷ name "faabcdefghijklmnopqr" ∷ []))))))))) };
 
     ghost gives = { λ s p. StructGives (name "NamesOfFields20") (ReadByName
-        (NamedThen (name "aaabcdefghijklmnopqr") (⟦<String as Deserialize<'de>>⟧.gives)
+        (RowThen (name "aaabcdefghijklmnopqr") (⟦<String as Deserialize<'de>>⟧.gives)
         p.aaabcdefghijklmnopqr
-        (NamedThen (name "baabcdefghijklmnopqr") (⟦<u8 as Deserialize<'de>>⟧.gives)
+        (RowThen (name "baabcdefghijklmnopqr") (⟦<u8 as Deserialize<'de>>⟧.gives)
         p.baabcdefghijklmnopqr
-        (NamedOrThen (name "caabcdefghijklmnopqr") (λ (x : (Option ℕ)). x ≡ None)
+        (RowOrThen (name "caabcdefghijklmnopqr") (λ (x : (Option ℕ)). x ≡ None)
         (⟦<Option<u8> as Deserialize<'de>>⟧.gives) p.caabcdefghijklmnopqr
-        (NamedThen (name "daabcdefghijklmnopqr") (⟦<bool as Deserialize<'de>>⟧.gives)
+        (RowThen (name "daabcdefghijklmnopqr") (⟦<bool as Deserialize<'de>>⟧.gives)
         p.daabcdefghijklmnopqr
-        (NamedThen (name "eaabcdefghijklmnopqr") (⟦<i32 as Deserialize<'de>>⟧.gives)
+        (RowThen (name "eaabcdefghijklmnopqr") (⟦<i32 as Deserialize<'de>>⟧.gives)
         p.eaabcdefghijklmnopqr
-        (NamedThen (name "faabcdefghijklmnopqr") (⟦<Vec<u8> as Deserialize<'de>>⟧.gives)
+        (RowThen (name "faabcdefghijklmnopqr") (⟦<Vec<u8> as Deserialize<'de>>⟧.gives)
         p.faabcdefghijklmnopqr
         NoOthers))))))) s };
 
     fn deserialize<'n: 'de>(alloc: Global, from: Deserializer<'de, 'n>) -> Result<NamesOfFields20> {
-        let fields = from
-            .deserialize_struct(
-                alloc,
-                name_names_of_fields20(),
-                FieldsOfNamesOfFields20::names(),
-            )?
-            .by_name();
-        read_names_of_fields20(alloc, fields)
+        read_struct::<FieldsOfNamesOfFields20, Self>(alloc, from)
     }
 }
 
@@ -3966,15 +3941,15 @@ fn read_names_of_variants40_daabcdefghijklmnopqrstuvwxyzabcdefghijkl<'de, 'n: 'd
     fields: FieldsByName<'de, 'n>,
 ) -> Result<(i32, u8, String)>
     ensures { Reads (
-        (named_then (name "x") (⟦<i32 as Deserialize<'de>>⟧.refusal)
-        (named_then (name "y") (⟦<u8 as Deserialize<'de>>⟧.refusal)
-        (named_then (name "z") (⟦<String as Deserialize<'de>>⟧.refusal)
-        (others_skipped (name "x" ∷ name "y" ∷ name "z" ∷ [])))))
+        (row_then (name "x") (⟦<i32 as Deserialize<'de>>⟧.refusal)
+        (row_then (name "y") (⟦<u8 as Deserialize<'de>>⟧.refusal)
+        (row_then (name "z") (⟦<String as Deserialize<'de>>⟧.refusal)
+        (others_left (name "x" ∷ name "y" ∷ name "z" ∷ [])))))
         (fields_left fields.entry))
         (λ z.
-        (NamedThen (name "x") (⟦<i32 as Deserialize<'de>>⟧.gives) z.0
-        (NamedThen (name "y") (⟦<u8 as Deserialize<'de>>⟧.gives) z.1
-        (NamedThen (name "z") (⟦<String as Deserialize<'de>>⟧.gives) z.2
+        (RowThen (name "x") (⟦<i32 as Deserialize<'de>>⟧.gives) z.0
+        (RowThen (name "y") (⟦<u8 as Deserialize<'de>>⟧.gives) z.1
+        (RowThen (name "z") (⟦<String as Deserialize<'de>>⟧.gives) z.2
         NoOthers)))
         (fields_left fields.entry)) result }
 {
@@ -4111,10 +4086,10 @@ impl<'de> Variants<'de> for NamesOfVariants40 {
           name "Daabcdefghijklmnopqrstuvwxyzabcdefghijkl",
           struct_variant_refusal
               (read_by_name
-              (named_then (name "x") (⟦<i32 as Deserialize<'de>>⟧.refusal)
-              (named_then (name "y") (⟦<u8 as Deserialize<'de>>⟧.refusal)
-              (named_then (name "z") (⟦<String as Deserialize<'de>>⟧.refusal)
-              (others_skipped (name "x" ∷ name "y" ∷ name "z" ∷ [])))))),
+              (row_then (name "x") (⟦<i32 as Deserialize<'de>>⟧.refusal)
+              (row_then (name "y") (⟦<u8 as Deserialize<'de>>⟧.refusal)
+              (row_then (name "z") (⟦<String as Deserialize<'de>>⟧.refusal)
+              (others_left (name "x" ∷ name "y" ∷ name "z" ∷ [])))))),
         )
         ∷ []) };
 
@@ -4140,9 +4115,9 @@ impl<'de> Variants<'de> for NamesOfVariants40 {
           NoPart))
       | names_of_variants40.Daabcdefghijklmnopqrstuvwxyzabcdefghijkl x1 x2 x3 ↦
           StructVariantGives (ReadByName
-          (NamedThen (name "x") (⟦<i32 as Deserialize<'de>>⟧.gives) x1
-          (NamedThen (name "y") (⟦<u8 as Deserialize<'de>>⟧.gives) x2
-          (NamedThen (name "z") (⟦<String as Deserialize<'de>>⟧.gives) x3
+          (RowThen (name "x") (⟦<i32 as Deserialize<'de>>⟧.gives) x1
+          (RowThen (name "y") (⟦<u8 as Deserialize<'de>>⟧.gives) x2
+          (RowThen (name "z") (⟦<String as Deserialize<'de>>⟧.gives) x3
           NoOthers))))
     ] };
 
@@ -4312,11 +4287,11 @@ impl<'de> RoundTrip<'de> for NamesOfVariants40 {
             record { free = q.0; given = q.1 }
         | names_of_variants40.Daabcdefghijklmnopqrstuvwxyzabcdefghijkl x1 x2 x3 ↦ λ p.
             let q = variant_kept {own = (struct_variant_refusal (read_by_name
-            (named_then (name "x") (⟦<i32 as Deserialize<'de>>⟧.refusal)
-            (named_then (name "y") (⟦<u8 as Deserialize<'de>>⟧.refusal)
-            (named_then (name "z") (⟦<String as Deserialize<'de>>⟧.refusal)
-            (others_skipped (name "x" ∷ name "y" ∷ name "z" ∷ [])))))))}
-            (name "NamesOfVariants40") (name "Daabcdefghijklmnopqrstuvwxyzabcdefghijkl")
+            (row_then (name "x") (⟦<i32 as Deserialize<'de>>⟧.refusal)
+            (row_then (name "y") (⟦<u8 as Deserialize<'de>>⟧.refusal)
+            (row_then (name "z") (⟦<String as Deserialize<'de>>⟧.refusal)
+            (others_left (name "x" ∷ name "y" ∷ name "z" ∷ [])))))))} (name "NamesOfVariants40")
+            (name "Daabcdefghijklmnopqrstuvwxyzabcdefghijkl")
             ⟦<NamesOfVariants40 as Variants<'de>>⟧.refusal
             (unfold name index_among in λ v. refl) (struct_variant_keeps (by_name_keeps
             (named_keeps (name "x") (λ (z : ℤ × ℕ × (String Global)). z.0)
@@ -4412,16 +4387,16 @@ fn read_name_of_tag20_b<'de, 'n: 'de>(
     fields: FieldsByName<'de, 'n>,
 ) -> Result<(u8, i32, String)>
     ensures { Reads (
-        (named_then (name "f0") (⟦<u8 as Deserialize<'de>>⟧.refusal)
-        (named_then (name "f1") (⟦<i32 as Deserialize<'de>>⟧.refusal)
-        (named_then (name "f2") (⟦<String as Deserialize<'de>>⟧.refusal)
-        (others_skipped (name "aaabcdefghijklmnopqr" ∷ name "f0" ∷ name "f1" ∷ name "f2" ∷
+        (row_then (name "f0") (⟦<u8 as Deserialize<'de>>⟧.refusal)
+        (row_then (name "f1") (⟦<i32 as Deserialize<'de>>⟧.refusal)
+        (row_then (name "f2") (⟦<String as Deserialize<'de>>⟧.refusal)
+        (others_left (name "aaabcdefghijklmnopqr" ∷ name "f0" ∷ name "f1" ∷ name "f2" ∷
         [])))))
         (fields_left fields.entry))
         (λ z.
-        (NamedThen (name "f0") (⟦<u8 as Deserialize<'de>>⟧.gives) z.0
-        (NamedThen (name "f1") (⟦<i32 as Deserialize<'de>>⟧.gives) z.1
-        (NamedThen (name "f2") (⟦<String as Deserialize<'de>>⟧.gives) z.2
+        (RowThen (name "f0") (⟦<u8 as Deserialize<'de>>⟧.gives) z.0
+        (RowThen (name "f1") (⟦<i32 as Deserialize<'de>>⟧.gives) z.1
+        (RowThen (name "f2") (⟦<String as Deserialize<'de>>⟧.gives) z.2
         NoOthers)))
         (fields_left fields.entry)) result }
 {
@@ -4491,13 +4466,13 @@ impl<'de> TaggedVariants<'de> for NameOfTag20 {
     ghost tag_name = { name "aaabcdefghijklmnopqr" };
 
     ghost refusal = { variants (
-        (name "A", (others_skipped (name "aaabcdefghijklmnopqr" ∷ [])))
+        (name "A", (others_left (name "aaabcdefghijklmnopqr" ∷ [])))
         ∷ (
           name "B",
-          (named_then (name "f0") (⟦<u8 as Deserialize<'de>>⟧.refusal)
-              (named_then (name "f1") (⟦<i32 as Deserialize<'de>>⟧.refusal)
-              (named_then (name "f2") (⟦<String as Deserialize<'de>>⟧.refusal)
-              (others_skipped (name "aaabcdefghijklmnopqr" ∷ name "f0" ∷ name "f1" ∷ name "f2" ∷
+          (row_then (name "f0") (⟦<u8 as Deserialize<'de>>⟧.refusal)
+              (row_then (name "f1") (⟦<i32 as Deserialize<'de>>⟧.refusal)
+              (row_then (name "f2") (⟦<String as Deserialize<'de>>⟧.refusal)
+              (others_left (name "aaabcdefghijklmnopqr" ∷ name "f0" ∷ name "f1" ∷ name "f2" ∷
               []))))),
         )
         ∷ []) };
@@ -4509,10 +4484,10 @@ impl<'de> TaggedVariants<'de> for NameOfTag20 {
 
     ghost held = { elim [
       | name_of_tag20.A ↦ NoOthers
-      | name_of_tag20.B x1 x2 x3 ↦ (NamedThen (name "f0")
-          (⟦<u8 as Deserialize<'de>>⟧.gives) x1
-          (NamedThen (name "f1") (⟦<i32 as Deserialize<'de>>⟧.gives) x2
-          (NamedThen (name "f2") (⟦<String as Deserialize<'de>>⟧.gives) x3
+      | name_of_tag20.B x1 x2 x3 ↦ (RowThen (name "f0") (⟦<u8 as Deserialize<'de>>⟧.gives)
+          x1
+          (RowThen (name "f1") (⟦<i32 as Deserialize<'de>>⟧.gives) x2
+          (RowThen (name "f2") (⟦<String as Deserialize<'de>>⟧.gives) x3
           NoOthers)))
     ] };
 
@@ -4602,9 +4577,9 @@ impl<'de> RoundTrip<'de> for NameOfTag20 {
             (tag_keeps_buffered (name "aaabcdefghijklmnopqr") (name "B")
             ⟦<NameOfTag20 as TaggedVariants<'de>>⟧.refusal
             (λ (z : ℕ × ℤ × (String Global)).
-            (NamedThen (name "f0") (⟦<u8 as Deserialize<'de>>⟧.gives) z.0
-            (NamedThen (name "f1") (⟦<i32 as Deserialize<'de>>⟧.gives) z.1
-            (NamedThen (name "f2") (⟦<String as Deserialize<'de>>⟧.gives) z.2
+            (RowThen (name "f0") (⟦<u8 as Deserialize<'de>>⟧.gives) z.0
+            (RowThen (name "f1") (⟦<i32 as Deserialize<'de>>⟧.gives) z.1
+            (RowThen (name "f2") (⟦<String as Deserialize<'de>>⟧.gives) z.2
             NoOthers))))))).of_origin o people (x1, x2, x3)
             (record { free = p.free; given = p.given }) in
             record { free = q.free; given = q.given }
@@ -4635,26 +4610,32 @@ type Field1OfWordData = ReadField<FieldsOfWordData, 0, u8, Field2OfWordData>;
 
 type Field2OfWordData = ReadField<FieldsOfWordData, 1, i32, OthersSkipped<FieldsOfWordData>>;
 
-/// Reads the fields, in any order.
-fn read_word_data<'de, 'n: 'de>(alloc: Global, fields: FieldsByName<'de, 'n>) -> Result<WordData>
-    ensures { Reads (
-        (named_then (name "data") (⟦<u8 as Deserialize<'de>>⟧.refusal)
-        (named_then (name "other") (⟦<i32 as Deserialize<'de>>⟧.refusal)
-        (others_skipped (name "data" ∷ name "other" ∷ []))))
-        (fields_left fields.entry))
-        (λ z.
-        (NamedThen (name "data") (⟦<u8 as Deserialize<'de>>⟧.gives) z.«data»
-        (NamedThen (name "other") (⟦<i32 as Deserialize<'de>>⟧.gives) z.other
-        NoOthers))
-        (fields_left fields.entry)) result }
-{
-    let row: Field1OfWordData = ReadFields::read(alloc, fields)?;
-    let ReadField(data_field, row, _) = row;
-    let ReadField(other, _, _) = row;
-    Ok(WordData {
-        data: data_field,
-        other,
-    })
+impl<'de> ReadStruct<'de> for WordData {
+    ghost name = { name "WordData" };
+
+    ghost refusal = { row_then (name "data") (⟦<u8 as Deserialize<'de>>⟧.refusal)
+        (row_then (name "other") (⟦<i32 as Deserialize<'de>>⟧.refusal)
+        (others_left (name "data" ∷ name "other" ∷ []))) };
+
+    ghost gives = { λ z.
+        (RowThen (name "data") (⟦<u8 as Deserialize<'de>>⟧.gives) z.«data»
+        (RowThen (name "other") (⟦<i32 as Deserialize<'de>>⟧.gives) z.other
+        NoOthers)) };
+
+    #[tactic(auto, unfolding(serde_content::specs::Literals::name))]
+    fn name() -> &'static str {
+        "WordData"
+    }
+
+    fn read<'n: 'de>(alloc: Global, fields: FieldsByName<'de, 'n>) -> Result<WordData> {
+        let row: Field1OfWordData = ReadFields::read(alloc, fields)?;
+        let ReadField(data_field, row, _) = row;
+        let ReadField(other, _, _) = row;
+        Ok(WordData {
+            data: data_field,
+            other,
+        })
+    }
 }
 
 impl Serialize for WordData {
@@ -4679,20 +4660,17 @@ impl Serialize for WordData {
 
 impl<'de> Deserialize<'de> for WordData {
     ghost refusal = { struct_refusal (name "WordData") (read_by_name
-        (named_then (name "data") (⟦<u8 as Deserialize<'de>>⟧.refusal)
-        (named_then (name "other") (⟦<i32 as Deserialize<'de>>⟧.refusal)
-        (others_skipped (name "data" ∷ name "other" ∷ []))))) };
+        (row_then (name "data") (⟦<u8 as Deserialize<'de>>⟧.refusal)
+        (row_then (name "other") (⟦<i32 as Deserialize<'de>>⟧.refusal)
+        (others_left (name "data" ∷ name "other" ∷ []))))) };
 
     ghost gives = { λ s p. StructGives (name "WordData") (ReadByName
-        (NamedThen (name "data") (⟦<u8 as Deserialize<'de>>⟧.gives) p.«data»
-        (NamedThen (name "other") (⟦<i32 as Deserialize<'de>>⟧.gives) p.other
+        (RowThen (name "data") (⟦<u8 as Deserialize<'de>>⟧.gives) p.«data»
+        (RowThen (name "other") (⟦<i32 as Deserialize<'de>>⟧.gives) p.other
         NoOthers))) s };
 
     fn deserialize<'n: 'de>(alloc: Global, from: Deserializer<'de, 'n>) -> Result<WordData> {
-        let fields = from
-            .deserialize_struct(alloc, name_word_data(), FieldsOfWordData::names())?
-            .by_name();
-        read_word_data(alloc, fields)
+        read_struct::<FieldsOfWordData, Self>(alloc, from)
     }
 }
 
@@ -4762,13 +4740,13 @@ fn read_word_in_variant_record_a<'de, 'n: 'de>(
     fields: FieldsByName<'de, 'n>,
 ) -> Result<(i32, u8)>
     ensures { Reads (
-        (named_then (name "record") (⟦<i32 as Deserialize<'de>>⟧.refusal)
-        (named_then (name "other") (⟦<u8 as Deserialize<'de>>⟧.refusal)
-        (others_skipped (name "record" ∷ name "other" ∷ []))))
+        (row_then (name "record") (⟦<i32 as Deserialize<'de>>⟧.refusal)
+        (row_then (name "other") (⟦<u8 as Deserialize<'de>>⟧.refusal)
+        (others_left (name "record" ∷ name "other" ∷ []))))
         (fields_left fields.entry))
         (λ z.
-        (NamedThen (name "record") (⟦<i32 as Deserialize<'de>>⟧.gives) z.0
-        (NamedThen (name "other") (⟦<u8 as Deserialize<'de>>⟧.gives) z.1
+        (RowThen (name "record") (⟦<i32 as Deserialize<'de>>⟧.gives) z.0
+        (RowThen (name "other") (⟦<u8 as Deserialize<'de>>⟧.gives) z.1
         NoOthers))
         (fields_left fields.entry)) result }
 {
@@ -4841,9 +4819,9 @@ impl<'de> Variants<'de> for WordInVariantRecord {
     ghost refusal = { variants ((
       name "A",
       struct_variant_refusal (read_by_name
-          (named_then (name "record") (⟦<i32 as Deserialize<'de>>⟧.refusal)
-          (named_then (name "other") (⟦<u8 as Deserialize<'de>>⟧.refusal)
-          (others_skipped (name "record" ∷ name "other" ∷ []))))),
+          (row_then (name "record") (⟦<i32 as Deserialize<'de>>⟧.refusal)
+          (row_then (name "other") (⟦<u8 as Deserialize<'de>>⟧.refusal)
+          (others_left (name "record" ∷ name "other" ∷ []))))),
     )
         ∷ (name "B", newtype_variant_refusal (⟦<u8 as Deserialize<'de>>⟧.refusal))
         ∷ []) };
@@ -4855,8 +4833,8 @@ impl<'de> Variants<'de> for WordInVariantRecord {
 
     ghost held = { elim [
       | word_in_variant_record.A x1 x2 ↦ StructVariantGives (ReadByName
-          (NamedThen (name "record") (⟦<i32 as Deserialize<'de>>⟧.gives) x1
-          (NamedThen (name "other") (⟦<u8 as Deserialize<'de>>⟧.gives) x2
+          (RowThen (name "record") (⟦<i32 as Deserialize<'de>>⟧.gives) x1
+          (RowThen (name "other") (⟦<u8 as Deserialize<'de>>⟧.gives) x2
           NoOthers)))
       | word_in_variant_record.B x1 ↦ NewtypeVariantGives
           (⟦<u8 as Deserialize<'de>>⟧.gives) x1
@@ -4936,10 +4914,10 @@ impl<'de> RoundTrip<'de> for WordInVariantRecord {
       of_origin = λ o people. elim [
         | word_in_variant_record.A x1 x2 ↦ λ p.
             let q = variant_kept {own = (struct_variant_refusal (read_by_name
-            (named_then (name "record") (⟦<i32 as Deserialize<'de>>⟧.refusal)
-            (named_then (name "other") (⟦<u8 as Deserialize<'de>>⟧.refusal)
-            (others_skipped (name "record" ∷ name "other" ∷ []))))))}
-            (name "WordInVariantRecord") (name "A")
+            (row_then (name "record") (⟦<i32 as Deserialize<'de>>⟧.refusal)
+            (row_then (name "other") (⟦<u8 as Deserialize<'de>>⟧.refusal)
+            (others_left (name "record" ∷ name "other" ∷ []))))))} (name "WordInVariantRecord")
+            (name "A")
             ⟦<WordInVariantRecord as Variants<'de>>⟧.refusal
             (unfold name index_among in λ v. refl) (struct_variant_keeps (by_name_keeps
             (named_keeps (name "record") (λ (z : ℤ × ℕ). z.0) (integer_keeps kind.i32)
@@ -4987,34 +4965,33 @@ type Field3OfFlat = ReadField<FieldsOfFlat, 2, String, Field4OfFlat>;
 
 type Field4OfFlat = ReadFieldOr<FieldsOfFlat, 3, Option<u8>, OthersSkipped<FieldsOfFlat>>;
 
-/// Reads the fields, in any order.
-fn read_flat<'de, 'n: 'de>(alloc: Global, fields: FieldsByName<'de, 'n>) -> Result<Flat>
-    ensures { Reads (
-        (named_then (name "x") (⟦<u8 as Deserialize<'de>>⟧.refusal)
-        (named_then (name "a") (⟦<u8 as Deserialize<'de>>⟧.refusal)
-        (named_then (name "b") (⟦<String as Deserialize<'de>>⟧.refusal)
-        (named_or_then (name "y") (⟦<Option<u8> as Deserialize<'de>>⟧.refusal)
-        (others_skipped (name "x" ∷ name "a" ∷ name "b" ∷ name "y" ∷ []))))))
-        (fields_left fields.entry))
-        (λ z.
-        (NamedThen (name "x") (⟦<u8 as Deserialize<'de>>⟧.gives) z.x
-        (NamedThen (name "a") (⟦<u8 as Deserialize<'de>>⟧.gives) z.own.a
-        (NamedThen (name "b") (⟦<String as Deserialize<'de>>⟧.gives) z.own.b
-        (NamedOrThen (name "y") (λ (x : (Option ℕ)). x ≡ None)
+impl<'de> ReadFields<'de> for Flat {
+    ghost refusal = { row_then (name "x") (⟦<u8 as Deserialize<'de>>⟧.refusal)
+        (row_then (name "a") (⟦<u8 as Deserialize<'de>>⟧.refusal)
+        (row_then (name "b") (⟦<String as Deserialize<'de>>⟧.refusal)
+        (row_or_then (name "y") (⟦<Option<u8> as Deserialize<'de>>⟧.refusal)
+        (others_left (name "x" ∷ name "a" ∷ name "b" ∷ name "y" ∷ []))))) };
+
+    ghost gives = { λ z.
+        (RowThen (name "x") (⟦<u8 as Deserialize<'de>>⟧.gives) z.x
+        (RowThen (name "a") (⟦<u8 as Deserialize<'de>>⟧.gives) z.own.a
+        (RowThen (name "b") (⟦<String as Deserialize<'de>>⟧.gives) z.own.b
+        (RowOrThen (name "y") (λ (x : (Option ℕ)). x ≡ None)
         (⟦<Option<u8> as Deserialize<'de>>⟧.gives) z.y
-        NoOthers))))
-        (fields_left fields.entry)) result }
-{
-    let row: Field1OfFlat = ReadFields::read(alloc, fields)?;
-    let ReadField(x, row, _) = row;
-    let ReadField(own_a, row, _) = row;
-    let ReadField(own_b, row, _) = row;
-    let ReadFieldOr(y, _, _) = row;
-    Ok(Flat {
-        x,
-        own: Own { a: own_a, b: own_b },
-        y,
-    })
+        NoOthers)))) };
+
+    fn read<'n: 'de>(alloc: Global, fields: FieldsByName<'de, 'n>) -> Result<Flat> {
+        let row: Field1OfFlat = ReadFields::read(alloc, fields)?;
+        let ReadField(x, row, _) = row;
+        let ReadField(own_a, row, _) = row;
+        let ReadField(own_b, row, _) = row;
+        let ReadFieldOr(y, _, _) = row;
+        Ok(Flat {
+            x,
+            own: Own { a: own_a, b: own_b },
+            y,
+        })
+    }
 }
 
 impl Serialize for Flat {
@@ -5045,23 +5022,22 @@ impl Serialize for Flat {
 
 impl<'de> Deserialize<'de> for Flat {
     ghost refusal = { flattened_refusal (read_by_name
-        (named_then (name "x") (⟦<u8 as Deserialize<'de>>⟧.refusal)
-        (named_then (name "a") (⟦<u8 as Deserialize<'de>>⟧.refusal)
-        (named_then (name "b") (⟦<String as Deserialize<'de>>⟧.refusal)
-        (named_or_then (name "y") (⟦<Option<u8> as Deserialize<'de>>⟧.refusal)
-        (others_skipped (name "x" ∷ name "a" ∷ name "b" ∷ name "y" ∷ []))))))) };
+        (row_then (name "x") (⟦<u8 as Deserialize<'de>>⟧.refusal)
+        (row_then (name "a") (⟦<u8 as Deserialize<'de>>⟧.refusal)
+        (row_then (name "b") (⟦<String as Deserialize<'de>>⟧.refusal)
+        (row_or_then (name "y") (⟦<Option<u8> as Deserialize<'de>>⟧.refusal)
+        (others_left (name "x" ∷ name "a" ∷ name "b" ∷ name "y" ∷ []))))))) };
 
     ghost gives = { λ s p. FlattenedGives (ReadByName
-        (NamedThen (name "x") (⟦<u8 as Deserialize<'de>>⟧.gives) p.x
-        (NamedThen (name "a") (⟦<u8 as Deserialize<'de>>⟧.gives) p.own.a
-        (NamedThen (name "b") (⟦<String as Deserialize<'de>>⟧.gives) p.own.b
-        (NamedOrThen (name "y") (λ (x : (Option ℕ)). x ≡ None)
+        (RowThen (name "x") (⟦<u8 as Deserialize<'de>>⟧.gives) p.x
+        (RowThen (name "a") (⟦<u8 as Deserialize<'de>>⟧.gives) p.own.a
+        (RowThen (name "b") (⟦<String as Deserialize<'de>>⟧.gives) p.own.b
+        (RowOrThen (name "y") (λ (x : (Option ℕ)). x ≡ None)
         (⟦<Option<u8> as Deserialize<'de>>⟧.gives) p.y
         NoOthers))))) s };
 
     fn deserialize<'n: 'de>(alloc: Global, from: Deserializer<'de, 'n>) -> Result<Flat> {
-        let fields = from.deserialize_map(alloc)?.by_name();
-        read_flat(alloc, fields)
+        read_flattened(alloc, from)
     }
 }
 
@@ -5177,14 +5153,6 @@ fn name_sent20() -> &'static str
     ensures { result.now ≡ name "Sent20" }
 {
     "Sent20"
-}
-
-/// The name `Read12`.
-#[tactic(auto, unfolding(serde_content::specs::Literals::name))]
-fn name_read12() -> &'static str
-    ensures { result.now ≡ name "Read12" }
-{
-    "Read12"
 }
 
 /// The name `PlaceMixed9`.

@@ -18,13 +18,12 @@ ghost use Rattle.content_de.specs.Reads.Standard.{HasContent};
 ghost use Rattle.content_de.specs.Reads.Tuples.{part_then, end_of_parts, PartThen, NoPart};
 ghost use Rattle.content_de.specs.Accesses.ByName.{fields_left};
 ghost use Rattle.content_de.specs.Reads.Read.{Reads};
-ghost use Rattle.content_de.specs.Reads.ByName.{read_by_name, named_then, others_skipped};
-ghost use Rattle.content_de.specs.Reads.ByName.{ReadByName, NamedThen, NoOthers};
+ghost use Rattle.content_de.specs.Reads.ByName.{read_by_name, ReadByName, NoOthers};
 ghost use Rattle.content_de.specs.Reads.Tagged.{tag_then, TagThen};
 ghost use Rattle.content_de.specs.Reads.Own.{unit_struct_refusal, newtype_struct_refusal};
 ghost use Rattle.content_de.specs.Reads.Own.{NewtypeStructGives, tuple_struct_refusal};
 ghost use Rattle.content_de.specs.Reads.Own.{TupleStructGives, struct_refusal, StructGives};
-ghost use Rattle.serde_content.specs.Literals.{name};
+ghost use Rattle.serde_content.specs.Literals.{name, row_then, RowThen, others_left};
 ghost use Rattle.serde_content.specs.Variants.{index_among, variants};
 ghost use Rattle.serde_content.specs.RoundTrip.{ComesBack, CoercionKeeps};
 ghost use Rattle.serde_content.specs.Laws.Leaves.{heedless_keeps, natural_keeps, integer_keeps};
@@ -388,11 +387,11 @@ type Field1OfMessageText = ReadField<
 /// Reads the fields, in any order.
 fn read_message_text<'de, 'n: 'de>(alloc: Global, fields: FieldsByName<'de, 'n>) -> Result<String>
     ensures { Reads (
-        (named_then (name "c") (⟦<String as Deserialize<'de>>⟧.refusal)
-        (others_skipped (name "t" ∷ name "c" ∷ [])))
+        (row_then (name "c") (⟦<String as Deserialize<'de>>⟧.refusal)
+        (others_left (name "t" ∷ name "c" ∷ [])))
         (fields_left fields.entry))
         (λ z.
-        (NamedThen (name "c") (⟦<String as Deserialize<'de>>⟧.gives) z
+        (RowThen (name "c") (⟦<String as Deserialize<'de>>⟧.gives) z
         NoOthers)
         (fields_left fields.entry)) result }
 {
@@ -458,11 +457,11 @@ impl<'de> TaggedVariants<'de> for Message {
     ghost tag_name = { name "t" };
 
     ghost refusal = { variants (
-        (name "Ping", (others_skipped (name "t" ∷ [])))
+        (name "Ping", (others_left (name "t" ∷ [])))
         ∷ (
           name "Text",
-          (named_then (name "c") (⟦<String as Deserialize<'de>>⟧.refusal)
-              (others_skipped (name "t" ∷ name "c" ∷ []))),
+          (row_then (name "c") (⟦<String as Deserialize<'de>>⟧.refusal)
+              (others_left (name "t" ∷ name "c" ∷ []))),
         )
         ∷ []) };
 
@@ -473,7 +472,7 @@ impl<'de> TaggedVariants<'de> for Message {
 
     ghost held = { elim [
       | message.Ping ↦ NoOthers
-      | message.Text x1 ↦ (NamedThen (name "c") (⟦<String as Deserialize<'de>>⟧.gives) x1
+      | message.Text x1 ↦ (RowThen (name "c") (⟦<String as Deserialize<'de>>⟧.gives) x1
           NoOthers)
     ] };
 
@@ -548,7 +547,7 @@ impl<'de> RoundTrip<'de> for Message {
         | message.Ping ↦ λ p.
             let q = (struct_keeps (name "Message") (by_name_keeps
             (tag_keeps {own =
-            (others_skipped (name "t" ∷ []))} (name "t") (name "Ping")
+            (others_left (name "t" ∷ []))} (name "t") (name "Ping")
             ⟦<Message as TaggedVariants<'de>>⟧.refusal
             (unfold name index_among in λ f. refl)
             (skipped_keeps {Y = Unit {0}} (name "t" ∷ []))))).of_origin o people tt
@@ -557,8 +556,8 @@ impl<'de> RoundTrip<'de> for Message {
         | message.Text x1 ↦ λ p.
             let q = (struct_keeps (name "Message") (by_name_keeps
             (tag_keeps {own =
-            (named_then (name "c") (⟦<String as Deserialize<'de>>⟧.refusal)
-            (others_skipped (name "t" ∷ name "c" ∷ [])))} (name "t") (name "Text")
+            (row_then (name "c") (⟦<String as Deserialize<'de>>⟧.refusal)
+            (others_left (name "t" ∷ name "c" ∷ [])))} (name "t") (name "Text")
             ⟦<Message as TaggedVariants<'de>>⟧.refusal
             (unfold name index_among in λ f. refl)
             (named_keeps (name "c") (λ (z : (String Global)). z)

@@ -22,15 +22,14 @@ ghost use Rattle.content_de.specs.Reads.Standard.{HasContent};
 ghost use Rattle.content_de.specs.Reads.Tuples.{part_then, end_of_parts, PartThen, NoPart};
 ghost use Rattle.content_de.specs.Accesses.ByName.{fields_left};
 ghost use Rattle.content_de.specs.Reads.Read.{Reads};
-ghost use Rattle.content_de.specs.Reads.ByName.{read_by_name, named_then, named_or_then};
-ghost use Rattle.content_de.specs.Reads.ByName.{others_skipped, no_others, ReadByName, NamedThen};
-ghost use Rattle.content_de.specs.Reads.ByName.{NamedOrThen, NoOthers};
+ghost use Rattle.content_de.specs.Reads.ByName.{read_by_name, no_others, ReadByName, NoOthers};
 ghost use Rattle.content_de.specs.Reads.Own.{enum_refusal, EnumGives, unit_variant_refusal};
 ghost use Rattle.content_de.specs.Reads.Own.{UnitVariantGives, newtype_variant_refusal};
 ghost use Rattle.content_de.specs.Reads.Own.{NewtypeVariantGives, tuple_variant_refusal};
 ghost use Rattle.content_de.specs.Reads.Own.{TupleVariantGives, struct_refusal, StructGives};
 ghost use Rattle.content_de.specs.Reads.Own.{struct_variant_refusal, StructVariantGives};
-ghost use Rattle.serde_content.specs.Literals.{name};
+ghost use Rattle.serde_content.specs.Literals.{name, row_then, row_or_then, RowThen, RowOrThen};
+ghost use Rattle.serde_content.specs.Literals.{others_left};
 ghost use Rattle.serde_content.specs.Variants.{index_among, variants};
 ghost use Rattle.serde_content.specs.RoundTrip.{ComesBack, CoercionKeeps};
 ghost use Rattle.serde_content.specs.Laws.Leaves.{heedless_keeps, natural_keeps, integer_keeps};
@@ -78,8 +77,8 @@ use content_cbor::{CborRoundTrip, NotNull};
 use serde_content::de::{Deserialize, FieldsByName, VariantAccess};
 use serde_content::derive_support::{
     Names, OthersRefused, OthersSkipped, PartsEnd, ReadField, ReadFieldOr, ReadFields, ReadPart,
-    ReadParts, SendEnd, SendField, SendOpen, SendPart, Variants, no_such_variant, read_enum,
-    send_row, variant_index,
+    ReadParts, ReadStruct, SendEnd, SendField, SendOpen, SendPart, Variants, no_such_variant,
+    read_enum, read_struct, send_row, variant_index,
 };
 use serde_content::ser::{Call, Parts, Serialize, Serializer};
 use serde_content::{Deserializer, Result, RoundTrip};
@@ -112,24 +111,31 @@ type Field1OfPlace = ReadField<FieldsOfPlace, 0, String, Field2OfPlace>;
 
 type Field2OfPlace = ReadFieldOr<FieldsOfPlace, 1, Option<u8>, OthersRefused<FieldsOfPlace>>;
 
-/// Reads the fields, in any order.
-fn read_place<'de, 'n: 'de>(alloc: Global, fields: FieldsByName<'de, 'n>) -> Result<Place>
-    ensures { Reads (
-        (named_then (name "streetName") (⟦<String as Deserialize<'de>>⟧.refusal)
-        (named_or_then (name "floor") (⟦<Option<u8> as Deserialize<'de>>⟧.refusal)
-        (no_others (name "streetName" ∷ name "floor" ∷ []))))
-        (fields_left fields.entry))
-        (λ z.
-        (NamedThen (name "streetName") (⟦<String as Deserialize<'de>>⟧.gives) z.street_name
-        (NamedOrThen (name "floor") (λ (x : (Option ℕ)). x ≡ None)
+impl<'de> ReadStruct<'de> for Place {
+    ghost name = { name "Place" };
+
+    ghost refusal = { row_then (name "streetName")
+        (⟦<String as Deserialize<'de>>⟧.refusal)
+        (row_or_then (name "floor") (⟦<Option<u8> as Deserialize<'de>>⟧.refusal)
+        (no_others (name "streetName" ∷ name "floor" ∷ []))) };
+
+    ghost gives = { λ z.
+        (RowThen (name "streetName") (⟦<String as Deserialize<'de>>⟧.gives) z.street_name
+        (RowOrThen (name "floor") (λ (x : (Option ℕ)). x ≡ None)
         (⟦<Option<u8> as Deserialize<'de>>⟧.gives) z.floor
-        NoOthers))
-        (fields_left fields.entry)) result }
-{
-    let row: Field1OfPlace = ReadFields::read(alloc, fields)?;
-    let ReadField(street_name, row, _) = row;
-    let ReadFieldOr(floor, _, _) = row;
-    Ok(Place { street_name, floor })
+        NoOthers)) };
+
+    #[tactic(auto, unfolding(serde_content::specs::Literals::name))]
+    fn name() -> &'static str {
+        "Place"
+    }
+
+    fn read<'n: 'de>(alloc: Global, fields: FieldsByName<'de, 'n>) -> Result<Place> {
+        let row: Field1OfPlace = ReadFields::read(alloc, fields)?;
+        let ReadField(street_name, row, _) = row;
+        let ReadFieldOr(floor, _, _) = row;
+        Ok(Place { street_name, floor })
+    }
 }
 
 impl Serialize for Place {
@@ -154,21 +160,18 @@ impl Serialize for Place {
 
 impl<'de> Deserialize<'de> for Place {
     ghost refusal = { struct_refusal (name "Place") (read_by_name
-        (named_then (name "streetName") (⟦<String as Deserialize<'de>>⟧.refusal)
-        (named_or_then (name "floor") (⟦<Option<u8> as Deserialize<'de>>⟧.refusal)
+        (row_then (name "streetName") (⟦<String as Deserialize<'de>>⟧.refusal)
+        (row_or_then (name "floor") (⟦<Option<u8> as Deserialize<'de>>⟧.refusal)
         (no_others (name "streetName" ∷ name "floor" ∷ []))))) };
 
     ghost gives = { λ s p. StructGives (name "Place") (ReadByName
-        (NamedThen (name "streetName") (⟦<String as Deserialize<'de>>⟧.gives) p.street_name
-        (NamedOrThen (name "floor") (λ (x : (Option ℕ)). x ≡ None)
+        (RowThen (name "streetName") (⟦<String as Deserialize<'de>>⟧.gives) p.street_name
+        (RowOrThen (name "floor") (λ (x : (Option ℕ)). x ≡ None)
         (⟦<Option<u8> as Deserialize<'de>>⟧.gives) p.floor
         NoOthers))) s };
 
     fn deserialize<'n: 'de>(alloc: Global, from: Deserializer<'de, 'n>) -> Result<Place> {
-        let fields = from
-            .deserialize_struct(alloc, name_place(), FieldsOfPlace::names())?
-            .by_name();
-        read_place(alloc, fields)
+        read_struct::<FieldsOfPlace, Self>(alloc, from)
     }
 }
 
@@ -272,13 +275,13 @@ fn read_step_left<'de, 'n: 'de>(
     fields: FieldsByName<'de, 'n>,
 ) -> Result<(String, Place)>
     ensures { Reads (
-        (named_then (name "with") (⟦<String as Deserialize<'de>>⟧.refusal)
-        (named_then (name "at") (⟦<Place as Deserialize<'de>>⟧.refusal)
-        (others_skipped (name "with" ∷ name "at" ∷ []))))
+        (row_then (name "with") (⟦<String as Deserialize<'de>>⟧.refusal)
+        (row_then (name "at") (⟦<Place as Deserialize<'de>>⟧.refusal)
+        (others_left (name "with" ∷ name "at" ∷ []))))
         (fields_left fields.entry))
         (λ z.
-        (NamedThen (name "with") (⟦<String as Deserialize<'de>>⟧.gives) z.0
-        (NamedThen (name "at") (⟦<Place as Deserialize<'de>>⟧.gives) z.1
+        (RowThen (name "with") (⟦<String as Deserialize<'de>>⟧.gives) z.0
+        (RowThen (name "at") (⟦<Place as Deserialize<'de>>⟧.gives) z.1
         NoOthers))
         (fields_left fields.entry)) result }
 {
@@ -371,9 +374,9 @@ impl<'de> Variants<'de> for Step {
         ∷ (
           name "left",
           struct_variant_refusal (read_by_name
-              (named_then (name "with") (⟦<String as Deserialize<'de>>⟧.refusal)
-              (named_then (name "at") (⟦<Place as Deserialize<'de>>⟧.refusal)
-              (others_skipped (name "with" ∷ name "at" ∷ []))))),
+              (row_then (name "with") (⟦<String as Deserialize<'de>>⟧.refusal)
+              (row_then (name "at") (⟦<Place as Deserialize<'de>>⟧.refusal)
+              (others_left (name "with" ∷ name "at" ∷ []))))),
         )
         ∷ []) };
 
@@ -392,8 +395,8 @@ impl<'de> Variants<'de> for Step {
           (PartThen (⟦<i32 as Deserialize<'de>>⟧.gives) x2
           NoPart))
       | step.Left x1 x2 ↦ StructVariantGives (ReadByName
-          (NamedThen (name "with") (⟦<String as Deserialize<'de>>⟧.gives) x1
-          (NamedThen (name "at") (⟦<Place as Deserialize<'de>>⟧.gives) x2
+          (RowThen (name "with") (⟦<String as Deserialize<'de>>⟧.gives) x1
+          (RowThen (name "at") (⟦<Place as Deserialize<'de>>⟧.gives) x2
           NoOthers)))
     ] };
 
@@ -546,9 +549,9 @@ impl<'de> RoundTrip<'de> for Step {
             record { free = q.0; given = q.1 }
         | step.Left x1 x2 ↦ λ p.
             let q = variant_kept {own = (struct_variant_refusal (read_by_name
-            (named_then (name "with") (⟦<String as Deserialize<'de>>⟧.refusal)
-            (named_then (name "at") (⟦<Place as Deserialize<'de>>⟧.refusal)
-            (others_skipped (name "with" ∷ name "at" ∷ []))))))} (name "Step") (name "left")
+            (row_then (name "with") (⟦<String as Deserialize<'de>>⟧.refusal)
+            (row_then (name "at") (⟦<Place as Deserialize<'de>>⟧.refusal)
+            (others_left (name "with" ∷ name "at" ∷ []))))))} (name "Step") (name "left")
             ⟦<Step as Variants<'de>>⟧.refusal (unfold name index_among in λ v. refl)
             (struct_variant_keeps (by_name_keeps
             (named_keeps (name "with") (λ (z : (String Global) × Place). z.0)
@@ -682,46 +685,52 @@ type Field6OfOrder = ReadFieldOr<
     OthersSkipped<FieldsOfOrder>,
 >;
 
-/// Reads the fields, in any order.
-fn read_order<'de, 'n: 'de>(alloc: Global, fields: FieldsByName<'de, 'n>) -> Result<Order>
-    ensures { Reads (
-        (named_then (name "order-id") (⟦<u64 as Deserialize<'de>>⟧.refusal)
-        (named_then (name "to") (⟦<Place as Deserialize<'de>>⟧.refusal)
-        (named_or_then (name "steps") (⟦<Vec<Step> as Deserialize<'de>>⟧.refusal)
-        (named_then (name "goods") (⟦<BTreeMap<String, u32> as Deserialize<'de>>⟧.refusal)
-        (named_then (name "size") (⟦<(u16, u16, u16) as Deserialize<'de>>⟧.refusal)
-        (named_or_then (name "note") (⟦<Option<Box<String>> as Deserialize<'de>>⟧.refusal)
-        (others_skipped (name "order-id" ∷ name "to" ∷ name "steps" ∷ name "goods" ∷
-        name "size" ∷ name "note" ∷ []))))))))
-        (fields_left fields.entry))
-        (λ z.
-        (NamedThen (name "order-id") (⟦<u64 as Deserialize<'de>>⟧.gives) z.id
-        (NamedThen (name "to") (⟦<Place as Deserialize<'de>>⟧.gives) z.to
-        (NamedOrThen (name "steps") (λ (x : (Vec Step Global)). x.items ≡ [])
+impl<'de> ReadStruct<'de> for Order {
+    ghost name = { name "Order" };
+
+    ghost refusal = { row_then (name "order-id") (⟦<u64 as Deserialize<'de>>⟧.refusal)
+        (row_then (name "to") (⟦<Place as Deserialize<'de>>⟧.refusal)
+        (row_or_then (name "steps") (⟦<Vec<Step> as Deserialize<'de>>⟧.refusal)
+        (row_then (name "goods") (⟦<BTreeMap<String, u32> as Deserialize<'de>>⟧.refusal)
+        (row_then (name "size") (⟦<(u16, u16, u16) as Deserialize<'de>>⟧.refusal)
+        (row_or_then (name "note") (⟦<Option<Box<String>> as Deserialize<'de>>⟧.refusal)
+        (others_left (name "order-id" ∷ name "to" ∷ name "steps" ∷ name "goods" ∷
+        name "size" ∷ name "note" ∷ []))))))) };
+
+    ghost gives = { λ z.
+        (RowThen (name "order-id") (⟦<u64 as Deserialize<'de>>⟧.gives) z.id
+        (RowThen (name "to") (⟦<Place as Deserialize<'de>>⟧.gives) z.to
+        (RowOrThen (name "steps") (λ (x : (Vec Step Global)). x.items ≡ [])
         (⟦<Vec<Step> as Deserialize<'de>>⟧.gives) z.steps
-        (NamedThen (name "goods") (⟦<BTreeMap<String, u32> as Deserialize<'de>>⟧.gives)
+        (RowThen (name "goods") (⟦<BTreeMap<String, u32> as Deserialize<'de>>⟧.gives)
         z.goods
-        (NamedThen (name "size") (⟦<(u16, u16, u16) as Deserialize<'de>>⟧.gives) z.size
-        (NamedOrThen (name "note") (λ (x : (Option (Box (String Global) Global))). x ≡ None)
+        (RowThen (name "size") (⟦<(u16, u16, u16) as Deserialize<'de>>⟧.gives) z.size
+        (RowOrThen (name "note") (λ (x : (Option (Box (String Global) Global))). x ≡ None)
         (⟦<Option<Box<String>> as Deserialize<'de>>⟧.gives) z.note
-        NoOthers))))))
-        (fields_left fields.entry)) result }
-{
-    let row: Field1OfOrder = ReadFields::read(alloc, fields)?;
-    let ReadField(id, row, _) = row;
-    let ReadField(to, row, _) = row;
-    let ReadFieldOr(steps, row, _) = row;
-    let ReadField(goods, row, _) = row;
-    let ReadField(size, row, _) = row;
-    let ReadFieldOr(note, _, _) = row;
-    Ok(Order {
-        id,
-        to,
-        steps,
-        goods,
-        size,
-        note,
-    })
+        NoOthers)))))) };
+
+    #[tactic(auto, unfolding(serde_content::specs::Literals::name))]
+    fn name() -> &'static str {
+        "Order"
+    }
+
+    fn read<'n: 'de>(alloc: Global, fields: FieldsByName<'de, 'n>) -> Result<Order> {
+        let row: Field1OfOrder = ReadFields::read(alloc, fields)?;
+        let ReadField(id, row, _) = row;
+        let ReadField(to, row, _) = row;
+        let ReadFieldOr(steps, row, _) = row;
+        let ReadField(goods, row, _) = row;
+        let ReadField(size, row, _) = row;
+        let ReadFieldOr(note, _, _) = row;
+        Ok(Order {
+            id,
+            to,
+            steps,
+            goods,
+            size,
+            note,
+        })
+    }
 }
 
 impl Serialize for Order {
@@ -767,32 +776,29 @@ impl Serialize for Order {
 
 impl<'de> Deserialize<'de> for Order {
     ghost refusal = { struct_refusal (name "Order") (read_by_name
-        (named_then (name "order-id") (⟦<u64 as Deserialize<'de>>⟧.refusal)
-        (named_then (name "to") (⟦<Place as Deserialize<'de>>⟧.refusal)
-        (named_or_then (name "steps") (⟦<Vec<Step> as Deserialize<'de>>⟧.refusal)
-        (named_then (name "goods") (⟦<BTreeMap<String, u32> as Deserialize<'de>>⟧.refusal)
-        (named_then (name "size") (⟦<(u16, u16, u16) as Deserialize<'de>>⟧.refusal)
-        (named_or_then (name "note") (⟦<Option<Box<String>> as Deserialize<'de>>⟧.refusal)
-        (others_skipped (name "order-id" ∷ name "to" ∷ name "steps" ∷ name "goods" ∷
+        (row_then (name "order-id") (⟦<u64 as Deserialize<'de>>⟧.refusal)
+        (row_then (name "to") (⟦<Place as Deserialize<'de>>⟧.refusal)
+        (row_or_then (name "steps") (⟦<Vec<Step> as Deserialize<'de>>⟧.refusal)
+        (row_then (name "goods") (⟦<BTreeMap<String, u32> as Deserialize<'de>>⟧.refusal)
+        (row_then (name "size") (⟦<(u16, u16, u16) as Deserialize<'de>>⟧.refusal)
+        (row_or_then (name "note") (⟦<Option<Box<String>> as Deserialize<'de>>⟧.refusal)
+        (others_left (name "order-id" ∷ name "to" ∷ name "steps" ∷ name "goods" ∷
         name "size" ∷ name "note" ∷ []))))))))) };
 
     ghost gives = { λ s p. StructGives (name "Order") (ReadByName
-        (NamedThen (name "order-id") (⟦<u64 as Deserialize<'de>>⟧.gives) p.id
-        (NamedThen (name "to") (⟦<Place as Deserialize<'de>>⟧.gives) p.to
-        (NamedOrThen (name "steps") (λ (x : (Vec Step Global)). x.items ≡ [])
+        (RowThen (name "order-id") (⟦<u64 as Deserialize<'de>>⟧.gives) p.id
+        (RowThen (name "to") (⟦<Place as Deserialize<'de>>⟧.gives) p.to
+        (RowOrThen (name "steps") (λ (x : (Vec Step Global)). x.items ≡ [])
         (⟦<Vec<Step> as Deserialize<'de>>⟧.gives) p.steps
-        (NamedThen (name "goods") (⟦<BTreeMap<String, u32> as Deserialize<'de>>⟧.gives)
+        (RowThen (name "goods") (⟦<BTreeMap<String, u32> as Deserialize<'de>>⟧.gives)
         p.goods
-        (NamedThen (name "size") (⟦<(u16, u16, u16) as Deserialize<'de>>⟧.gives) p.size
-        (NamedOrThen (name "note") (λ (x : (Option (Box (String Global) Global))). x ≡ None)
+        (RowThen (name "size") (⟦<(u16, u16, u16) as Deserialize<'de>>⟧.gives) p.size
+        (RowOrThen (name "note") (λ (x : (Option (Box (String Global) Global))). x ≡ None)
         (⟦<Option<Box<String>> as Deserialize<'de>>⟧.gives) p.note
         NoOthers))))))) s };
 
     fn deserialize<'n: 'de>(alloc: Global, from: Deserializer<'de, 'n>) -> Result<Order> {
-        let fields = from
-            .deserialize_struct(alloc, name_order(), FieldsOfOrder::names())?
-            .by_name();
-        read_order(alloc, fields)
+        read_struct::<FieldsOfOrder, Self>(alloc, from)
     }
 }
 

@@ -5,7 +5,8 @@ pub use crate::choosing::{
     OneOfFour, OneOfThree, OneOfTwo, first_of_four, first_of_three, first_of_two,
 };
 pub use crate::fields_read::{
-    OthersRefused, OthersSkipped, PartsEnd, ReadField, ReadFieldOr, ReadFields, ReadPart, ReadParts,
+    OthersRefused, OthersSkipped, PartsEnd, ReadField, ReadFieldOr, ReadFields, ReadPart,
+    ReadParts, ReadStruct, read_flattened, read_struct,
 };
 pub use crate::fields_sent::{
     SendElement, SendEnd, SendEntry, SendField, SendOpen, SendPart, SendRow, SendTag, send_row,

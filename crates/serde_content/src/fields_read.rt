@@ -2,22 +2,26 @@
 //! type, such as `ReadField<FieldsOfPoint, 0, i32, ReadField<FieldsOfPoint, 1, i32,
 //! OthersSkipped<FieldsOfPoint>>>`, so that one proof serves rows of every length.
 
-ghost use Rattle.std.specs.Prelude.{◌≡◌, ℕ, [], Option, None, Some, slice_index_or};
+ghost use Rattle.std.specs.Prelude.{◌≡◌, ℕ, List, [], Option, None, Some, slice_index_or};
 ghost use Rattle.content_tree.specs.Errors.Cause.{Cause};
+ghost use Rattle.content_de.specs.Sources.Deserializer.{subject};
 ghost use Rattle.content_de.specs.Accesses.ByName.{FieldsLeft, field_named, fields_left};
 ghost use Rattle.content_de.specs.Accesses.ByName.{without_field};
 ghost use Rattle.content_de.specs.Accesses.Seq.{SeqLeft, seq_view};
 ghost use Rattle.content_de.specs.Reads.Read.{Reads};
 ghost use Rattle.content_de.specs.Reads.ByName.{found_refusal, FoundGives, missing_field};
-ghost use Rattle.content_de.specs.Reads.ByName.{named_then, named_or_then, NamedThen};
-ghost use Rattle.content_de.specs.Reads.ByName.{NamedOrThen, NoOthers, no_others, others_skipped};
+ghost use Rattle.content_de.specs.Reads.ByName.{NoOthers, no_others, read_by_name, ReadByName};
+ghost use Rattle.content_de.specs.Reads.Own.{struct_refusal, StructGives};
 ghost use Rattle.content_de.specs.Reads.Tuples.{end_of_parts, NoPart, part_then, PartThen};
+ghost use Rattle.serde_content.specs.Laws.Flattened.{flattened_refusal, FlattenedGives};
+ghost use Rattle.serde_content.specs.Literals.{others_left, row_or_then, row_then};
+ghost use Rattle.serde_content.specs.Literals.{RowOrThen, RowThen};
 
 use crate::absent::Absent;
 use crate::name_lists::{Names, name_at};
 use content_de::{
-    Deserialize, FieldsByName, Seq, end_fields, field_or, finish_parts, named_field, next_part,
-    skip_fields,
+    Deserialize, Deserializer, FieldsByName, Seq, end_fields, field_or, finish_parts, named_field,
+    next_part, skip_fields,
 };
 use content_tree::Result;
 use std::alloc::Global;
@@ -78,10 +82,11 @@ pub struct ReadField<K, const I: usize, T, R>(pub T, pub R, pub PhantomData<K>);
 
 impl<'de, K: Names, const I: usize, T: Deserialize<'de>, R: ReadFields<'de>> ReadFields<'de>
     for ReadField<K, I, T, R> {
-    ghost refusal = { named_then (slice_index_or K.names I []) T.refusal R.refusal };
+    ghost refusal = { row_then (slice_index_or K.names I []) T.refusal R.refusal };
 
-    ghost gives = { λ row. NamedThen (slice_index_or K.names I []) T.gives row.0 (R.gives row.1) };
+    ghost gives = { λ row. RowThen (slice_index_or K.names I []) T.gives row.0 (R.gives row.1) };
 
+    #[tactic(auto, unfolding(crate::specs::Literals::row_then, crate::specs::Literals::RowThen))]
     #[inline(always)]
     fn read<'n: 'de>(alloc: Global, mut fields: FieldsByName<'de, 'n>) -> Result<Self> {
         let value = field_at::<K, T>(alloc, &mut fields, I)?;
@@ -96,11 +101,12 @@ pub struct ReadFieldOr<K, const I: usize, T, R>(pub T, pub R, pub PhantomData<K>
 impl<'de, K: Names, const I: usize, T: Deserialize<'de> + Absent, R: ReadFields<'de>> ReadFields<
     'de,
 > for ReadFieldOr<K, I, T, R> {
-    ghost refusal = { named_or_then (slice_index_or K.names I []) T.refusal R.refusal };
+    ghost refusal = { row_or_then (slice_index_or K.names I []) T.refusal R.refusal };
 
-    ghost gives = { λ row. NamedOrThen (slice_index_or K.names I []) T.is_absent T.gives row.0
+    ghost gives = { λ row. RowOrThen (slice_index_or K.names I []) T.is_absent T.gives row.0
         (R.gives row.1) };
 
+    #[tactic(auto, unfolding(crate::specs::Literals::row_or_then, crate::specs::Literals::RowOrThen))]
     #[inline(always)]
     fn read<'n: 'de>(alloc: Global, mut fields: FieldsByName<'de, 'n>) -> Result<Self> {
         let value = field_at_or::<K, T>(alloc, &mut fields, I)?;
@@ -113,10 +119,11 @@ impl<'de, K: Names, const I: usize, T: Deserialize<'de> + Absent, R: ReadFields<
 pub struct OthersSkipped<K>(PhantomData<K>);
 
 impl<'de, K: Names> ReadFields<'de> for OthersSkipped<K> {
-    ghost refusal = { others_skipped K.names };
+    ghost refusal = { others_left K.names };
 
     ghost gives = { λ row. NoOthers };
 
+    #[tactic(auto, unfolding(crate::specs::Literals::others_left))]
     #[inline(always)]
     fn read<'n: 'de>(alloc: Global, fields: FieldsByName<'de, 'n>) -> Result<Self> {
         skip_fields(alloc, fields, K::names())?;
@@ -138,6 +145,53 @@ impl<'de, K: Names> ReadFields<'de> for OthersRefused<K> {
         end_fields(alloc, fields, K::names())?;
         Ok(OthersRefused(PhantomData))
     }
+}
+
+/// A struct whose fields are read by name.
+pub trait ReadStruct<'de>: Sized {
+    /// Its name.
+    ghost name: { List ℕ };
+    /// What is refused of its fields.
+    ghost refusal: { FieldsLeft → Option Cause };
+    /// What they give.
+    ghost gives: { Self → FieldsLeft → Type 0 };
+
+    /// Its name, as code has it.
+    fn name() -> &'static str
+        ensures { result.now ≡ name };
+
+    /// Reads its fields. The error is the first refusal, or out of memory in its place.
+    fn read<'n: 'de>(alloc: Global, fields: FieldsByName<'de, 'n>) -> Result<Self>
+        ensures { Reads (refusal (fields_left fields.entry))
+            (λ y. gives y (fields_left fields.entry)) result };
+}
+
+/// Reads a struct whose fields have the names `K`, in any order. The errors are those of
+/// [`Deserializer::deserialize_struct`] and of the fields.
+pub fn read_struct<'de, 'n: 'de, K: Names, T: ReadStruct<'de>>(
+    alloc: Global,
+    from: Deserializer<'de, 'n>,
+) -> Result<T>
+    ensures { Reads (struct_refusal T.name (read_by_name T.refusal) (subject from.entry))
+        (λ y. StructGives T.name (ReadByName (T.gives y)) (subject from.entry)) result }
+{
+    let fields = from
+        .deserialize_struct(alloc, T::name(), K::names())?
+        .by_name();
+    T::read(alloc, fields)
+}
+
+/// Reads a struct with flattened fields from a map. The errors are those of
+/// [`Deserializer::deserialize_map`] and of the fields.
+pub fn read_flattened<'de, 'n: 'de, T: ReadFields<'de>>(
+    alloc: Global,
+    from: Deserializer<'de, 'n>,
+) -> Result<T>
+    ensures { Reads (flattened_refusal (read_by_name T.refusal) (subject from.entry))
+        (λ y. FlattenedGives (ReadByName (T.gives y)) (subject from.entry)) result }
+{
+    let fields = from.deserialize_map(alloc)?.by_name();
+    T::read(alloc, fields)
 }
 
 /// Parts that are read by place, one after another, and the end.

@@ -11,8 +11,9 @@ use Rattle.content_ser.specs.Scripts.Own.{end_script, field_first}
 use Rattle.content_de.specs.Requests.Compounds.{entries_of_pairs}
 use Rattle.content_de.specs.Accesses.ByName.{FieldsLeft, key_tree}
 use Rattle.content_de.specs.Reads.Read.{Refusal, Gives}
-use Rattle.content_de.specs.Reads.ByName.{missing_field, named_then, named_or_then, NamedThen, NamedOrThen}
-use Rattle.content_de.specs.Reads.ByName.{others_skipped, no_others, NoOthers, read_by_name, ReadByName}
+use Rattle.content_de.specs.Reads.ByName.{missing_field}
+use Rattle.content_de.specs.Reads.ByName.{no_others, NoOthers, read_by_name, ReadByName}
+use Rattle.serde_content.specs.Literals.{row_then, row_or_then, RowThen, RowOrThen, others_left}
 use Rattle.serde_content.specs.RoundTrip.{GivesOnly}
 use Rattle.serde_content.specs.Laws.ByName.{named_under, skipped_free, entry_first, entry_refusal, EntryGives}
 use Rattle.serde_content.specs.Laws.Spelled.{FieldsSuch, Spelled, fields_end_such, fields_more_such}
@@ -32,8 +33,8 @@ pub record NamedKept {Y : Type 0} (script : Bool → Script) (refusal : FieldsLe
       → (b : Bool) → GivesOnly (refusal (named_under (flags_in b) (form_entries fs))) (λ y. given y (named_under (flags_in b) (form_entries fs))) such)) (script false)
 
 -- no field, where others are skipped
-pub skipped_kept : {Y : Type 0} (known : List (List ℕ)) → NamedKept {Y = Y} end_script (others_skipped known) (λ y. NoOthers) (λ y. ⊤)
-skipped_kept known = record { spelled = fields_end_such (λ fits b. record { free = skipped_free known (flags_in b); only = λ y h. tt }) }
+pub skipped_kept : {Y : Type 0} (known : List (List ℕ)) → NamedKept {Y = Y} end_script (others_left known) (λ y. NoOthers) (λ y. ⊤)
+skipped_kept known = unfold others_left in record { spelled = fields_end_such (λ fits b. record { free = skipped_free known (flags_in b); only = λ y h. tt }) }
 
 -- no field, where there are no others
 pub closed_kept : {Y : Type 0} (known : List (List ℕ)) → NamedKept {Y = Y} end_script (no_others known) (λ y. NoOthers) (λ y. ⊤)
@@ -54,15 +55,15 @@ entry_kept {refusal} {gives} {others} {given} name absent missing kept x real se
 pub named_kept : {A Y : Type 0} {exists : A → Type 0} {script : ScriptOf A} {refusal : Refusal} {gives : Gives A} {eq : A → A → Bool} {rest : Bool → Script} {others : FieldsLeft → Option Cause}
     {given : Y → FieldsLeft → Type 0} {such : Y → Type 0} (name : List ℕ) → FormComesBack exists script refusal gives eq → (x : A) → exists x → (see : Y → A)
     → NamedKept rest others given such
-    → NamedKept (field_first name (script x) rest) (named_then name refusal others) (λ y. NamedThen name gives (see y) (given y)) (λ y. (eq x (see y) ≡ true) × such y)
-named_kept name kept x real see more = entry_kept name (Some (missing_field name)) (λ b. ⊥) kept x real see more
+    → NamedKept (field_first name (script x) rest) (row_then name refusal others) (λ y. RowThen name gives (see y) (given y)) (λ y. (eq x (see y) ≡ true) × such y)
+named_kept name kept x real see more = unfold row_then RowThen in entry_kept name (Some (missing_field name)) (λ b. ⊥) kept x real see more
 
 -- a field that may be missing, and then the others
 pub named_or_kept : {A Y : Type 0} {exists : A → Type 0} {script : ScriptOf A} {refusal : Refusal} {gives : Gives A} {eq : A → A → Bool} {rest : Bool → Script} {others : FieldsLeft → Option Cause}
     {given : Y → FieldsLeft → Type 0} {such : Y → Type 0} (name : List ℕ) (missing : A → Type 0) → FormComesBack exists script refusal gives eq → (x : A) → exists x → (see : Y → A)
     → NamedKept rest others given such
-    → NamedKept (field_first name (script x) rest) (named_or_then name refusal others) (λ y. NamedOrThen name missing gives (see y) (given y)) (λ y. (eq x (see y) ≡ true) × such y)
-named_or_kept name missing kept x real see more = entry_kept name None missing kept x real see more
+    → NamedKept (field_first name (script x) rest) (row_or_then name refusal others) (λ y. RowOrThen name missing gives (see y) (given y)) (λ y. (eq x (see y) ≡ true) × such y)
+named_or_kept name missing kept x real see more = unfold row_or_then RowOrThen in entry_kept name None missing kept x real see more
 
 -- the entries of fields' forms, by name
 pub entries_named : (fs : Fields) → form_entries fs ≡ map (λ e. (key_tree e.0, e.1)) (entries_of_pairs (field_forms fs))

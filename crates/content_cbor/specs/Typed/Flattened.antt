@@ -12,8 +12,9 @@ use Rattle.content_de.specs.Requests.Compounds.{entries_of_pairs}
 use Rattle.content_de.specs.Accesses.Map.{entries_under}
 use Rattle.content_de.specs.Accesses.ByName.{FieldsLeft, key_tree, by_name}
 use Rattle.content_de.specs.Reads.Read.{Refusal, Gives}
-use Rattle.content_de.specs.Reads.ByName.{missing_field, named_then, named_or_then, NamedThen, NamedOrThen}
-use Rattle.content_de.specs.Reads.ByName.{others_skipped, NoOthers, read_by_name, ReadByName}
+use Rattle.content_de.specs.Reads.ByName.{missing_field}
+use Rattle.content_de.specs.Reads.ByName.{NoOthers, read_by_name, ReadByName}
+use Rattle.serde_content.specs.Literals.{row_then, row_or_then, RowThen, RowOrThen, others_left}
 use Rattle.serde_content.specs.RoundTrip.{SpellsSuch, GivesOnly}
 use Rattle.serde_content.specs.Laws.ByName.{entry_refusal, EntryGives, entry_first, skipped_free}
 use Rattle.serde_content.specs.Laws.Flattened.{flattened_script, flattened_first, flattened_refusal}
@@ -33,8 +34,8 @@ pub record FlattenedKept {Y : Type 0} (script : Bool → Script) (refusal : Fiel
   pub spelled : Spelled (EntriesSuch (λ ps. PairsFit ps → (b : Bool) → GivesOnly (refusal (named_forms b ps)) (λ y. given y (named_forms b ps)) such)) (script false)
 
 -- no entry
-pub flattened_end_kept : {Y : Type 0} (known : List (List ℕ)) → FlattenedKept {Y = Y} end_script (others_skipped known) (λ y. NoOthers) (λ y. ⊤)
-flattened_end_kept known = record {
+pub flattened_end_kept : {Y : Type 0} (known : List (List ℕ)) → FlattenedKept {Y = Y} end_script (others_left known) (λ y. NoOthers) (λ y. ⊤)
+flattened_end_kept known = unfold others_left in record {
   spelled = spelled_only (λ rest. ([], items_end, λ t. refl, λ fits b. record { free = skipped_free known (flags_in b); only = λ y h. tt }));
 }
 
@@ -57,15 +58,15 @@ entry_kept {refusal} {gives} {eq} {others} {given} {such} name absent missing ke
 pub flattened_named_kept : {A Y : Type 0} {exists : A → Type 0} {script : ScriptOf A} {refusal : Refusal} {gives : Gives A} {eq : A → A → Bool} {rest : Bool → Script} {others : FieldsLeft → Option Cause}
     {given : Y → FieldsLeft → Type 0} {such : Y → Type 0} (name : List ℕ) → FormComesBack exists script refusal gives eq → (x : A) → exists x → (see : Y → A)
     → FlattenedKept rest others given such
-    → FlattenedKept (flattened_first name (script x) rest) (named_then name refusal others) (λ y. NamedThen name gives (see y) (given y)) (λ y. (eq x (see y) ≡ true) × such y)
-flattened_named_kept name kept x real see more = entry_kept name (Some (missing_field name)) (λ b. ⊥) kept x real see more
+    → FlattenedKept (flattened_first name (script x) rest) (row_then name refusal others) (λ y. RowThen name gives (see y) (given y)) (λ y. (eq x (see y) ≡ true) × such y)
+flattened_named_kept name kept x real see more = unfold row_then RowThen in entry_kept name (Some (missing_field name)) (λ b. ⊥) kept x real see more
 
 -- a field that may be missing, and then the others
 pub flattened_named_or_kept : {A Y : Type 0} {exists : A → Type 0} {script : ScriptOf A} {refusal : Refusal} {gives : Gives A} {eq : A → A → Bool} {rest : Bool → Script} {others : FieldsLeft → Option Cause}
     {given : Y → FieldsLeft → Type 0} {such : Y → Type 0} (name : List ℕ) (missing : A → Type 0) → FormComesBack exists script refusal gives eq → (x : A) → exists x → (see : Y → A)
     → FlattenedKept rest others given such
-    → FlattenedKept (flattened_first name (script x) rest) (named_or_then name refusal others) (λ y. NamedOrThen name missing gives (see y) (given y)) (λ y. (eq x (see y) ≡ true) × such y)
-flattened_named_or_kept name missing kept x real see more = entry_kept name None missing kept x real see more
+    → FlattenedKept (flattened_first name (script x) rest) (row_or_then name refusal others) (λ y. RowOrThen name missing gives (see y) (given y)) (λ y. (eq x (see y) ≡ true) × such y)
+flattened_named_or_kept name missing kept x real see more = unfold row_or_then RowOrThen in entry_kept name None missing kept x real see more
 
 -- a map of such entries
 pub flattened_kept : {Y : Type 0} {script : Bool → Script} {refusal : FieldsLeft → Option Cause} {given : Y → FieldsLeft → Type 0} {such passes : Y → Type 0}

@@ -16,9 +16,10 @@ use Rattle.content_de.specs.Sources.Origin.{of_tree, Flags, tree_under}
 use Rattle.content_de.specs.Requests.Compounds.{entries_of_fields}
 use Rattle.content_de.specs.Accesses.ByName.{FieldsLeft, key_tree, field_named, without_field}
 use Rattle.content_de.specs.Reads.Read.{Refusal, Gives, first_of}
-use Rattle.content_de.specs.Reads.ByName.{found_refusal, FoundGives, missing_field, named_then, named_or_then, duplicate_field}
-use Rattle.content_de.specs.Reads.ByName.{NamedThen, NamedOrThen, others_skipped, no_others, NoOthers}
+use Rattle.content_de.specs.Reads.ByName.{found_refusal, FoundGives, missing_field, duplicate_field}
+use Rattle.content_de.specs.Reads.ByName.{others_skipped, no_others, NoOthers}
 use Rattle.content_de.specs.Reads.ByName.{read_by_name, ReadByName}
+use Rattle.serde_content.specs.Literals.{row_then, row_or_then, RowThen, RowOrThen, others_left}
 use Rattle.serde_content.specs.RoundTrip.{GivesOnly, ComesBack, MayGive, CoercionKeeps, flags}
 use Rattle.serde_content.specs.Laws.Spelled.{FieldsSuch, Spelled, fields_end_such, fields_more_such}
 use Rattle.serde_content.specs.Laws.Holders.{both_free, first_free, second_free}
@@ -44,8 +45,8 @@ skipped_free [] f = refl
 skipped_free (name ∷ known) f = skipped_free known f
 
 -- no field, where others are skipped
-pub skipped_back : {Y : Type 0} (known : List (List ℕ)) → NamedBack {Y = Y} end_script (others_skipped known) (λ y. NoOthers) (λ y. ⊤)
-skipped_back known = record { of_flags = λ f. fields_end_such (record { free = skipped_free known f; only = λ y h. tt }) }
+pub skipped_back : {Y : Type 0} (known : List (List ℕ)) → NamedBack {Y = Y} end_script (others_left known) (λ y. NoOthers) (λ y. ⊤)
+skipped_back known = unfold others_left in record { of_flags = λ f. fields_end_such (record { free = skipped_free known f; only = λ y h. tt }) }
 
 -- no field, where there are no others
 pub closed_back : {Y : Type 0} (known : List (List ℕ)) → NamedBack {Y = Y} end_script (no_others known) (λ y. NoOthers) (λ y. ⊤)
@@ -85,15 +86,15 @@ entry_back {refusal} {gives} {others} {given} name absent missing back x real se
 pub named_back : {A Y : Type 0} {exists : A → Type 0} {script : ScriptOf A} {refusal : Refusal} {gives : Gives A} {eq : A → A → Bool} {rest : Bool → Script} {others : FieldsLeft → Option Cause}
     {given : Y → FieldsLeft → Type 0} {such : Y → Type 0} (name : List ℕ) → ComesBack exists script refusal gives eq → (x : A) → exists x → (see : Y → A)
     → NamedBack rest others given such
-    → NamedBack (field_first name (script x) rest) (named_then name refusal others) (λ y. NamedThen name gives (see y) (given y)) (λ y. (eq x (see y) ≡ true) × such y)
-named_back name back x real see more = entry_back name (Some (missing_field name)) (λ b. ⊥) back x real see more
+    → NamedBack (field_first name (script x) rest) (row_then name refusal others) (λ y. RowThen name gives (see y) (given y)) (λ y. (eq x (see y) ≡ true) × such y)
+named_back name back x real see more = unfold row_then RowThen in entry_back name (Some (missing_field name)) (λ b. ⊥) back x real see more
 
 -- a field that may be missing, and then the others
 pub named_or_back : {A Y : Type 0} {exists : A → Type 0} {script : ScriptOf A} {refusal : Refusal} {gives : Gives A} {eq : A → A → Bool} {rest : Bool → Script} {others : FieldsLeft → Option Cause}
     {given : Y → FieldsLeft → Type 0} {such : Y → Type 0} (name : List ℕ) (missing : A → Type 0) → ComesBack exists script refusal gives eq → (x : A) → exists x → (see : Y → A)
     → NamedBack rest others given such
-    → NamedBack (field_first name (script x) rest) (named_or_then name refusal others) (λ y. NamedOrThen name missing gives (see y) (given y)) (λ y. (eq x (see y) ≡ true) × such y)
-named_or_back name missing back x real see more = entry_back name None missing back x real see more
+    → NamedBack (field_first name (script x) rest) (row_or_then name refusal others) (λ y. RowOrThen name missing gives (see y) (given y)) (λ y. (eq x (see y) ≡ true) × such y)
+named_or_back name missing back x real see more = unfold row_or_then RowOrThen in entry_back name None missing back x real see more
 
 -- a field's key as a tree is its text
 pub entries_by_name : (place : ℕ) (fs : Fields) → named_entries fs ≡ map (λ e. (key_tree e.0, e.1)) (entries_of_fields place fs)
@@ -133,8 +134,8 @@ all_skipped (name ∷ known) f g es free =
     (all_skipped known f g es (second_free (found_refusal None (λ s. Some (duplicate_field name)) (field_named name (named_under f es))) _ free))
 
 -- no field, where others are skipped
-pub skipped_keeps : {Y : Type 0} (known : List (List ℕ)) → NamedKeep {Y = Y} (others_skipped known) (λ y. NoOthers)
-skipped_keeps known = record { of_entries = λ es h y p. record { free = all_skipped known (flags h false) (flags h true) es p.free; given = tt } }
+pub skipped_keeps : {Y : Type 0} (known : List (List ℕ)) → NamedKeep {Y = Y} (others_left known) (λ y. NoOthers)
+skipped_keeps known = unfold others_left in record { of_entries = λ es h y p. record { free = all_skipped known (flags h false) (flags h true) es p.free; given = tt } }
 
 -- no field, where there are no others
 pub closed_keeps : {Y : Type 0} (known : List (List ℕ)) → NamedKeep {Y = Y} (no_others known) (λ y. NoOthers)
@@ -159,13 +160,13 @@ entry_keeps {refusal} name absent missing see keeps more = record {
 
 -- a field, and then the others
 pub named_keeps : {A Y : Type 0} {refusal : Refusal} {gives : Gives A} {others : FieldsLeft → Option Cause} {given : Y → FieldsLeft → Type 0} (name : List ℕ) (see : Y → A)
-    → CoercionKeeps refusal gives → NamedKeep others given → NamedKeep (named_then name refusal others) (λ y. NamedThen name gives (see y) (given y))
-named_keeps name see keeps more = entry_keeps name (Some (missing_field name)) (λ b. ⊥) see keeps more
+    → CoercionKeeps refusal gives → NamedKeep others given → NamedKeep (row_then name refusal others) (λ y. RowThen name gives (see y) (given y))
+named_keeps name see keeps more = unfold row_then RowThen in entry_keeps name (Some (missing_field name)) (λ b. ⊥) see keeps more
 
 -- a field that may be missing, and then the others
 pub named_or_keeps : {A Y : Type 0} {refusal : Refusal} {gives : Gives A} {others : FieldsLeft → Option Cause} {given : Y → FieldsLeft → Type 0} (name : List ℕ) (missing : A → Type 0) (see : Y → A)
-    → CoercionKeeps refusal gives → NamedKeep others given → NamedKeep (named_or_then name refusal others) (λ y. NamedOrThen name missing gives (see y) (given y))
-named_or_keeps name missing see keeps more = entry_keeps name None missing see keeps more
+    → CoercionKeeps refusal gives → NamedKeep others given → NamedKeep (row_or_then name refusal others) (λ y. RowOrThen name missing gives (see y) (given y))
+named_or_keeps name missing see keeps more = unfold row_or_then RowOrThen in entry_keeps name None missing see keeps more
 
 -- fields by name are fields
 pub by_name_keeps : {Y : Type 0} {refusal : FieldsLeft → Option Cause} {given : Y → FieldsLeft → Type 0} → NamedKeep refusal given → FieldsKeep (read_by_name refusal) (λ y. ReadByName (given y))

@@ -23,9 +23,10 @@ use Rattle.content_de.specs.Requests.Compounds.{entries_from, entries_of_pairs}
 use Rattle.content_de.specs.Accesses.Map.{MapLeft, entries_under, map_at}
 use Rattle.content_de.specs.Accesses.ByName.{FieldsLeft, key_tree, by_name}
 use Rattle.content_de.specs.Reads.Read.{Refusal, Gives}
-use Rattle.content_de.specs.Reads.ByName.{missing_field, named_then, named_or_then, NamedThen}
-use Rattle.content_de.specs.Reads.ByName.{NamedOrThen, others_skipped, NoOthers, read_by_name}
+use Rattle.content_de.specs.Reads.ByName.{missing_field}
+use Rattle.content_de.specs.Reads.ByName.{NoOthers, read_by_name}
 use Rattle.content_de.specs.Reads.ByName.{ReadByName}
+use Rattle.serde_content.specs.Literals.{row_then, row_or_then, RowThen, RowOrThen, others_left}
 use Rattle.serde_content.specs.RoundTrip.{SpellsSuch, GivesOnly, ComesBack, CoercionKeeps}
 use Rattle.serde_content.specs.Laws.Spelled.{TreeSuch, Spelled, spelled_only, spelled_call}
 use Rattle.serde_content.specs.Laws.Spelled.{spelled_then, spelled_such, such_spelled}
@@ -74,8 +75,8 @@ pub record FlattenedBack {Y : Type 0} (script : Bool → Script) (refusal : Fiel
       → Spelled (EntriesSuch (λ ps. GivesOnly (refusal (by_name (entries_under f (entries_of_pairs ps)))) (λ y. given y (by_name (entries_under f (entries_of_pairs ps)))) such)) (script f.human_readable)
 
 -- no entry
-pub flattened_end_back : {Y : Type 0} (known : List (List ℕ)) → FlattenedBack {Y = Y} end_script (others_skipped known) (λ y. NoOthers) (λ y. ⊤)
-flattened_end_back known = record {
+pub flattened_end_back : {Y : Type 0} (known : List (List ℕ)) → FlattenedBack {Y = Y} end_script (others_left known) (λ y. NoOthers) (λ y. ⊤)
+flattened_end_back known = unfold others_left in record {
   of_flags = λ f. spelled_only (λ rest. ([], items_end, λ t. refl, record { free = skipped_free known f; only = λ y h. tt }));
 }
 
@@ -122,15 +123,15 @@ entry_back {refusal} {gives} {eq} {others} {given} {such} name absent missing ba
 pub flattened_named_back : {A Y : Type 0} {exists : A → Type 0} {script : ScriptOf A} {refusal : Refusal} {gives : Gives A} {eq : A → A → Bool} {rest : Bool → Script} {others : FieldsLeft → Option Cause}
     {given : Y → FieldsLeft → Type 0} {such : Y → Type 0} (name : List ℕ) → ComesBack exists script refusal gives eq → (x : A) → exists x → (see : Y → A)
     → FlattenedBack rest others given such
-    → FlattenedBack (flattened_first name (script x) rest) (named_then name refusal others) (λ y. NamedThen name gives (see y) (given y)) (λ y. (eq x (see y) ≡ true) × such y)
-flattened_named_back name back x real see more = entry_back name (Some (missing_field name)) (λ b. ⊥) back x real see more
+    → FlattenedBack (flattened_first name (script x) rest) (row_then name refusal others) (λ y. RowThen name gives (see y) (given y)) (λ y. (eq x (see y) ≡ true) × such y)
+flattened_named_back name back x real see more = unfold row_then RowThen in entry_back name (Some (missing_field name)) (λ b. ⊥) back x real see more
 
 -- a field that may be missing, and then the others
 pub flattened_named_or_back : {A Y : Type 0} {exists : A → Type 0} {script : ScriptOf A} {refusal : Refusal} {gives : Gives A} {eq : A → A → Bool} {rest : Bool → Script} {others : FieldsLeft → Option Cause}
     {given : Y → FieldsLeft → Type 0} {such : Y → Type 0} (name : List ℕ) (missing : A → Type 0) → ComesBack exists script refusal gives eq → (x : A) → exists x → (see : Y → A)
     → FlattenedBack rest others given such
-    → FlattenedBack (flattened_first name (script x) rest) (named_or_then name refusal others) (λ y. NamedOrThen name missing gives (see y) (given y)) (λ y. (eq x (see y) ≡ true) × such y)
-flattened_named_or_back name missing back x real see more = entry_back name None missing back x real see more
+    → FlattenedBack (flattened_first name (script x) rest) (row_or_then name refusal others) (λ y. RowOrThen name missing gives (see y) (given y)) (λ y. (eq x (see y) ≡ true) × such y)
+flattened_named_or_back name missing back x real see more = unfold row_or_then RowOrThen in entry_back name None missing back x real see more
 
 -- a map of such entries
 pub flattened_back : {Y : Type 0} {script : Bool → Script} {refusal : FieldsLeft → Option Cause} {given : Y → FieldsLeft → Type 0} {such passes : Y → Type 0}
