@@ -2,6 +2,7 @@ pub mod Signs
 pub mod Ranges
 pub mod Returned
 pub mod Writing
+pub mod Front
 pub mod HandedOn
 pub mod Read
 pub mod Coded

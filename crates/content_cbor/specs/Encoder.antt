@@ -2,6 +2,7 @@
 use Rattle.std.specs.Prelude.{ℕ, zero, suc, ◌^◌, Bool, true, false, ◌&&◌, nat_lt}
 use Rattle.std.specs.Prelude.{if◌then◌else◌, List, [], ◌∷◌, ◌++◌, length, encode_utf8, ◌≡◌}
 use Rattle.std.specs.Prelude.{Option, Some, None, option_map, IsSome, Result, Ok, Err}
+use Rattle.std.specs.Io.{StartsWith}
 use Rattle.std.specs.Str.{is_utf8}
 use Rattle.std.specs.declared.alloc.AllocError.{AllocError}
 use Rattle.content_tree.specs.Errors.Kind.{kind_of, IsOutOfMemory}
@@ -138,14 +139,14 @@ length_said _ = None
 abbrev pub step : Written → Event → Option Written
 step w c = writes (token_of c) (length_said c) w
 
--- with which error a call is refused
+-- with which error a call is refused; what was written stays, and where memory ran out a part of the call may follow it
 abbrev pub refuses : Refusal → Written → Error → Written → Type 0
-refuses after_failure old e new = kind_of e ≡ Failed
+refuses after_failure old e new = (kind_of e ≡ Failed) × (new ≡ old)
 refuses out_of_place old e new = (kind_of e ≡ Misplaced) × (new ≡ old)
-refuses no_memory old e new = IsOutOfMemory e
+refuses no_memory old e new = IsOutOfMemory e × StartsWith new.bytes old.bytes
 
--- a call was written; or it is out of place, and nothing was; or an allocation failed
+-- a call was written; or it is out of place, and nothing was; or an allocation failed, and a part may be written
 abbrev pub Wrote : Option Written → Written → Result Bool AllocError → Written → Type 0
 Wrote next old (Ok true) new = next ≡ Some new
 Wrote next old (Ok false) new = (next ≡ None) × (new ≡ old)
-Wrote next old (Err e) new = IsSome next
+Wrote next old (Err e) new = IsSome next × StartsWith new.bytes old.bytes

@@ -2,6 +2,7 @@
 
 ghost use Rattle.std.specs.Prelude.{◌≡◌, ◌≤◌, ◌++◌, ◌*◌, OnOk, IfSome, IfNone, drop, true, false};
 ghost use Rattle.content_cbor.specs.Heads.{code, head};
+ghost use Rattle.std.specs.Io.{StartsWith};
 ghost use Rattle.std.specs.Prelude.{◌^◌, ◌<◌};
 ghost use Rattle.content_cbor.specs.Inner.Steps.{Gives};
 ghost use Rattle.content_cbor.specs.Inner.Numbers.{argument_at, between, bounds_in, digits_at};
@@ -88,7 +89,8 @@ pub(crate) struct Head {
 #[inline(always)]
 #[tactic(auto, unfolding(crate::specs::Heads::head))]
 pub(crate) fn write_head(out: &mut Vec<u8>, major: Major, number: u64) -> Result<(), AllocError>
-    ensures { OnOk result (out.new.items ≡ out.old.items ++ head major number) }
+    ensures value { OnOk result (out.new.items ≡ out.old.items ++ head major number) }
+    ensures kept { StartsWith out.new.items out.old.items }
 {
     if number < 24 {
         out.push(major.first_byte() + number as u8)?;
@@ -103,7 +105,8 @@ pub(crate) fn write_head(out: &mut Vec<u8>, major: Major, number: u64) -> Result
 #[tactic(auto, unfolding(crate::specs::Heads::head))]
 fn write_long_head(out: &mut Vec<u8>, major: Major, number: u64) -> Result<(), AllocError>
     requires { 24 ≤ number }
-    ensures { OnOk result (out.new.items ≡ out.old.items ++ head major number) }
+    ensures value { OnOk result (out.new.items ≡ out.old.items ++ head major number) }
+    ensures kept { StartsWith out.new.items out.old.items }
 {
     let first = major.first_byte();
     if number < 0x100 {
