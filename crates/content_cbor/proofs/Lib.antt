@@ -10,4 +10,5 @@ pub mod Forms
 pub mod Kept
 pub mod Shortest
 pub mod Streamed
+pub mod Taken
 pub mod Texts
