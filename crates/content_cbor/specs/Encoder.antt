@@ -15,7 +15,7 @@ use Rattle.content_ser.specs.Calls.Event.{Event}
 use Rattle.content_ser.specs.Calls.Head.{Head, of_struct, of_variant}
 use Rattle.content_ser.specs.Grammar.Token as token
 use Rattle.content_ser.specs.Grammar.Token.{Token, Wrap, Series, token_of}
-use Rattle.content_ser.specs.Serializers.Step.{Refusal, after_failure, out_of_place, no_memory}
+use Rattle.content_ser.specs.Serializers.Step.{Refusal, Seen, after_failure, out_of_place, no_memory}
 use Rattle.content_cbor.specs.Form.{in_own_range}
 use Rattle.content_cbor.specs.Heads.{head}
 use Rattle.content_cbor.specs.Item.{item, text_item}
@@ -138,6 +138,26 @@ length_said _ = None
 -- a call
 abbrev pub step : Written → Event → Option Written
 step w c = writes (token_of c) (length_said c) w
+
+-- an encoder as a serialiser
+abbrev pub seen_of : Encoding → Seen Written
+seen_of e = record { state = e.written; failed = e.failed; readable = false }
+
+-- a call that writes nothing
+abbrev pub writes_nothing : Event → Bool
+writes_nothing event.some = true
+writes_nothing (event.newtype_struct n) = true
+writes_nothing event.element = true
+writes_nothing event.tuple_field = true
+writes_nothing event.entry = true
+writes_nothing event.end = true
+writes_nothing _ = false
+
+-- a call that writes nothing, in place
+pub record TakenInPlace (e : Encoding) (c : Event) : Type 0 where
+  pub standing : e.failed ≡ false
+  pub silent : writes_nothing c ≡ true
+  pub in_place : IsSome (step e.written c)
 
 -- with which error a call is refused; what was written stays, and where memory ran out a part of the call may follow it
 abbrev pub refuses : Refusal → Written → Error → Written → Type 0
