@@ -1,5 +1,5 @@
 -- Errors that are handed on.
-use Rattle.std.proofs.Common.{◌≡◌, ℕ, Result, Ok, Err, IsErrAnd, sym, subst}
+use Rattle.std.proofs.Common.{◌≡◌, ℕ, Result, Ok, Err, IfErr, IsErrAnd, sym, subst}
 use Rattle.std.specs.declared.alloc.Global.{Global}
 use Rattle.std.specs.declared.vec.Vec.{Vec}
 use Rattle.content_tree.specs.declared.error.Error.{Error}
@@ -12,3 +12,8 @@ pub handed_on : (script : Script) (e : Error) (r : Result (Vec ℕ Global) Error
     → IsErrAnd r (λ x. x ≡ e) → Encoded script r
 handed_on script e (Ok bytes) why is = absurd is
 handed_on script e (Err x) why is = subst (λ y. Encoded script (Err y)) (sym is) why
+
+-- what holds of an error holds of what hands it on
+pub holds_on : {A E : Type 0} (p : E → Type 0) (e : E) (r : Result A E) → p e → IsErrAnd r (λ x. x ≡ e) → IfErr r p
+holds_on p e (Ok x) holds is = tt
+holds_on p e (Err x) holds is = subst p (sym is) holds

@@ -2,6 +2,7 @@ pub mod Signs
 pub mod Ranges
 pub mod Returned
 pub mod Writing
+pub mod Front
 pub mod HandedOn
 pub mod Read
 pub mod Coded
@@ -9,4 +10,5 @@ pub mod Forms
 pub mod Kept
 pub mod Shortest
 pub mod Streamed
+pub mod Taken
 pub mod Texts

@@ -14,6 +14,7 @@ pub mod Tags
 pub mod Items
 pub mod Whole
 pub mod Inside
+pub mod Memory
 pub mod Bytewise
 pub mod Ends
 pub mod Place

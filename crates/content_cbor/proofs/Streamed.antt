@@ -83,21 +83,21 @@ head_fits (of_variant n i v) d e fits = (text_fits v e, fits)
 
 -- ---- what stands under names
 
-one_item : (h : Head) (t : Tree) → head_bytes h ++ item t ≡ item (headed h (tree.one t))
+pub one_item : (h : Head) (t : Tree) → head_bytes h ++ item t ≡ item (headed h (tree.one t))
 one_item (of_struct n) t = refl
 one_item (of_variant n i v) t = refl
 
-many_item : (h : Head) (ts : Trees) → head_bytes h ++ (head major.Array (count ts) ++ each_item ts) ≡ item (headed h (tree.many ts))
+pub many_item : (h : Head) (ts : Trees) → head_bytes h ++ (head major.Array (count ts) ++ each_item ts) ≡ item (headed h (tree.many ts))
 many_item (of_struct n) ts = refl
 many_item (of_variant n i v) ts = refl
 
-named_item : (h : Head) (fs : Fields) → head_bytes h ++ (head major.Map (count_fields fs) ++ field_items fs) ≡ item (headed h (tree.named fs))
+pub named_item : (h : Head) (fs : Fields) → head_bytes h ++ (head major.Map (count_fields fs) ++ field_items fs) ≡ item (headed h (tree.named fs))
 named_item (of_struct n) fs = refl
 named_item (of_variant n i v) fs = refl
 
 -- ---- one call
 
-abbrev at : List ℕ → List ℕ → Written
+abbrev pub at : List ℕ → List ℕ → Written
 at bs due = record { bytes = bs; due = due }
 
 one_came : (bs : List ℕ) (n : ℕ) (due : List ℕ) (cs : List Event) (f : Written)

@@ -1,6 +1,7 @@
 -- What decoding answers.
-use Rattle.std.specs.Prelude.{Bool, ◌≡◌, ◌⊎◌, ◌↔◌, ◌<◌, ◌≤◌, ◌+◌, true, false, ℕ, ◌-◌, List, ◌++◌, length, take, Result, Ok, Err}
+use Rattle.std.specs.Prelude.{Bool, not, ◌≡◌, ◌⊎◌, ◌↔◌, ◌<◌, ◌≤◌, ◌+◌, true, false, ℕ, ◌-◌, List, ◌++◌, length, take, Result, Ok, Err}
 use Rattle.content_tree.specs.Errors.Kind.{IsOutOfMemory}
+use Rattle.content_tree.specs.Values.Tree as tree
 use Rattle.content_tree.specs.Values.Tree.{Tree}
 use Rattle.content_tree.specs.Values.Value.{tree_of}
 use Rattle.content_tree.specs.declared.error.Error.{Error}
@@ -25,6 +26,14 @@ IsReadAs t (Err e) = e ≡ error.OutOfMemory
 abbrev pub IsReadFrom : Tree → ℕ → Result (NamedValue × ℕ) DecodeError → Type 0
 IsReadFrom t n (Ok x) = (tree_of x.0 ≡ t) × (x.1 ≡ n)
 IsReadFrom t n (Err e) = e ≡ error.OutOfMemory
+
+-- whether decoding to this tree takes memory: for parts, and for texts and bytes that are owned
+abbrev pub takes_memory : Tree → Bool
+takes_memory (tree.text x) = not x.borrowed
+takes_memory (tree.octets x) = not x.borrowed
+takes_memory (tree.seq ts) = true
+takes_memory (tree.map ps) = true
+takes_memory t = false
 
 -- the fault with which reading these bytes ends, as many bytes before their end as it leaves
 abbrev pub StopsAt : {A : Type 0} → List ℕ → DecodeError → Result A Refusal → Type 0

@@ -2,6 +2,7 @@
 use Rattle.std.specs.Prelude.{ℕ, zero, suc, ◌^◌, Bool, true, false, ◌&&◌, nat_lt}
 use Rattle.std.specs.Prelude.{if◌then◌else◌, List, [], ◌∷◌, ◌++◌, length, encode_utf8, ◌≡◌}
 use Rattle.std.specs.Prelude.{Option, Some, None, option_map, IsSome, Result, Ok, Err}
+use Rattle.std.specs.Io.{StartsWith}
 use Rattle.std.specs.Str.{is_utf8}
 use Rattle.std.specs.declared.alloc.AllocError.{AllocError}
 use Rattle.content_tree.specs.Errors.Kind.{kind_of, IsOutOfMemory}
@@ -14,7 +15,7 @@ use Rattle.content_ser.specs.Calls.Event.{Event}
 use Rattle.content_ser.specs.Calls.Head.{Head, of_struct, of_variant}
 use Rattle.content_ser.specs.Grammar.Token as token
 use Rattle.content_ser.specs.Grammar.Token.{Token, Wrap, Series, token_of}
-use Rattle.content_ser.specs.Serializers.Step.{Refusal, after_failure, out_of_place, no_memory}
+use Rattle.content_ser.specs.Serializers.Step.{Refusal, Seen, after_failure, out_of_place, no_memory}
 use Rattle.content_cbor.specs.Form.{in_own_range}
 use Rattle.content_cbor.specs.Heads.{head}
 use Rattle.content_cbor.specs.Item.{item, text_item}
@@ -138,14 +139,34 @@ length_said _ = None
 abbrev pub step : Written → Event → Option Written
 step w c = writes (token_of c) (length_said c) w
 
--- with which error a call is refused
-abbrev pub refuses : Refusal → Written → Error → Written → Type 0
-refuses after_failure old e new = kind_of e ≡ Failed
-refuses out_of_place old e new = (kind_of e ≡ Misplaced) × (new ≡ old)
-refuses no_memory old e new = IsOutOfMemory e
+-- an encoder as a serialiser
+abbrev pub seen_of : Encoding → Seen Written
+seen_of e = record { state = e.written; failed = e.failed; readable = false }
 
--- a call was written; or it is out of place, and nothing was; or an allocation failed
+-- a call that writes nothing
+abbrev pub writes_nothing : Event → Bool
+writes_nothing event.some = true
+writes_nothing (event.newtype_struct n) = true
+writes_nothing event.element = true
+writes_nothing event.tuple_field = true
+writes_nothing event.entry = true
+writes_nothing event.end = true
+writes_nothing _ = false
+
+-- a call that writes nothing, in place
+pub record TakenInPlace (e : Encoding) (c : Event) : Type 0 where
+  pub standing : e.failed ≡ false
+  pub silent : writes_nothing c ≡ true
+  pub in_place : IsSome (step e.written c)
+
+-- with which error a call is refused; what was written stays, and where memory ran out a part of the call may follow it
+abbrev pub refuses : Refusal → Written → Error → Written → Type 0
+refuses after_failure old e new = (kind_of e ≡ Failed) × (new ≡ old)
+refuses out_of_place old e new = (kind_of e ≡ Misplaced) × (new ≡ old)
+refuses no_memory old e new = IsOutOfMemory e × StartsWith new.bytes old.bytes
+
+-- a call was written; or it is out of place, and nothing was; or an allocation failed, and a part may be written
 abbrev pub Wrote : Option Written → Written → Result Bool AllocError → Written → Type 0
 Wrote next old (Ok true) new = next ≡ Some new
 Wrote next old (Ok false) new = (next ≡ None) × (new ≡ old)
-Wrote next old (Err e) new = IsSome next
+Wrote next old (Err e) new = IsSome next × StartsWith new.bytes old.bytes

@@ -1,8 +1,10 @@
 -- What holds of all items.
-use Rattle.std.specs.Prelude.{◌≡◌, ◌≤◌, ℕ, List, [], length, Some}
+use Rattle.std.specs.Prelude.{◌≡◌, ◌≤◌, ℕ, List, [], length, None, Some}
 use Rattle.content_tree.specs.Values.Tree.{Tree}
 use Rattle.content_ser.specs.Calls.Event.{Event}
 use Rattle.content_ser.specs.Grammar.Spells.{SpellsWhole}
+use Rattle.content_ser.specs.Scripts.Script.{calls_of, stop_of}
+use Rattle.content_ser.specs.Sending.TreeScript.{script_of}
 use Rattle.content_ser.specs.Serializers.Step.{run}
 use Rattle.content_cbor.specs.Codes.{Codes, IsHead}
 use Rattle.content_cbor.specs.Encoder.{Written, nothing, step}
@@ -49,3 +51,8 @@ abbrev pub WholeTreesAreEncoded : Type 0
 WholeTreesAreEncoded = (calls : List Event) (t : Tree) (w : Written) → SpellsWhole calls t
     → run step nothing calls ≡ Some w
     → (w ≡ record { bytes = item t; due = [] }) × Fits t × CodesForm t w.bytes
+
+-- the calls of a tree that fits and has no owned key, with true lengths and one entry a pair, are all taken by an encoder, and leave the item
+abbrev pub FittingTreesAreTaken : Type 0
+FittingTreesAreTaken = (t : Tree) → Fits t → stop_of (script_of t) ≡ None
+    → run step nothing (calls_of (script_of t)) ≡ Some (record { bytes = item t; due = [] })

@@ -1,6 +1,6 @@
 //! Typed data that come back from CBOR.
 
-ghost use Rattle.std.specs.Prelude.{◌≡◌, ◌≤◌, ◌<◌, true, false, IfOk, IfErr, IsErr, IsErrAnd};
+ghost use Rattle.std.specs.Prelude.{◌≡◌, ◌≤◌, ◌<◌, true, false, IfOk, IfErr, IsErrAnd};
 ghost use Rattle.content_tree.specs.Errors.Kind.{IsOutOfMemory};
 ghost use Rattle.content_tree.specs.Values.Tree.{Tree};
 ghost use Rattle.content_ser.specs.Grammar.Spells.{SpellsWhole};
@@ -9,6 +9,7 @@ ghost use Rattle.content_de.specs.Reads.Read.{Reads};
 ghost use Rattle.content_cbor.specs.Codes.{Codes};
 ghost use Rattle.content_cbor.specs.Decoded.{IsFaultOf, as_read};
 ghost use Rattle.content_cbor.specs.Form.{depth, form};
+ghost use Rattle.content_cbor.specs.Item.{item};
 ghost use Rattle.content_cbor.specs.Typed.Kept.{FormComesBack, IsKeptOf, RefusesNull};
 
 use crate::encoding::to_bytes;
@@ -76,7 +77,7 @@ pub fn read_back<'de, T: CborRoundTrip<'de>>(
 ///
 /// # Errors
 ///
-/// Where the value's item is deeper than the limit; out of memory.
+/// Where the value's item is deeper than the limit, that of `from_bytes`; out of memory.
 ///
 /// ```rust
 /// let mut room = Vec::new(alloc);
@@ -94,7 +95,8 @@ pub fn write_and_read_back<'de, T: CborRoundTrip<'de>>(
     ensures memory { (t : Tree) → SpellsWhole (calls_of (T.script value.now false)) t
         → depth (form t) ≤ depth_limit → IfErr result (λ e. IsOutOfMemory e) }
     ensures refused { (t : Tree) → SpellsWhole (calls_of (T.script value.now false)) t
-        → depth_limit < depth (form t) → IsErr result }
+        → depth_limit < depth (form t)
+        → IsErrAnd result (λ e. IsFaultOf depth_limit (item t) e) }
 {
     value.known();
     *bytes = to_bytes(alloc, value)?;

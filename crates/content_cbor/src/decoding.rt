@@ -3,12 +3,14 @@
 //! A level of a deep value passes two functions that aren't inlined, one for an item and one for
 //! what holds several, so that it takes little stack.
 
-ghost use Rattle.std.specs.Prelude.{◌≡◌, ◌≤◌, ◌++◌, ℕ, List, length, map, take, IfOk, IfErr};
+ghost use Rattle.std.specs.Prelude.{◌≡◌, ◌≤◌, ◌++◌, ℕ, List, length, map, take, true, false};
+ghost use Rattle.std.specs.Prelude.{Ok, Err, None, IfOk, IfErr, IsOk};
 ghost use Rattle.content_tree.specs.Values.Tree.{Tree};
 ghost use Rattle.content_tree.specs.Values.Value.{tree_of, pair_tree};
 ghost use Rattle.content_cbor.specs.Codes.{Codes};
-ghost use Rattle.content_cbor.specs.Decoded.{IsPlaced, IsReadAs, IsReadFrom, StopsAt};
-ghost use Rattle.content_cbor.specs.Inner.Steps.{Gives, error_in};
+ghost use Rattle.content_cbor.specs.Decoded.{IsPlaced, IsReadAs, IsReadFrom, StopsAt, takes_memory};
+ghost use Rattle.content_cbor.specs.declared.stop.Stop.TheVariants.{OutOfMemory};
+ghost use Rattle.content_cbor.specs.Inner.Steps.{Finds, Gives, error_in};
 ghost use Rattle.content_cbor.specs.Inner.Reading.{each_at, item_at, leaf_at, pair_at, parts_at};
 ghost use Rattle.content_cbor.specs.Inner.Reading.{simple_at, until_at, whole_at};
 
@@ -53,6 +55,8 @@ pub fn decode<'de>(
     ensures only { (t : Tree) → Codes depth_limit t bytes.now → IsReadAs t result }
     ensures fault { IfErr result (λ e. StopsAt bytes.now e (whole_at depth_limit bytes.now)) }
     ensures place { IfErr result (λ e. IsPlaced depth_limit bytes.now e) }
+    ensures succeeds { (t : Tree) → Codes depth_limit t bytes.now → takes_memory t ≡ false
+        → IsOk result }
 {
     match read_whole(alloc, bytes, depth_limit) {
         Ok(value) => Ok(value),
@@ -83,6 +87,8 @@ pub fn decode_prefix<'de>(
         → bytes.now ≡ front ++ rest → IsReadFrom t (length front) result }
     ensures fault { IfErr result (λ e. StopsAt bytes.now e (item_at depth_limit bytes.now)) }
     ensures place { IfErr result (λ e. IsPlaced depth_limit bytes.now e) }
+    ensures succeeds { (t : Tree) (front rest : List ℕ) → Codes depth_limit t front
+        → bytes.now ≡ front ++ rest → takes_memory t ≡ false → IsOk result }
 {
     match read_item(alloc, depth_limit, bytes) {
         Ok((value, rest)) => Ok((value, bytes.len().saturating_sub(rest.len()))),
@@ -106,19 +112,21 @@ fn error_of(stop: Stop, bytes: &[u8]) -> DecodeError
 /// One item, and nothing behind it.
 #[tactic(auto, unfolding(crate::specs::Inner::Reading::whole_at))]
 fn read_whole<'de>(alloc: Global, bytes: &'de [u8], limit: usize) -> Result<Value<'de>, Stop>
-    ensures { Gives tree_of result (whole_at limit bytes.now) }
+    ensures value { Gives tree_of result (whole_at limit bytes.now) }
+    ensures memory { result ≡ Err OutOfMemory → (t : Tree) → whole_at limit bytes.now ≡ Ok t
+        → takes_memory t ≡ true }
 {
     let (value, rest) = read_item(alloc, limit, bytes)?;
     if rest.len() == 0 {
         Ok(value)
     } else {
-        Err(stop_at(Fault::Trailing, rest))
+        Err(Stop::Refused(stop_at(Fault::Trailing, rest)))
     }
 }
 
 /// A simple value, behind its head.
-fn read_simple<'de>(number: u64, bytes: &'de [u8]) -> Result<(Value<'de>, &'de [u8]), Stop>
-    ensures { Gives (λ x. (tree_of x.0, x.1.now)) result (simple_at number bytes.now) }
+fn read_simple<'de>(number: u64, bytes: &'de [u8]) -> Result<(Value<'de>, &'de [u8]), Refusal>
+    ensures { Finds (λ x. (tree_of x.0, x.1.now)) result (simple_at number bytes.now) }
 {
     match number {
         20 => Ok((Value::Bool(false), bytes)),
@@ -135,8 +143,9 @@ fn read_leaf<'de>(
     head: Head,
     bytes: &'de [u8],
 ) -> Result<(Value<'de>, &'de [u8]), Stop>
-    ensures { Gives (λ x. (tree_of x.0, x.1.now)) result
+    ensures value { Gives (λ x. (tree_of x.0, x.1.now)) result
         (leaf_at head.«major» head.number bytes.now) }
+    ensures memory { result ≡ Err OutOfMemory → head.number ≡ None }
 {
     match (head.major, head.number) {
         (Major::Unsigned, Some(number)) => {
@@ -157,9 +166,9 @@ fn read_leaf<'de>(
             let (number, rest) = read_tag(tag, bytes)?;
             Ok((Value::Number(number), rest))
         }
-        (Major::Simple, Some(number)) => read_simple(number, bytes),
-        (Major::Simple, None) => Err(stop_before(Fault::Break, bytes)),
-        _ => Err(stop_before(Fault::Reserved, bytes)),
+        (Major::Simple, Some(number)) => Ok(read_simple(number, bytes)?),
+        (Major::Simple, None) => Err(Stop::Refused(stop_before(Fault::Break, bytes))),
+        _ => Err(Stop::Refused(stop_before(Fault::Reserved, bytes))),
     }
 }
 
@@ -172,7 +181,9 @@ fn read_item<'de>(
     limit: usize,
     bytes: &'de [u8],
 ) -> Result<(Value<'de>, &'de [u8]), Stop>
-    ensures { Gives (λ x. (tree_of x.0, x.1.now)) result (item_at limit bytes.now) }
+    ensures value { Gives (λ x. (tree_of x.0, x.1.now)) result (item_at limit bytes.now) }
+    ensures memory { result ≡ Err OutOfMemory → (t : Tree) (rest : List ℕ)
+        → item_at limit bytes.now ≡ Ok (t, rest) → takes_memory t ≡ true }
 {
     if limit == 0 {
         let fault = if bytes.len() == 0 {
@@ -180,7 +191,7 @@ fn read_item<'de>(
         } else {
             Fault::TooDeep
         };
-        return Err(stop_at(fault, bytes));
+        return Err(Stop::Refused(stop_at(fault, bytes)));
     }
     let (head, rest) = read_head(limit - 1, bytes)?;
     match head.major {
@@ -278,7 +289,7 @@ fn read_items_until_break<'de>(
         items.push(item)?;
         rest = behind;
     }
-    Err(stop_at(Fault::Ended, &[]))
+    Err(Stop::Refused(stop_at(Fault::Ended, &[])))
 }
 
 /// A key and a value.
@@ -341,5 +352,5 @@ fn read_pairs_until_break<'de>(
         pairs.push(pair)?;
         rest = behind;
     }
-    Err(stop_at(Fault::Ended, &[]))
+    Err(Stop::Refused(stop_at(Fault::Ended, &[])))
 }

@@ -1,11 +1,11 @@
 //! Numbers digit by digit, up to the first that leads to none.
 
 ghost use Rattle.std.specs.Prelude.{◌≡◌, ◌≤◌, ◌<◌, ◌^◌, IfOk};
-ghost use Rattle.content_cbor.specs.Inner.Steps.{Gives};
+ghost use Rattle.content_cbor.specs.Inner.Steps.{Finds};
 ghost use Rattle.content_cbor.specs.Inner.Numbers.{between, digits_at, leading};
 
 use crate::decode_error::Fault;
-use crate::stop::{Stop, stop_at};
+use crate::stop::{Refusal, stop_at};
 
 /// From which to which number, and what is wrong with others.
 #[derive(Clone, Copy, Drop)]
@@ -32,10 +32,10 @@ pub(crate) fn read_digits(
     due: u64,
     number: u128,
     bytes: &[u8],
-) -> Result<(u128, &[u8]), Stop>
+) -> Result<(u128, &[u8]), Refusal>
     requires begins { number ≤ leading due range.most }
     requires fits { range.most < 2 ^ 128 }
-    ensures value { Gives (λ x. (x.0, x.1.now)) result
+    ensures value { Finds (λ x. (x.0, x.1.now)) result
         (digits_at (between range.least range.most range.«fault») due number bytes.now) }
     ensures room { IfOk result (λ x. x.0 ≤ range.most) }
 {

@@ -1,13 +1,16 @@
 //! A serialiser that writes bytes.
 
 ghost use Rattle.std.specs.Prelude.{◌≡◌, ◌++◌, Ok, Some, None, true, false, length};
-ghost use Rattle.std.specs.Prelude.{if◌then◌else◌};
+ghost use Rattle.std.specs.Prelude.{IsOk, if◌then◌else◌};
 ghost use Rattle.content_tree.specs.Errors.Kind.{kind_of};
 ghost use Rattle.content_tree.specs.Values.Tree as tree;
 ghost use Rattle.content_ser.specs.Calls.Call.{event_of};
 ghost use Rattle.content_ser.specs.Grammar.Token as token;
+ghost use Rattle.content_ser.specs.Sending.Aside.{answer_of};
+ghost use Rattle.content_ser.specs.Serializers.Step.{Takes};
 ghost use Rattle.content_cbor.specs.Encoder.{Written, Wrote, announced, begun, is_length, is_text};
-ghost use Rattle.content_cbor.specs.Encoder.{nothing, refuses, step, with_bytes, writes};
+ghost use Rattle.content_cbor.specs.Encoder.{TakenInPlace, nothing, refuses, seen_of, step};
+ghost use Rattle.content_cbor.specs.Encoder.{with_bytes, writes, writes_nothing};
 ghost use Rattle.content_cbor.specs.Heads.{head};
 ghost use Rattle.content_cbor.specs.Inner.Output.{written_of};
 ghost use Rattle.content_cbor.specs.Item.{bytes_item, text_item};
@@ -33,8 +36,9 @@ impl Output {
     /// Writes what a call says: whether it is in place.
     #[inline(always)]
     fn write(&mut self, call: &Call<'_>) -> StdResult<bool, AllocError>
-        ensures { Wrote (step (written_of self.old) (event_of call.now)) (written_of self.old)
+        ensures value { Wrote (step (written_of self.old) (event_of call.now)) (written_of self.old)
             result (written_of self.new) }
+        ensures succeeds { writes_nothing (event_of call.now) ≡ true → IsOk result }
     {
         match call {
             Call::Bool(flag) => self.bool(*flag),
@@ -257,8 +261,9 @@ impl Encoder {
         }
     }
 
-    /// The bytes, moved out; after a refusal those that were written before. Of the calls of one
-    /// whole tree, all taken, they are its data item: the law
+    /// The bytes, moved out; after a refusal those that were written before, and where memory ran
+    /// out perhaps a part of the call that was refused. Of the calls of one whole tree, all taken,
+    /// they are its data item: the law
     /// [`whole_trees_are_encoded`](crate::laws::whole_trees_are_encoded) says so.
     pub fn into_bytes(self) -> Vec<u8>
         ensures { result.items ≡ self.written.bytes }
@@ -279,7 +284,7 @@ impl Encoder {
 impl Serializer for Encoder {
     ghost State = { Written };
 
-    ghost seen = { λ e. record { state = e.written; failed = e.failed; readable = false } };
+    ghost seen = { seen_of };
 
     ghost step = { step };
 
@@ -287,8 +292,14 @@ impl Serializer for Encoder {
 
     /// Errors: `Misplaced` where the call can't be written at once, `OutOfMemory` where an
     /// allocation failed, `Failed` after either. Memory is taken for the bytes, and for each array
-    /// or map that is open.
-    fn call(&mut self, call: Call<'_>) -> Result<()> {
+    /// or map that is open; a call that writes nothing takes none.
+    fn call(&mut self, call: Call<'_>) -> Result<()>
+        // one step of what is written
+        ensures taken { Takes step refuses (seen_of self.old) (event_of call.entry) result
+            (seen_of self.new) }
+        // it needs no memory
+        ensures succeeds { TakenInPlace self.old (event_of call.entry) → IsOk result }
+    {
         // In the place of an error before there is one; no answer shows it.
         let mut error = Error::from(ErrorKind::OutOfMemory);
         match self.call_aside(call, &mut error) {
@@ -298,7 +309,11 @@ impl Serializer for Encoder {
     }
 
     #[inline(always)]
-    fn call_aside(&mut self, call: Call<'_>, error: &mut Error) -> Sent {
+    fn call_aside(&mut self, call: Call<'_>, error: &mut Error) -> Sent
+        ensures taken { Takes step refuses (seen_of self.old) (event_of call.entry)
+            (answer_of result error.new) (seen_of self.new) }
+        ensures succeeds { TakenInPlace self.old (event_of call.entry) → IsOk result }
+    {
         if self.failed {
             *error = Error::from(ErrorKind::Failed);
             return Err(Aside);

@@ -4,6 +4,7 @@
 //! deep value takes little stack.
 
 ghost use Rattle.std.specs.Prelude.{◌≡◌, ◌++◌, OnOk, IfOk, IfErr, false};
+ghost use Rattle.std.specs.Io.{StartsWith};
 ghost use Rattle.content_tree.specs.Errors.Kind.{IsOutOfMemory};
 ghost use Rattle.content_tree.specs.Values.Tree as tree;
 ghost use Rattle.content_tree.specs.Values.Value.{tree_of, tree_data_of, enum_tree, held_view};
@@ -198,6 +199,7 @@ pub(crate) fn write_entry_of(name: &str, out: &mut Vec<u8>) -> StdResult<(), All
     ensures value { OnOk result (out.new.items ≡ out.old.items
         ++ (head Major.Map 1 ++ text_item name.now)) }
     ensures fits { OnOk result (IsText name.now) }
+    ensures kept { StartsWith out.new.items out.old.items }
 {
     write_head(out, Major::Map, 1)?;
     write_text(name, out)

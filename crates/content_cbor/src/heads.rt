@@ -2,8 +2,9 @@
 
 ghost use Rattle.std.specs.Prelude.{◌≡◌, ◌≤◌, ◌++◌, ◌*◌, OnOk, IfSome, IfNone, drop, true, false};
 ghost use Rattle.content_cbor.specs.Heads.{code, head};
+ghost use Rattle.std.specs.Io.{StartsWith};
 ghost use Rattle.std.specs.Prelude.{◌^◌, ◌<◌};
-ghost use Rattle.content_cbor.specs.Inner.Steps.{Gives};
+ghost use Rattle.content_cbor.specs.Inner.Steps.{Finds};
 ghost use Rattle.content_cbor.specs.Inner.Numbers.{argument_at, between, bounds_in, digits_at};
 ghost use Rattle.content_cbor.specs.Inner.Numbers.{size_of, unbounded};
 ghost use Rattle.content_cbor.specs.Inner.Reading.{at_break, bounds_of, first_at, head_at};
@@ -11,7 +12,7 @@ ghost use Rattle.content_cbor.specs.Inner.Reading.{head_behind, major_of};
 
 use crate::decode_error::Fault;
 use crate::digits::{Range, read_digits};
-use crate::stop::{Stop, stop_at, stop_before};
+use crate::stop::{Refusal, stop_at, stop_before};
 use std::alloc::AllocError;
 
 /// The major types of data items.
@@ -88,7 +89,8 @@ pub(crate) struct Head {
 #[inline(always)]
 #[tactic(auto, unfolding(crate::specs::Heads::head))]
 pub(crate) fn write_head(out: &mut Vec<u8>, major: Major, number: u64) -> Result<(), AllocError>
-    ensures { OnOk result (out.new.items ≡ out.old.items ++ head major number) }
+    ensures value { OnOk result (out.new.items ≡ out.old.items ++ head major number) }
+    ensures kept { StartsWith out.new.items out.old.items }
 {
     if number < 24 {
         out.push(major.first_byte() + number as u8)?;
@@ -103,7 +105,8 @@ pub(crate) fn write_head(out: &mut Vec<u8>, major: Major, number: u64) -> Result
 #[tactic(auto, unfolding(crate::specs::Heads::head))]
 fn write_long_head(out: &mut Vec<u8>, major: Major, number: u64) -> Result<(), AllocError>
     requires { 24 ≤ number }
-    ensures { OnOk result (out.new.items ≡ out.old.items ++ head major number) }
+    ensures value { OnOk result (out.new.items ≡ out.old.items ++ head major number) }
+    ensures kept { StartsWith out.new.items out.old.items }
 {
     let first = major.first_byte();
     if number < 0x100 {
@@ -123,8 +126,8 @@ fn write_long_head(out: &mut Vec<u8>, major: Major, number: u64) -> Result<(), A
 }
 
 /// The number of the byte at the front, and the bytes after it.
-fn read_u8(bytes: &[u8]) -> Result<(u8, &[u8]), Stop>
-    ensures { Gives (λ x. (x.0, x.1.now)) result (digits_at unbounded 1 0 bytes.now) }
+fn read_u8(bytes: &[u8]) -> Result<(u8, &[u8]), Refusal>
+    ensures { Finds (λ x. (x.0, x.1.now)) result (digits_at unbounded 1 0 bytes.now) }
 {
     match bytes {
         [] => Err(stop_at(Fault::Ended, &[])),
@@ -133,8 +136,8 @@ fn read_u8(bytes: &[u8]) -> Result<(u8, &[u8]), Stop>
 }
 
 /// The number of two bytes.
-fn read_u16(bytes: &[u8]) -> Result<(u16, &[u8]), Stop>
-    ensures { Gives (λ x. (x.0, x.1.now)) result (digits_at unbounded 2 0 bytes.now) }
+fn read_u16(bytes: &[u8]) -> Result<(u16, &[u8]), Refusal>
+    ensures { Finds (λ x. (x.0, x.1.now)) result (digits_at unbounded 2 0 bytes.now) }
 {
     if bytes.len() < 2 {
         return Err(stop_at(Fault::Ended, &[]));
@@ -144,8 +147,8 @@ fn read_u16(bytes: &[u8]) -> Result<(u16, &[u8]), Stop>
 }
 
 /// The number of four bytes.
-fn read_u32(bytes: &[u8]) -> Result<(u32, &[u8]), Stop>
-    ensures { Gives (λ x. (x.0, x.1.now)) result (digits_at unbounded 4 0 bytes.now) }
+fn read_u32(bytes: &[u8]) -> Result<(u32, &[u8]), Refusal>
+    ensures { Finds (λ x. (x.0, x.1.now)) result (digits_at unbounded 4 0 bytes.now) }
 {
     if bytes.len() < 4 {
         return Err(stop_at(Fault::Ended, &[]));
@@ -156,8 +159,8 @@ fn read_u32(bytes: &[u8]) -> Result<(u32, &[u8]), Stop>
 }
 
 /// The number of eight bytes.
-fn read_u64(bytes: &[u8]) -> Result<(u64, &[u8]), Stop>
-    ensures { Gives (λ x. (x.0, x.1.now)) result (digits_at unbounded 8 0 bytes.now) }
+fn read_u64(bytes: &[u8]) -> Result<(u64, &[u8]), Refusal>
+    ensures { Finds (λ x. (x.0, x.1.now)) result (digits_at unbounded 8 0 bytes.now) }
 {
     if bytes.len() < 8 {
         return Err(stop_at(Fault::Ended, &[]));
@@ -172,8 +175,8 @@ fn read_u64(bytes: &[u8]) -> Result<(u64, &[u8]), Stop>
 /// The first byte of a head, and the bytes after it.
 #[inline(always)]
 #[tactic(auto, unfolding(crate::specs::Inner::Reading::first_at))]
-pub(crate) fn read_first(bytes: &[u8]) -> Result<(First, &[u8]), Stop>
-    ensures { Gives (λ x. (x.0, x.1.now)) result (first_at bytes.now) }
+pub(crate) fn read_first(bytes: &[u8]) -> Result<(First, &[u8]), Refusal>
+    ensures { Finds (λ x. (x.0, x.1.now)) result (first_at bytes.now) }
 {
     let [first, rest @ ..] = bytes else {
         return Err(stop_at(Fault::Ended, bytes));
@@ -199,8 +202,8 @@ pub(crate) fn read_first(bytes: &[u8]) -> Result<(First, &[u8]), Stop>
 /// The number of a head, in its first byte or after it.
 #[inline(always)]
 #[tactic(auto, unfolding(crate::specs::Inner::Numbers::argument_at))]
-fn read_any_argument(info: u8, bytes: &[u8]) -> Result<(u64, &[u8]), Stop>
-    ensures { Gives (λ x. (x.0, x.1.now)) result (argument_at unbounded info bytes.now) }
+fn read_any_argument(info: u8, bytes: &[u8]) -> Result<(u64, &[u8]), Refusal>
+    ensures { Finds (λ x. (x.0, x.1.now)) result (argument_at unbounded info bytes.now) }
 {
     if info < 24 {
         Ok((u64::from(info), bytes))
@@ -232,9 +235,9 @@ fn size_of(info: u8) -> u64
 
 /// The same number, where it must be of a range.
 #[tactic(auto, unfolding(crate::specs::Inner::Numbers::argument_at))]
-fn read_argument_in(range: Range, info: u8, bytes: &[u8]) -> Result<(u64, &[u8]), Stop>
+fn read_argument_in(range: Range, info: u8, bytes: &[u8]) -> Result<(u64, &[u8]), Refusal>
     requires { range.most < 2 ^ 64 }
-    ensures { Gives (λ x. (x.0, x.1.now)) result
+    ensures { Finds (λ x. (x.0, x.1.now)) result
         (argument_at (between range.least range.most range.«fault») info bytes.now) }
 {
     if info < 24 {
@@ -256,9 +259,9 @@ pub(crate) fn read_argument(
     range: Option<Range>,
     info: u8,
     bytes: &[u8],
-) -> Result<(u64, &[u8]), Stop>
+) -> Result<(u64, &[u8]), Refusal>
     requires { IfSome range (λ r. r.most < 2 ^ 64) }
-    ensures { Gives (λ x. (x.0, x.1.now)) result (argument_at (bounds_in range) info bytes.now) }
+    ensures { Finds (λ x. (x.0, x.1.now)) result (argument_at (bounds_in range) info bytes.now) }
 {
     match range {
         None => read_any_argument(info, bytes),
@@ -268,8 +271,8 @@ pub(crate) fn read_argument(
 
 /// A head after its first byte.
 #[inline(always)]
-pub(crate) fn read_head_behind(first: First, bytes: &[u8]) -> Result<(Head, &[u8]), Stop>
-    ensures { Gives (λ x. (x.0, x.1.now)) result (head_behind unbounded first bytes.now) }
+pub(crate) fn read_head_behind(first: First, bytes: &[u8]) -> Result<(Head, &[u8]), Refusal>
+    ensures { Finds (λ x. (x.0, x.1.now)) result (head_behind unbounded first bytes.now) }
 {
     let major = first.major;
     if first.info == 31 {
@@ -282,9 +285,9 @@ pub(crate) fn read_head_behind(first: First, bytes: &[u8]) -> Result<(Head, &[u8
 }
 
 /// The same, with a number of a range, if it has one.
-fn read_head_in(range: Range, first: First, bytes: &[u8]) -> Result<(Head, &[u8]), Stop>
+fn read_head_in(range: Range, first: First, bytes: &[u8]) -> Result<(Head, &[u8]), Refusal>
     requires { range.most < 2 ^ 64 }
-    ensures { Gives (λ x. (x.0, x.1.now)) result
+    ensures { Finds (λ x. (x.0, x.1.now)) result
         (head_behind (between range.least range.most range.«fault») first bytes.now) }
 {
     if first.info == 31 {
@@ -301,8 +304,8 @@ fn read_head_in(range: Range, first: First, bytes: &[u8]) -> Result<(Head, &[u8]
 /// The same, with what its number must be where items may nest this deep. Few heads need it, so it
 /// isn't inlined.
 #[inline(never)]
-fn read_bounded_head(limit: usize, first: First, bytes: &[u8]) -> Result<(Head, &[u8]), Stop>
-    ensures { Gives (λ x. (x.0, x.1.now)) result
+fn read_bounded_head(limit: usize, first: First, bytes: &[u8]) -> Result<(Head, &[u8]), Refusal>
+    ensures { Finds (λ x. (x.0, x.1.now)) result
         (head_behind (bounds_of limit first.«major») first bytes.now) }
 {
     match first.major {
@@ -329,8 +332,8 @@ fn read_bounded_head(limit: usize, first: First, bytes: &[u8]) -> Result<(Head, 
 /// The head of an item in which items may nest this deep, and the bytes after it.
 #[inline(always)]
 #[tactic(auto, unfolding(crate::specs::Inner::Reading::head_at))]
-pub(crate) fn read_head(limit: usize, bytes: &[u8]) -> Result<(Head, &[u8]), Stop>
-    ensures { Gives (λ x. (x.0, x.1.now)) result (head_at limit bytes.now) }
+pub(crate) fn read_head(limit: usize, bytes: &[u8]) -> Result<(Head, &[u8]), Refusal>
+    ensures { Finds (λ x. (x.0, x.1.now)) result (head_at limit bytes.now) }
 {
     let (first, rest) = read_first(bytes)?;
     if limit == 0 || matches!(first.major, Major::Tag) {

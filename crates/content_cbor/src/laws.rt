@@ -1,6 +1,7 @@
 //! What holds of all data items, for those who prove something of what they encode and decode.
 
-ghost use Rattle.content_cbor.specs.Laws.{FormsHaveItems, FormsKeepLimits, FormsStay};
+ghost use Rattle.content_cbor.specs.Laws.{FittingTreesAreTaken, FormsHaveItems, FormsKeepLimits};
+ghost use Rattle.content_cbor.specs.Laws.{FormsStay};
 ghost use Rattle.content_cbor.specs.Laws.{HeadsAreShort, ItemsCodeForms, LimitsAreKept};
 ghost use Rattle.content_cbor.specs.Laws.{LimitsWiden, OneTree, WholeTreesAreEncoded};
 
@@ -41,4 +42,10 @@ pub fn forms_stay()
 /// which codes the tree's form.
 pub fn whole_trees_are_encoded()
     ensures { WholeTreesAreEncoded }
+{}
+
+/// An [`Encoder`](crate::Encoder) takes all calls of a tree, if they tell the true lengths, come
+/// with one entry for each pair, and the tree fits as that of any value does. They leave its item.
+pub fn fitting_trees_are_taken()
+    ensures { FittingTreesAreTaken }
 {}

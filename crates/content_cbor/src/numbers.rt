@@ -3,7 +3,7 @@
 ghost use Rattle.std.specs.Prelude.{◌≡◌, ◌^◌, ◌<◌, ◌≤◌, pos, negsuc, length, IfOk, IfSome};
 ghost use Rattle.content_cbor.specs.Codes.{number_of};
 ghost use Rattle.content_cbor.specs.declared.decode_error.Fault.TheVariants.{TooWide};
-ghost use Rattle.content_cbor.specs.Inner.Steps.{Gives};
+ghost use Rattle.content_cbor.specs.Inner.Steps.{Finds};
 ghost use Rattle.content_cbor.specs.Inner.Numbers.{bounds_in};
 ghost use Rattle.content_cbor.specs.Inner.Reading.{chunk_bounds, digits_behind, digits_of};
 ghost use Rattle.content_cbor.specs.Inner.Reading.{digits_until, greatest, magnitude_at, tag_at};
@@ -11,7 +11,7 @@ ghost use Rattle.content_cbor.specs.Inner.Reading.{digits_until, greatest, magni
 use crate::decode_error::Fault;
 use crate::digits::{Range, leading, read_digits};
 use crate::heads::{Major, after_break, read_first, read_head_behind};
-use crate::stop::{Stop, stop_at};
+use crate::stop::{Refusal, stop_at};
 use crate::strings::read_length;
 use content_tree::Number;
 
@@ -86,8 +86,8 @@ fn lengths_behind(is_negative: bool, number: u128) -> Option<Range>
 }
 
 /// The number whose digits are in chunks up to a break.
-fn read_chunks_of_digits(is_negative: bool, bytes: &[u8]) -> Result<(u128, &[u8]), Stop>
-    ensures value { Gives (λ x. (x.0, x.1.now)) result
+fn read_chunks_of_digits(is_negative: bool, bytes: &[u8]) -> Result<(u128, &[u8]), Refusal>
+    ensures value { Finds (λ x. (x.0, x.1.now)) result
         (digits_until is_negative 0 (length bytes.now) bytes.now) }
     ensures room { IfOk result (λ x. x.0 ≤ greatest is_negative) }
 {
@@ -111,8 +111,8 @@ fn read_digits_behind(
     is_negative: bool,
     length: Option<u64>,
     bytes: &[u8],
-) -> Result<(u128, &[u8]), Stop>
-    ensures value { Gives (λ x. (x.0, x.1.now)) result (digits_of is_negative length bytes.now) }
+) -> Result<(u128, &[u8]), Refusal>
+    ensures value { Finds (λ x. (x.0, x.1.now)) result (digits_of is_negative length bytes.now) }
     ensures room { IfOk result (λ x. x.0 ≤ greatest is_negative) }
 {
     match length {
@@ -123,8 +123,8 @@ fn read_digits_behind(
 
 /// The number under tag 2 or 3, from its bytes.
 #[tactic(auto, unfolding(crate::specs::Inner::Reading::magnitude_at))]
-fn read_magnitude(is_negative: bool, bytes: &[u8]) -> Result<(u128, &[u8]), Stop>
-    ensures value { Gives (λ x. (x.0, x.1.now)) result (magnitude_at is_negative bytes.now) }
+fn read_magnitude(is_negative: bool, bytes: &[u8]) -> Result<(u128, &[u8]), Refusal>
+    ensures value { Finds (λ x. (x.0, x.1.now)) result (magnitude_at is_negative bytes.now) }
     ensures room { IfOk result (λ x. x.0 ≤ greatest is_negative) }
 {
     let (first, rest) = read_first(bytes)?;
@@ -137,8 +137,8 @@ fn read_magnitude(is_negative: bool, bytes: &[u8]) -> Result<(u128, &[u8]), Stop
 
 /// A number under tag 2, and else under tag 3.
 #[tactic(auto, unfolding(crate::specs::Inner::Reading::tag_at))]
-pub(crate) fn read_tag(tag: u64, bytes: &[u8]) -> Result<(Number, &[u8]), Stop>
-    ensures { Gives (λ x. (x.0, x.1.now)) result (tag_at tag bytes.now) }
+pub(crate) fn read_tag(tag: u64, bytes: &[u8]) -> Result<(Number, &[u8]), Refusal>
+    ensures { Finds (λ x. (x.0, x.1.now)) result (tag_at tag bytes.now) }
 {
     if tag == 2 {
         let (number, rest) = read_magnitude(false, bytes)?;

@@ -1,10 +1,12 @@
 //! Values as bytes and back.
 
-ghost use Rattle.std.specs.Prelude.{◌≤◌, ◌<◌, IsErr};
+ghost use Rattle.std.specs.Prelude.{◌≤◌, ◌<◌, IfErr, IsErr};
 ghost use Rattle.content_tree.specs.Values.Tree.{owned};
 ghost use Rattle.content_tree.specs.Values.Value.{tree_of};
-ghost use Rattle.content_cbor.specs.Decoded.{IsReadAs};
+ghost use Rattle.content_cbor.specs.Decoded.{IsPlaced, IsReadAs, StopsAt};
 ghost use Rattle.content_cbor.specs.Form.{depth, form};
+ghost use Rattle.content_cbor.specs.Inner.Reading.{whole_at};
+ghost use Rattle.content_cbor.specs.Item.{item};
 
 use crate::decode_error::DecodeError;
 use crate::decoding::decode;
@@ -20,7 +22,8 @@ use std::alloc::Global;
 ///
 /// # Errors
 ///
-/// `Refused` only where the item is deeper than the limit; `OutOfMemory`.
+/// `Refused`, as [`decode`] refuses the value's item, only where that is deeper than the limit;
+/// `OutOfMemory`.
 ///
 /// ```rust
 /// let value = Value::Tuple(vec![in alloc; Value::from(7u8), Value::Unit]?);
@@ -35,6 +38,10 @@ pub fn round_trip<'a, 'n>(
     ensures value { depth (form (tree_of value.now)) ≤ depth_limit
         → IsReadAs (owned (form (tree_of value.now))) result }
     ensures refused { depth_limit < depth (form (tree_of value.now)) → IsErr result }
+    // the error of decoding the value's item
+    ensures fault { IfErr result (λ e. StopsAt (item (tree_of value.now)) e
+        (whole_at depth_limit (item (tree_of value.now)))) }
+    ensures place { IfErr result (λ e. IsPlaced depth_limit (item (tree_of value.now)) e) }
 {
     let Ok(bytes) = encode(alloc, value) else {
         return Err(DecodeError::OutOfMemory);

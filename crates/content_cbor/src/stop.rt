@@ -20,6 +20,14 @@ pub(crate) enum Stop {
     Refused(Refusal),
 }
 
+impl From<Refusal> for Stop {
+    ghost from_gives = { λ r e. e ≡ Refused r };
+
+    fn from(refusal: Refusal) -> Stop {
+        Stop::Refused(refusal)
+    }
+}
+
 impl From<AllocError> for Stop {
     ghost from_gives = { λ _ e. e ≡ OutOfMemory };
 
@@ -36,22 +44,22 @@ impl<T: Drop> From<AllocFailed<T>> for Stop {
     }
 }
 
-/// The stop for a fault at the first of the bytes that are left.
-pub(crate) fn stop_at(fault: Fault, left: &[u8]) -> Stop
-    ensures { result ≡ Refused (record { «fault» = fault; left = length left.now }) }
+/// The refusal for a fault at the first of the bytes that are left.
+pub(crate) fn stop_at(fault: Fault, left: &[u8]) -> Refusal
+    ensures { result ≡ record { «fault» = fault; left = length left.now } }
 {
-    Stop::Refused(Refusal {
+    Refusal {
         fault,
         left: left.len(),
-    })
+    }
 }
 
-/// The stop for a fault at the byte before these.
-pub(crate) fn stop_before(fault: Fault, behind: &[u8]) -> Stop
-    ensures { result ≡ Refused (record { «fault» = fault; left = suc (length behind.now) }) }
+/// The refusal for a fault at the byte before these.
+pub(crate) fn stop_before(fault: Fault, behind: &[u8]) -> Refusal
+    ensures { result ≡ record { «fault» = fault; left = suc (length behind.now) } }
 {
-    Stop::Refused(Refusal {
+    Refusal {
         fault,
         left: behind.len() + 1,
-    })
+    }
 }

@@ -1,24 +1,26 @@
 //! Texts and bytes that are read.
 
-ghost use Rattle.std.specs.Prelude.{◌≡◌, ◌++◌, ◌^◌, ◌<◌, string_bytes, false, true, IfSome};
+ghost use Rattle.std.specs.Prelude.{◌≡◌, ◌++◌, ◌^◌, ◌<◌, string_bytes, false, true, Err, IfSome};
+ghost use Rattle.std.specs.Prelude.{None};
 ghost use Rattle.content_tree.specs.Values.Text.{text_of, bytes_of};
-ghost use Rattle.content_cbor.specs.Inner.Steps.{Gives};
+ghost use Rattle.content_cbor.specs.Inner.Steps.{Finds, Gives};
 ghost use Rattle.content_cbor.specs.Inner.Numbers.{bounds_in};
 ghost use Rattle.content_cbor.specs.Inner.Reading.{begins_chunk, bytes_at, chunk_at, chunks_at};
+ghost use Rattle.content_cbor.specs.declared.stop.Stop.TheVariants.{OutOfMemory};
 ghost use Rattle.content_cbor.specs.Inner.Reading.{content_at, length_at, string_at};
 
 use crate::decode_error::Fault;
 use crate::digits::Range;
 use crate::heads::{First, Major, after_break, read_argument, read_first};
-use crate::stop::{Stop, stop_at};
+use crate::stop::{Refusal, Stop, stop_at};
 use crate::utf8::stop_in_text;
 use content_tree::{CowBytes, CowStr};
 use std::alloc::Global;
 use std::str;
 
 /// This many bytes, and those after them.
-fn read_bytes(length: u64, bytes: &[u8]) -> Result<(&[u8], &[u8]), Stop>
-    ensures { Gives (λ x. (x.0.now, x.1.now)) result (bytes_at length bytes.now) }
+fn read_bytes(length: u64, bytes: &[u8]) -> Result<(&[u8], &[u8]), Refusal>
+    ensures { Finds (λ x. (x.0.now, x.1.now)) result (bytes_at length bytes.now) }
 {
     if (bytes.len() as u64) < length {
         return Err(stop_at(Fault::Ended, &[]));
@@ -29,8 +31,8 @@ fn read_bytes(length: u64, bytes: &[u8]) -> Result<(&[u8], &[u8]), Stop>
 /// This many bytes as a text, and those after them.
 #[inline(always)]
 #[tactic(auto, unfolding(crate::specs::Inner::Reading::content_at))]
-fn read_text(length: u64, bytes: &[u8]) -> Result<(&str, &[u8]), Stop>
-    ensures { Gives (λ x. (x.0.now, x.1.now)) result (content_at true length bytes.now) }
+fn read_text(length: u64, bytes: &[u8]) -> Result<(&str, &[u8]), Refusal>
+    ensures { Finds (λ x. (x.0.now, x.1.now)) result (content_at true length bytes.now) }
 {
     if (bytes.len() as u64) < length {
         return Err(stop_in_text(length, bytes));
@@ -59,9 +61,9 @@ pub(crate) fn read_length(
     is_text: bool,
     range: Option<Range>,
     bytes: &[u8],
-) -> Result<(u64, &[u8]), Stop>
+) -> Result<(u64, &[u8]), Refusal>
     requires { IfSome range (λ r. r.most < 2 ^ 64) }
-    ensures { Gives (λ x. (x.0, x.1.now)) result
+    ensures { Finds (λ x. (x.0, x.1.now)) result
         (length_at is_text (bounds_in range) bytes.now) }
 {
     let (first, rest) = read_first(bytes)?;
@@ -74,8 +76,8 @@ pub(crate) fn read_length(
 
 /// A chunk of bytes.
 #[tactic(auto, unfolding(crate::specs::Inner::Reading::chunk_at, crate::specs::Inner::Reading::content_at))]
-fn read_chunk_of_bytes(bytes: &[u8]) -> Result<(&[u8], &[u8]), Stop>
-    ensures { Gives (λ x. (x.0.now, x.1.now)) result (chunk_at false bytes.now) }
+fn read_chunk_of_bytes(bytes: &[u8]) -> Result<(&[u8], &[u8]), Refusal>
+    ensures { Finds (λ x. (x.0.now, x.1.now)) result (chunk_at false bytes.now) }
 {
     let (length, rest) = read_length(false, None, bytes)?;
     read_bytes(length, rest)
@@ -83,8 +85,8 @@ fn read_chunk_of_bytes(bytes: &[u8]) -> Result<(&[u8], &[u8]), Stop>
 
 /// A chunk of a text.
 #[tactic(auto, unfolding(crate::specs::Inner::Reading::chunk_at))]
-fn read_chunk_of_text(bytes: &[u8]) -> Result<(&str, &[u8]), Stop>
-    ensures { Gives (λ x. (x.0.now, x.1.now)) result (chunk_at true bytes.now) }
+fn read_chunk_of_text(bytes: &[u8]) -> Result<(&str, &[u8]), Refusal>
+    ensures { Finds (λ x. (x.0.now, x.1.now)) result (chunk_at true bytes.now) }
 {
     let (length, rest) = read_length(true, None, bytes)?;
     read_text(length, rest)
@@ -97,7 +99,8 @@ pub(crate) fn read_byte_string<'de>(
     length: Option<u64>,
     bytes: &'de [u8],
 ) -> Result<(CowBytes<'de>, &'de [u8]), Stop>
-    ensures { Gives (λ x. (bytes_of x.0, x.1.now)) result (string_at false length bytes.now) }
+    ensures value { Gives (λ x. (bytes_of x.0, x.1.now)) result (string_at false length bytes.now) }
+    ensures memory { result ≡ Err OutOfMemory → length ≡ None }
 {
     match length {
         Some(length) => {
@@ -118,7 +121,8 @@ pub(crate) fn read_text_string<'de>(
     length: Option<u64>,
     bytes: &'de [u8],
 ) -> Result<(CowStr<'de>, &'de [u8]), Stop>
-    ensures { Gives (λ x. (text_of x.0, x.1.now)) result (string_at true length bytes.now) }
+    ensures value { Gives (λ x. (text_of x.0, x.1.now)) result (string_at true length bytes.now) }
+    ensures memory { result ≡ Err OutOfMemory → length ≡ None }
 {
     match length {
         Some(length) => {
@@ -147,7 +151,7 @@ fn read_chunks_of_bytes(alloc: Global, bytes: &[u8]) -> Result<(Vec<u8>, &[u8]),
         whole.extend_from_slice(chunk)?;
         rest = behind;
     }
-    Err(stop_at(Fault::Ended, &[]))
+    Err(Stop::Refused(stop_at(Fault::Ended, &[])))
 }
 
 /// The chunks of a text up to a break, together.
@@ -165,5 +169,5 @@ fn read_chunks_of_text(alloc: Global, bytes: &[u8]) -> Result<(String, &[u8]), S
         whole.push_str(chunk)?;
         rest = behind;
     }
-    Err(stop_at(Fault::Ended, &[]))
+    Err(Stop::Refused(stop_at(Fault::Ended, &[])))
 }

@@ -1,11 +1,10 @@
 //! Texts byte by byte, up to the first that is wrong.
 
-ghost use Rattle.std.specs.Prelude.{◌≡◌, Ok, List, ℕ};
-ghost use Rattle.content_cbor.specs.Inner.Steps.{Fails};
+ghost use Rattle.std.specs.Prelude.{◌≡◌, Ok, Err, List, ℕ};
 ghost use Rattle.content_cbor.specs.Inner.Texts.{after_byte, after_first, tail, text_at};
 
 use crate::decode_error::Fault;
-use crate::stop::{Stop, stop_at};
+use crate::stop::{Refusal, stop_at};
 
 /// The bytes that a character lacks: how many, and the range of the next.
 #[derive(Clone, Copy, Drop)]
@@ -70,9 +69,9 @@ fn after_byte(lack: Lack, byte: u8) -> Option<Lack>
 
 /// Where this many bytes stop being a text: at the first with which no text begins, or at their
 /// end.
-pub(crate) fn stop_in_text(length: u64, bytes: &[u8]) -> Stop
+pub(crate) fn stop_in_text(length: u64, bytes: &[u8]) -> Refusal
     requires { (x : List ℕ × List ℕ) → text_at (tail 0) length bytes.now ≡ Ok x → ⊥ }
-    ensures { Fails result (text_at (tail 0) length bytes.now) }
+    ensures { text_at (tail 0) length bytes.now ≡ Err result }
 {
     let mut lack = tail(0);
     let mut due = length;

@@ -95,15 +95,27 @@ up_to text k h e i most = by_place (nat_lt i k) refl
 bad_line : (line : List ℕ) → 0 < length line → list_all is_printable line ≡ false → is_bad line ≡ true
 bad_line line some h = rw h (grind (arith, some))
 
--- a text whose first foreign byte is no line feed begins with a bad line
-pub bad_first : (text : List ℕ) (k : ℕ) → position is_foreign text ≡ Some k → is_line_feed (get_or text k 0) ≡ false → first_bad text ≡ Some 0
-bad_first text k h e =
+-- a foreign byte that is no line feed is in the first line, if it is the first
+within_first : (text : List ℕ) (k : ℕ) → position is_foreign text ≡ Some k → is_line_feed (get_or text k 0) ≡ false → k < position_or_len is_line_feed text
+within_first text k h e = before_passing is_line_feed text k _ refl (position-Some is_foreign text k 0 h).0 (up_to text k h e)
+
+-- how long the first line is
+first_length : (text : List ℕ) → length (before_first is_line_feed text) ≡ position_or_len is_line_feed text
+first_length text = length-prefix_len (λ b. not (is_line_feed b)) text
+
+-- a text whose first foreign byte is no line feed begins with a line that holds it
+pub foreign_first : (text : List ℕ) (k : ℕ) → position is_foreign text ≡ Some k → is_line_feed (get_or text k 0) ≡ false → list_all is_printable (before_first is_line_feed text) ≡ false
+foreign_first text k h e =
     let f = position-Some is_foreign text k 0 h in
     let line = before_first is_line_feed text in
-    let within = before_passing is_line_feed text k _ refl f.0 (up_to text k h e) in
-    let size = length-prefix_len (λ b. not (is_line_feed b)) text in
+    let within = within_first text k h e in
     let foreign : is_printable (get_or line k 0) ≡ false = subst (λ b. is_printable b ≡ false) (sym (get_or-take _ text k 0 within)) (grind (arith, f)) in
-    let bad = bad_line line (omega (arith, within, size)) (list_all_at is_printable line k 0 (omega (arith, within, size)) foreign) in
+    list_all_at is_printable line k 0 (omega (arith, within, first_length text)) foreign
+
+-- and that line is bad
+pub bad_first : (text : List ℕ) (k : ℕ) → position is_foreign text ≡ Some k → is_line_feed (get_or text k 0) ≡ false → first_bad text ≡ Some 0
+bad_first text k h e =
+    let bad = bad_line (before_first is_line_feed text) (omega (arith, within_first text k h e, first_length text)) (foreign_first text k h e) in
     let (rest, lines) = first_line text _ refl in
     position_from-zero is_bad (lines_of text) ∙ (ap (position_from is_bad 0) lines ∙ ap (λ x. cond x (Some 0) (position_from is_bad 1 rest)) bad)
 

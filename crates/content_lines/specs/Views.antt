@@ -1,5 +1,5 @@
 -- What contracts see of the types of a line.
-use Rattle.std.specs.Prelude.{◌≡◌, Option, None, Some, MatchOption}
+use Rattle.std.specs.Prelude.{◌≡◌, Bool, true, false, Option, None, Some, MatchOption}
 use Rattle.serde_content.specs.Names.Event as event
 use Rattle.serde_content.specs.Names.Words.{Call, Event, event_of}
 use Rattle.content_lines.specs.Numerals.{unhex}
@@ -16,6 +16,11 @@ variant_parts v = record { name = v.name.now; index = v.index; variant = v.varia
 abbrev pub line_event : Line → Event
 line_event (line.Call call) = event_of call
 line_event (line.Bytes digits) = event.octets (unhex digits.now)
+
+-- whether a line says a call of bytes
+abbrev pub says_bytes : Line → Bool
+says_bytes (line.Call call) = false
+says_bytes (line.Bytes digits) = true
 
 -- a reader's answer, where this call is wanted
 abbrev pub Spells : Option Call → Option Event → Type 0

@@ -1,12 +1,12 @@
 //! What a line says.
 
 ghost use Rattle.std.specs.Prelude.{◌≡◌, ◌≤◌, ◌+◌, [], ◌∷◌, length, Option, MatchOption};
-ghost use Rattle.std.specs.Prelude.{IfOk, IfSome, IsSomeAnd, None, Some, true, false};
-ghost use Rattle.std.specs.List.{list_all, position};
+ghost use Rattle.std.specs.Prelude.{IfOk, IfSome, IsOk, IsSomeAnd, None, Some, true, false};
+ghost use Rattle.std.specs.List.{before_first, list_all, position};
 ghost use Rattle.content_lines.specs.Lines.{is_bad, is_line_feed, is_foreign, lines_of, first_bad};
 ghost use Rattle.content_lines.specs.Forms.{is_printable};
 ghost use Rattle.content_lines.specs.Words.{event_in, of_parts, word_of, rest_of};
-ghost use Rattle.content_lines.specs.Views.{Reads, Spells, line_event};
+ghost use Rattle.content_lines.specs.Views.{Reads, Spells, line_event, says_bytes};
 ghost use Rattle.serde_content.specs.Names.Words.{Event, event_of};
 
 use crate::hex;
@@ -43,7 +43,8 @@ impl<'a> Line<'a> {
     ///
     /// `AllocError`, for bytes alone.
     pub fn into_call(self, alloc: Global) -> Result<Call<'a>, AllocError>
-        ensures { IfOk result (λ call. event_of call ≡ line_event self.entry) }
+        ensures value { IfOk result (λ call. event_of call ≡ line_event self.entry) }
+        ensures succeeds { says_bytes self.entry ≡ false → IsOk result }
     {
         match self {
             Line::Call(call) => Ok(call),
@@ -140,6 +141,9 @@ fn first_foreign(text: &[u8]) -> Option<usize>
 /// one; or none where the line has a byte that no line may hold. One walk looks for both. It takes
 /// no memory.
 pub fn split_line(text: &[u8]) -> Option<(&[u8], Option<&[u8]>)>
+    ensures foreign { result ≡ None
+        → list_all is_printable (before_first is_line_feed text.now) ≡ false }
+    // so that line is bad
     ensures bad { result ≡ None → first_bad text.now ≡ Some 0 }
     ensures printable { IfSome result (λ both. list_all is_printable both.0.now ≡ true) }
     ensures lines { IfSome result (λ both. MatchOption both.1 (lines_of text.now ≡ both.0.now ∷ [])

@@ -52,8 +52,8 @@ impl<'n> Key for CowStr<'n> {
 /// value, which is the one that [`get`](NamedValue::get) finds; equal keys in `over` are put there
 /// in turn. It is the same with fields.
 ///
-/// It makes n log n comparisons of keys, and copies none. Where nothing is merged, it takes no
-/// memory.
+/// It makes n log n comparisons of keys, and copies none. Where `over` replaces `base` whole, it
+/// takes no memory.
 ///
 /// # Errors
 ///

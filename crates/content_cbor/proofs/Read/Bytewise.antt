@@ -6,10 +6,8 @@ use Rattle.std.proofs.lemmas.List.{take_all}
 use Rattle.content_cbor.specs.declared.decode_error.Fault.{Fault}
 use Rattle.content_cbor.specs.declared.decode_error.Fault.TheVariants as fault
 use Rattle.content_cbor.specs.declared.stop.Refusal.{Refusal}
-use Rattle.content_cbor.specs.declared.stop.Stop.{Stop}
-use Rattle.content_cbor.specs.declared.stop.Stop.TheVariants as stop
 use Rattle.content_cbor.specs.declared.utf8.Lack.{Lack}
-use Rattle.content_cbor.specs.Inner.Steps.{◌>>=◌, Fails, refused}
+use Rattle.content_cbor.specs.Inner.Steps.{◌>>=◌, refused}
 use Rattle.content_cbor.specs.Inner.Numbers.{between, digits_at, leading}
 use Rattle.content_cbor.specs.Inner.Texts.{after_byte, text_at}
 use Rattle.content_cbor.specs.Inner.Reading.{at_break, chunk_bounds, digits_behind, digits_until, length_at, room}
@@ -146,19 +144,17 @@ chunks_break negative count i n bs total lt broken so_far =
     let one : digits_until negative n (count - i) bs ≡ Ok (n, drop 1 bs) = rw (left_over count i lt, broken) refl in
     sym so_far ∙ one
 
-pub chunks_no_length : (negative : Bool) (e : Stop) (count i n : ℕ) (bs : List ℕ) (total : Result (ℕ × List ℕ) Refusal) → i < count → at_break bs ≡ false
-    → Fails e (length_at false (chunk_bounds negative n) bs) → digits_until negative n (count - i) bs ≡ total → Fails e total
+pub chunks_no_length : (negative : Bool) (r : Refusal) (count i n : ℕ) (bs : List ℕ) (total : Result (ℕ × List ℕ) Refusal) → i < count → at_break bs ≡ false
+    → length_at false (chunk_bounds negative n) bs ≡ Err r → digits_until negative n (count - i) bs ≡ total → total ≡ Err r
 unfolding digits_until
-chunks_no_length negative stop.OutOfMemory count i n bs total lt going is so_far = tt
-chunks_no_length negative (stop.Refused r) count i n bs total lt going is so_far =
+chunks_no_length negative r count i n bs total lt going is so_far =
     let one : digits_until negative n (count - i) bs ≡ Err r = rw (left_over count i lt, going, is) refl in
     sym so_far ∙ one
 
-pub chunks_no_digits : (negative : Bool) (e : Stop) (count i n l : ℕ) (bs mid : List ℕ) (total : Result (ℕ × List ℕ) Refusal) → i < count → at_break bs ≡ false
-    → length_at false (chunk_bounds negative n) bs ≡ Ok (l, mid) → Fails e (digits_at (room negative) l n mid) → digits_until negative n (count - i) bs ≡ total → Fails e total
+pub chunks_no_digits : (negative : Bool) (r : Refusal) (count i n l : ℕ) (bs mid : List ℕ) (total : Result (ℕ × List ℕ) Refusal) → i < count → at_break bs ≡ false
+    → length_at false (chunk_bounds negative n) bs ≡ Ok (l, mid) → digits_at (room negative) l n mid ≡ Err r → digits_until negative n (count - i) bs ≡ total → total ≡ Err r
 unfolding digits_until
-chunks_no_digits negative stop.OutOfMemory count i n l bs mid total lt going long is so_far = tt
-chunks_no_digits negative (stop.Refused r) count i n l bs mid total lt going long is so_far =
+chunks_no_digits negative r count i n l bs mid total lt going long is so_far =
     let one : digits_until negative n (count - i) bs ≡ Err r = rw (left_over count i lt, going, long, is) refl in
     sym so_far ∙ one
 

@@ -13,6 +13,11 @@ abbrev pub ◌>>=◌ : {A B : Type 0} → Result A Refusal → (A → Result B R
 (Ok x) >>= f = f x
 (Err e) >>= f = Err e
 
+-- what a function that takes no memory answered, seen by view, is what reading gives
+abbrev pub Finds : {A B : Type 0} → (A → B) → Result A Refusal → Result B Refusal → Type 0
+Finds view (Ok x) read = read ≡ Ok (view x)
+Finds view (Err r) read = read ≡ Err r
+
 -- what a function answered, seen by view, is what reading gives, unless memory ran out
 abbrev pub Fails : {B : Type 0} → Stop → Result B Refusal → Type 0
 Fails stop.OutOfMemory read = Unit {0}

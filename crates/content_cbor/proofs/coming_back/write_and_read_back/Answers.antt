@@ -1,11 +1,18 @@
-use Rattle.std.proofs.Common.{rules, false}
+use Rattle.std.proofs.Common.{rules, false, IsErrAnd, subst}
 use Rattle.serde_content.specs.RoundTrip.{flags}
-use Rattle.content_cbor.proofs.Returned.{is_error, kept_in, none_kept, only_memory}
+use Rattle.content_cbor.specs.Decoded.{IsFaultOf}
+use Rattle.content_cbor.specs.Item.{item}
+use Rattle.content_cbor.proofs.Returned.{item_in, kept_in, memory_fault, none_kept, only_memory}
 use Rattle.content_cbor.proofs.coming_back.write_and_read_back.Goals as goal
 
 pub returns-in_err-bytes-clause-memory : goal.returns-in_err-bytes-clause-memory
 returns-in_err-bytes-clause-memory g c = λ t spelled le.
     only_memory (g.T.Serialize.script c.args.value.now false) _ _
+    ((g.met.T.RoundTrip c.lifetimes (search rules)).comes_back.of_value c.args.value.now c.known.ensures (flags false false)) c.in_err-bytes.ensures c.from_residual.ensures.1
+
+pub returns-in_err-bytes-clause-refused : goal.returns-in_err-bytes-clause-refused
+returns-in_err-bytes-clause-refused g c = λ t spelled past.
+    memory_fault c.args.depth_limit (item t) (g.T.Serialize.script c.args.value.now false) _ _
     ((g.met.T.RoundTrip c.lifetimes (search rules)).comes_back.of_value c.args.value.now c.known.ensures (flags false false)) c.in_err-bytes.ensures c.from_residual.ensures.1
 
 pub returns-clause-value : goal.returns-clause-value
@@ -20,5 +27,8 @@ returns-clause-memory g c = λ t spelled le.
 
 pub returns-clause-refused : goal.returns-clause-refused
 returns-clause-refused g c = λ t spelled past.
-    is_error _ _ (c.read_back.ensures.fault
-    (none_kept (g.T.Serialize.script c.args.value.now false) c.args.depth_limit c.in_ok-bytes.field-0 _ t spelled past c.in_ok-bytes.ensures c.deref.ensures.value))
+    let script = g.T.Serialize.script c.args.value.now false in
+    let bytes = c.in_ok-bytes.field-0 in
+    subst (λ bs. IsErrAnd c.read_back.result (λ e. IsFaultOf c.args.depth_limit bs e))
+    (item_in script bytes _ t spelled c.in_ok-bytes.ensures c.deref.ensures.value)
+    (c.read_back.ensures.fault (none_kept script c.args.depth_limit bytes _ t spelled past c.in_ok-bytes.ensures c.deref.ensures.value))

@@ -1,7 +1,6 @@
 use Rattle.std.proofs.Common.{◌≤◌, false, length, Ok, ap, sym, subst, ◌∙◌, rules}
 use Rattle.std.proofs.lemmas.Result.{err_from_is_err_and}
 use Rattle.content_cbor.specs.declared.digits.Range.{Range}
-use Rattle.content_cbor.specs.Inner.Steps.{Fails}
 use Rattle.content_cbor.specs.Inner.Numbers.{between, digits_at}
 use Rattle.content_cbor.specs.Inner.Reading.{digits_until, length_at}
 use Rattle.content_cbor.proofs.Read.Bytewise.{chunks_break, chunks_ended, chunks_go_on, chunks_no_digits, chunks_no_length}
@@ -20,7 +19,7 @@ returns-in_err-due-clause-value c =
     let l = c.loop in
     let p = err_from_is_err_and c.from_residual.result c.from_residual.ensures.1 in
     rw (p.1, p.2) (chunks_no_length c.args.is_negative c.in_err-due.field-0.0 (length c.args.bytes.now) l.index l.number l.rest.now
-    (digits_until c.args.is_negative 0 (length c.args.bytes.now) c.args.bytes.now) c.loop-test.true (search rules) (subst (λ b. Fails c.in_err-due.field-0.0 (length_at false b l.rest.now)) c.lengths_behind.ensures.bounds c.in_err-due.ensures) l.invariant.value)
+    (digits_until c.args.is_negative 0 (length c.args.bytes.now) c.args.bytes.now) c.loop-test.true (search rules) (ap (λ b. length_at false b l.rest.now) (sym c.lengths_behind.ensures.bounds) ∙ c.in_err-due.ensures) l.invariant.value)
 
 pub read_digits-requires-clause-begins : goal.read_digits-requires-clause-begins
 read_digits-requires-clause-begins c =
@@ -33,7 +32,7 @@ returns-in_err-longer-clause-value c =
     let p = err_from_is_err_and c.from_residual-in_err-longer.result c.from_residual-in_err-longer.ensures.1 in
     rw (p.1, p.2) (chunks_no_digits c.args.is_negative c.in_err-longer.field-0.0 (length c.args.bytes.now) l.index l.number c.in_ok-due.due l.rest.now c.in_ok-due.behind.now
     (digits_until c.args.is_negative 0 (length c.args.bytes.now) c.args.bytes.now) c.loop-test.true (search rules) (ap (λ b. length_at false b l.rest.now) (sym c.lengths_behind.ensures.bounds) ∙ c.in_ok-due.ensures)
-    (subst (λ (r : Range). Fails c.in_err-longer.field-0.0 (digits_at (between r.least r.most r.«fault») c.in_ok-due.due l.number c.in_ok-due.behind.now)) c.room.ensures c.in_err-longer.ensures.value)
+    (ap (λ (r : Range). digits_at (between r.least r.most r.«fault») c.in_ok-due.due l.number c.in_ok-due.behind.now) (sym c.room.ensures) ∙ c.in_err-longer.ensures.value)
     l.invariant.value)
 
 pub loop-preserved : goal.loop-preserved

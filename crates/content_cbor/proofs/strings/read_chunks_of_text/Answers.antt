@@ -1,6 +1,7 @@
 use Rattle.std.proofs.Common.{◌++◌, Ok, length, drop, true, ap, string_bytes, sym, ◌∙◌, append-nil, append_assoc, rules}
 use Rattle.std.specs.List.{concat}
 use Rattle.std.proofs.lemmas.Result.{err_from_is_err_and}
+use Rattle.content_cbor.specs.declared.stop.Stop.TheVariants as stop
 use Rattle.content_cbor.specs.Inner.Reading.{chunk_at, chunks_at}
 use Rattle.content_cbor.proofs.Read.Loops.{until_goes_on, until_fails, until_break, until_ended, chunks_begin}
 use Rattle.content_cbor.proofs.strings.read_chunks_of_text.Goals as goal
@@ -19,7 +20,7 @@ pub returns-in_err-chunk : goal.returns-in_err-chunk
 returns-in_err-chunk c =
     let l = c.loop in
     let p = err_from_is_err_and c.from_residual.result c.from_residual.ensures.1 in
-    rw (p.1, p.2) (until_fails (λ xs. string_bytes l.whole ++ concat xs) (chunk_at true) c.in_err-chunk.field-0.0 (length c.args.bytes.now) l.index l.rest.now
+    rw (p.1, p.2) (until_fails (λ xs. string_bytes l.whole ++ concat xs) (chunk_at true) (stop.Refused c.in_err-chunk.field-0.0) (length c.args.bytes.now) l.index l.rest.now
     (chunks_at true c.args.bytes.now) c.loop-test.true (search rules) c.in_err-chunk.ensures l.invariant)
 
 pub loop-preserved : goal.loop-preserved

@@ -10,5 +10,5 @@ returns-in-Ok c limit calls taken =
     let answer = answer_of c.call_aside.result c.call_aside.new.error in
     let new = seen_of c.call_aside.new.self in
     answers_line limit calls (line_event c.args.line) answer c.call_aside.new.self
-    (subst (λ e. AnswersNext limit calls e answer new) c.in-Ok.ensures
+    (subst (λ e. AnswersNext limit calls e answer new) c.in-Ok.ensures.value
     (c.steps_are_exact.ensures _ new (event_of c.in-Ok.call) answer c.call_aside.ensures limit calls taken))
