@@ -158,14 +158,12 @@ struct A { result: i8, alloc: u8, fields: u8, serializer: u8, row: u8, send_row:
 #[derive(Serialize, Deserialize, PartialEq, Eq)]
 enum B { X { result: i8, result_field: u8 } }
 
-// + fn read_order_placed<
 // + fn read_order_placed_variant<
 #[derive(Serialize, Deserialize)]
 enum Order { Placed { a: u8, b: u8, c: u8 }, OrderPlaced(u8) }
 #[derive(Serialize, Deserialize)]
 struct OrderPlaced { a: u8, b: u8, c: u8 }
 
-// + fn read_tagged_type<
 // + struct FieldsOfTaggedType;
 // + type Field1OfAType = ReadField<FieldsOfAType, 0, u8, OthersSkipped<FieldsOfAType>>;
 #[derive(Serialize, Deserialize)]
@@ -180,7 +178,6 @@ struct FieldsOfA { a: u8 }
 enum Status { Changed { status: i32 }, Left(i8) }
 
 // + fn read_same_a<
-// + fn read_the_same<
 #[derive(Serialize, Deserialize, PartialEq, Eq)]
 #[serde(tag = "data")]
 enum Same { A { x: i8 }, B }
