@@ -4,7 +4,7 @@ from typing import Callable, List
 from .cases import pascal
 from .declarations import Data, Item, Variant
 from .holder import Holder
-from .literals import list_impl, name_method, name_term, opened
+from .literals import ROWS_OPENED, list_impl, name_method, name_term, opened
 from .text import DESERIALIZE, KNOWN, SERIALIZE, all_hold, arm, bracketed, clause, elim
 from .text import facts, function, ghost, together
 from .types import in_term
@@ -157,7 +157,11 @@ class EnumWriter:
         return self.variants_ghosts() + [
             name_method("name", self.item.wire),
             f"fn names() -> &'static [&'static str] {{\n{self.list}::names()\n}}",
-            function(read, *self.dispatch("tag"))]
+            self.looking() + function(read, *self.dispatch("tag"))]
+
+    def looking(self) -> str:
+        """What lets the proof of reading a variant look into rows: where one of signed numbers may lack a field."""
+        return f"{ROWS_OPENED}\n" * any(v.signed() and any(f.missing for f in holder.fields) for v, holder in self.variants)
 
     variants_trait = "Variants<'de>"
 

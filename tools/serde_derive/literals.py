@@ -10,7 +10,13 @@ from typing import Dict, Iterator, List, Set
 from .text import clause, ghost
 
 CALL = re.compile("\x02([^\x03]*)\x03")
-SEALED = "#[tactic(auto, unfolding(serde_content::specs::Literals::name))]"
+def opening(*words: str) -> str:
+    """The attribute of a function whose proof looks into these words."""
+    return f"#[tactic(auto, unfolding({', '.join(f'serde_content::specs::Literals::{word}' for word in words)}))]"
+
+
+SEALED = opening("name")
+ROWS_OPENED = opening("row_then", "RowThen", "row_or_then", "RowOrThen")
 
 
 def name_term(name: str) -> str:

@@ -90,7 +90,7 @@ class TaggedWriter(EnumWriter):
         ghosts = self.variants_ghosts()
         return [*ghosts[:1], ghost("tag_name", name_term(self.tag)[1:-1]), *ghosts[1:],
                 name_method("name", self.item.wire), name_method("tag", self.tag),
-                function(read, *self.dispatch("tag"))]
+                self.looking() + function(read, *self.dispatch("tag"))]
 
     def deserialize(self) -> List[str]:
         name, tag, ending = name_term(self.item.wire), name_term(self.tag), "_buffered" * bool(self.buffered)

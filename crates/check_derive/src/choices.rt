@@ -245,6 +245,7 @@ impl<'de> TaggedVariants<'de> for Command {
         "kind"
     }
 
+    #[tactic(auto, unfolding(serde_content::specs::Literals::row_then, serde_content::specs::Literals::RowThen, serde_content::specs::Literals::row_or_then, serde_content::specs::Literals::RowOrThen))]
     fn read_variant<'n: 'de>(
         alloc: Global,
         tag: &str,
