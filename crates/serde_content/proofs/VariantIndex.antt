@@ -1,7 +1,7 @@
 -- The index of a tag among names.
-use Rattle.std.proofs.Common.{◌≡◌, ◌<◌, ◌+◌, ◌∙◌, ℕ, List, [], ◌∷◌, Option, Some, None, Bool, true, false}
-use Rattle.std.proofs.Common.{Bor, cond, map, length, get_or, nat_lt, slice_index_or, refl, ap, sym}
-use Rattle.std.specs.Prelude.{not, IfSome}
+use Rattle.std.proofs.Common.{◌≡◌, ◌+◌, ◌∙◌, ℕ, List, [], ◌∷◌, Option, Some, None, Bool}
+use Rattle.std.proofs.Common.{Bor, cond, map, length, get_or, nat_lt, refl, ap, sym}
+use Rattle.std.specs.Prelude.{not}
 use Rattle.std.specs.List.{position, prefix_len, position_or_len}
 use Rattle.std.specs.Str.{bytes_eq}
 use Rattle.std.proofs.lemmas.List.{length-map}

@@ -1,6 +1,6 @@
 -- What types give that are tried one after another on the same source: each where those before it are refused.
-use Rattle.std.specs.Prelude.{◌≡◌, true, Bool, List, ℕ, IsSome, Option, Some}
-use Rattle.content_tree.specs.Errors.Cause.{Cause, custom}
+use Rattle.std.specs.Prelude.{◌≡◌, true, Bool, List, ℕ, IsSome, Some}
+use Rattle.content_tree.specs.Errors.Cause.{custom}
 use Rattle.content_ser.specs.Scripts.Standard.{ScriptOf}
 use Rattle.content_de.specs.Sources.Origin.{Flags, Subject, tree_under}
 use Rattle.content_de.specs.Reads.Attempts.{IsTakenAs, or_next}

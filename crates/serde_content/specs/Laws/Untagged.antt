@@ -1,5 +1,5 @@
 -- Untagged enums come back where what each variant takes tells it apart from the others: its class of trees, or how many values.
-use Rattle.std.specs.Prelude.{◌≡◌, ℕ, ◌+◌, true, false, List, Option, None, Some, IsSome, nat_eq, refl}
+use Rattle.std.specs.Prelude.{◌≡◌, ℕ, ◌+◌, false, List, Option, None, Some, IsSome, nat_eq, refl}
 use Rattle.std.proofs.Common.{subst, sym, ap, ◌∙◌}
 use Rattle.std.proofs.lemmas.Cmp.{nat_eq_equiv}
 use Rattle.content_tree.specs.Values.Ranges.{NumberKind}

@@ -1,4 +1,4 @@
-use Rattle.content_ser.proofs.Sending.{takes_only, takes_then, takes_err, sends_then, sends_err}
+use Rattle.content_ser.proofs.Sending.{takes_then, takes_err, sends_then, sends_err}
 use Rattle.content_ser.proofs.Sending.{at_exit_aside}
 use Rattle.serde_content.proofs.fields_sent.SendEntrySendRow.send.Goals as goal
 
