@@ -4,7 +4,7 @@ from dataclasses import dataclass, field, replace
 from itertools import combinations, islice
 from typing import Dict, List, Optional, Tuple
 
-from .types import SIGNED, Type
+from .types import SIGNED, Type, in_term
 from .words import NO_PLACES
 
 
@@ -129,6 +129,13 @@ class Data:
             return f"{name}({', '.join(parts)})"
         inside = [p if f.name == p else f"{f.name}: {p}" for f, p in zip(self.fields, parts)]
         return f"{name} {{ {', '.join(inside)} }}"
+
+    def term(self, values: List[str]) -> str:
+        """A struct as contracts make it, from its leaves."""
+        left = iter(values)
+        parts = [f.inside.term(list(islice(left, len(f.inside.leaves())))) if f.inside else next(left) for f in self.fields]
+        inside = "".join(f"{in_term(f.name)} = {part};\n" for f, part in zip(self.fields, parts))
+        return f"record {{\n{inside}}}"
 
     def declared(self) -> str:
         """The fields as a declaration has them."""

@@ -48,7 +48,8 @@ class EnumWriter:
     def functions(self) -> List[str]:
         """Those that the impls call."""
         return [text for v, holder in self.variants
-                for text in self.maker(v) * self.reads + holder.names_list() + self.whole_sender(v, holder) * self.sends
+                for text in self.maker(v, holder) * self.reads + holder.names_list()
+                + (holder.sent_types() + self.whole_sender(v, holder)) * self.sends
                 + (holder.row_types() + self.reader(v, holder)) * self.reads] + self.names_list()
 
     def whole_sender(self, v: Variant, holder: Holder) -> List[str]:
@@ -88,28 +89,33 @@ class EnumWriter:
         return [list_impl(self.list, "The names of its variants.", [v.wire for v in self.item.variants])] * self.reads
 
     def reader(self, v: Variant, holder: Holder) -> List[str]:
-        """The function that reads a variant's fields, all values as one."""
-        if v.beside:
-            held = v.beside.name
-            return holder.read_function(holder.data.made(held, holder.data.places()), held,
-                                        [f"z.{in_term(f.name)}" for f in holder.fields])
+        """The function that reads a variant's fields, all values as one, where it needs one."""
+        places, held = holder.data.places(), v.beside
+        if held:
+            made = held.data.made(held.name, places)
+            making = f"{holder.maker_name()}(row)" if holder.big else made
+            return holder.maker(held.name, made, held.data.term) + holder.read_function(
+                making, held.name, [f"z.{in_term(f.name)}" for f in holder.fields])
         types = [f.type.rust() for f in v.data.fields]
         values = [f"z.{i}" for i in range(len(types))] if len(types) > 1 else ["z"]
-        return holder.read_function(together(v.data.places()), together(types), values)
+        return holder.read_function(together(places), together(types), values) * (not holder.big)
 
-    def maker(self, v: Variant) -> List[str]:
-        """The function that makes a variant of signed numbers."""
-        if not v.signed():
+    def maker(self, v: Variant, holder: Holder) -> List[str]:
+        """The function that makes a variant of signed numbers, or of more values than a row has room for."""
+        if not self.is_made(v, holder):
             return []
+        made, term = self.made(v, v.data.places()), " ".join([f"{self.cases}.{in_term(v.name)}", "{}"])
+        if holder.big:
+            return holder.maker(self.item.name, made, lambda values: term.format(" ".join(values)))
         places = v.data.places()
         parameters = ", ".join(f"{p}: {f.type.rust()}" for p, f in zip(places, v.data.fields))
-        made = " ".join([f"{self.cases}.{in_term(v.name)}"] + [in_term(p) for p in places])
         return ["/// Its contract tells proofs what a variant of signed numbers holds.\n"
-                f"fn {self.maker_name(v)}({parameters}) -> {self.item.name}\n"
-                + clause("ensures", f"result ≡ {made}") + f"{{\n{self.made(v, places)}\n}}\n"]
+                f"fn {holder.maker_name()}({parameters}) -> {self.item.name}\n"
+                + clause("ensures", f"result ≡ {term.format(' '.join(map(in_term, places)))}") + f"{{\n{made}\n}}\n"]
 
-    def maker_name(self, v: Variant) -> str:
-        return f"make_{v.owner}"
+    def is_made(self, v: Variant, holder: Holder) -> bool:
+        """Whether a variant is made by a function of its own."""
+        return v.signed() or (holder.big and not v.beside)
 
     def match(self, arms: List[str]) -> List[str]:
         return ["match self {"] + arms + ["}"]
@@ -135,7 +141,7 @@ class EnumWriter:
 
     def arm_lines(self, v: Variant, holder: Holder) -> List[str]:
         """The statements that read a variant."""
-        return holder.read(self.making(v))
+        return holder.read(self.making(v, holder))
 
     def dispatch(self, tag: str) -> List[str]:
         """The statements that read the variant that a tag names."""
@@ -174,10 +180,10 @@ class EnumWriter:
                 ghost("gives", f"λ s y. EnumGives {self.name}\n({self.member('named')} y)\n({self.member('held')} y) s"),
                 function(DESERIALIZE.format(self.item.name), "read_enum(alloc, from)")]
 
-    def making(self, v: Variant) -> Callable[[List[str]], str]:
+    def making(self, v: Variant, holder: Holder) -> Callable[[List[str]], str]:
         """How the code makes a variant: by its own function, where it has one."""
-        if v.signed():
-            return lambda places: f"{self.maker_name(v)}({', '.join(places)})"
+        if self.is_made(v, holder):
+            return lambda places: f"{holder.maker_name()}({', '.join(places)})"
         return lambda places: self.made(v, places)
 
     def round_trip(self) -> List[str]:

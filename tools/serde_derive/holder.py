@@ -4,17 +4,22 @@ from typing import Callable, List, NamedTuple, Optional, Tuple
 from .cases import pascal
 from .declarations import Data, Field
 from .literals import list_impl, list_term, name_call, name_method, name_term
-from .text import fields_reader, function, ghost, together
-from .types import READ, TRIP, nest, snake
+from .text import clause, fields_reader, function, ghost, together
+from .types import READ, TRIP, in_term, nest, snake
 
 
 LONGEST_ROW = 8  # types of longer rows take the checker's memory
+LONGEST_SENT = 20  # longer rows of one type are refused by the checker
 
 
-def sending(opens: str, values: List[str]) -> List[str]:
-    """The statements that send a compound: what opens it, and each value as a row has it."""
-    rows = [f"let row = {value};" for value in reversed(values)]
-    return ["let row = SendEnd;", *rows, f"let row = SendOpen({opens}, row);", "send_row(alloc, serializer, &row)"]
+def row_of(values: List[str], last: str = "SendEnd") -> List[str]:
+    """The statements that make a row of values, each as a row has it, and of what follows them."""
+    return [f"let row = {last};", *(f"let row = {value};" for value in reversed(values))]
+
+
+def sending(opens: str, values: List[str], last: str = "SendEnd") -> List[str]:
+    """The statements that send a compound: what opens it, its values, and what follows them."""
+    return [*row_of(values, last), f"let row = SendOpen({opens}, row);", "send_row(alloc, serializer, &row)"]
 
 
 class Row(NamedTuple):
@@ -73,6 +78,7 @@ class Holder:
         self.list = f"FieldsOf{self.owner}"
         self.names_known = [f.wire for f in data.fields]
         self.before: List[str] = []
+        self.big = self.many and self.count > LONGEST_ROW
         self.head = "" if self.of_variant else " " + self.names
         self.name = "" if self.of_variant else written[0]
 
@@ -94,12 +100,12 @@ class Holder:
         return self.run(place) if place % LONGEST_ROW == 0 and place < self.count else self.row_type(place)
 
     def run(self, start: int) -> str:
-        """The struct around the row from a place on."""
+        """The struct of the values from a place on."""
         return f"From{start + 1}Of{self.owner}"
 
-    def starts(self) -> List[int]:
-        """The places at which such structs begin."""
-        return list(range(LONGEST_ROW, self.count, LONGEST_ROW))
+    def starts(self) -> range:
+        """The places at which such structs begin, where a row has no room for all values."""
+        return range(0, self.count * self.big, LONGEST_ROW)
 
     def row_types(self) -> List[str]:
         """The declarations of what its values are read as."""
@@ -112,41 +118,96 @@ class Holder:
         return [rows] + [self.run_read(start) for start in self.starts()]
 
     def run_read(self, start: int) -> str:
-        """The struct around the row from a place on, and how it is read."""
-        trait, source = ("ReadFields", "fields: FieldsByName") if self.data.named else ("ReadParts", "parts: serde_content::de::Seq")
-        row, read = self.row_type(start), f"{trait}::read(alloc, {source.split(':')[0]})?"
-        member = f"⟦<{row} as {trait}<'de>>⟧"
+        """The struct of the values from a place on, how many a row may have and the rest as one, and how it is read.
+        Its ghost members are functions, which the checker doesn't look into where nothing asks for it."""
+        trait, source = self.trait(), "fields: FieldsByName" if self.data.named else "parts: serde_content::de::Seq"
+        end = min(start + LONGEST_ROW, self.count)
+        more, whole = end < self.count, self.run(start)
+        types, made = [f.type.rust() for f in self.fields[start:end]], self.data.places()[start:end]
+        values = [f"z.{place - start}" for place in range(self.count)]
+        last = f"({self.run_member(end, 'gives')} {values[end]})" if more else self.end("gives")
+        taken = self.taken(trait, source.split(":")[0], made, start)
         members = "\n\n".join([
-            ghost("refusal", f"{member}.refusal"), ghost("gives", f"λ z. {member}.gives z.0"),
-            function(f"fn read<'n: 'de>(alloc: Global, {source}<'de, 'n>) -> Result<Self>", f"Ok({self.run(start)}({read}))")])
-        return (f"/// The row from place {start + 1} on.\n#[derive(Drop)]\nstruct {self.run(start)}({row});\n\n"
-                f"impl<'de> {trait}<'de> for {self.run(start)} {{\n{members}\n}}\n")
+            ghost("refusal", f"λ f. ⟦<{self.row_type(start)} as {trait}<'de>>⟧.refusal f"),
+            ghost("gives", f"λ z f.{nest(self.parts('gives', self.given(values))[start:end], last)}\nf"),
+            function(f"fn read<'n: 'de>(alloc: Global, {source}<'de, 'n>) -> Result<Self>",
+                     *taken, f"Ok({whole}({', '.join(made + ['row'] * more)}))")])
+        return (f"/// The values from place {start + 1} on.\n#[derive(Drop)]\nstruct {whole}({', '.join(types + [self.run(end)] * more)});\n\n"
+                f"impl<'de> {trait}<'de> for {whole} {{\n{members}\n}}\n")
+
+    def trait(self) -> str:
+        """What rows of its values are."""
+        return "ReadFields" if self.data.named else "ReadParts"
+
+    def run_member(self, start: int, member: str) -> str:
+        """A ghost member of the struct of the values from a place on."""
+        return f"⟦<{self.run(start)} as {self.trait()}<'de>>⟧.{member}"
+
+    def run_term(self, values: List[str], start: int = 0) -> str:
+        """The struct of the values from a place on, as contracts make it."""
+        end = start + LONGEST_ROW
+        inside = values[start:end] + ([self.run_term(values, end)] if end < self.count else [])
+        return "(record {\n" + "".join(f"{place} = {value};\n" for place, value in enumerate(inside)) + "})"
 
     def index(self, f: Field) -> int:
         """The index of a field's name among all."""
         return self.names_known.index(f.wire)
 
-    def taken(self, trait: str, source: str, places: List[str]) -> List[str]:
-        """The statements that read all values as a row, and take it apart."""
-        lines = [f"let row: {self.row_type(0)} = {trait}::read(alloc, {source})?;"]
-        for at, (f, place) in enumerate(zip(self.fields, places)):
-            sort = f"ReadField{'Or' * bool(f.missing)}" if self.data.named else "ReadPart"
+    def taken(self, trait: str, source: str, places: List[str], start: int = 0) -> List[str]:
+        """The statements that read the values from a place on as a row, and take it apart into these, and what
+        follows them."""
+        lines = [f"let row: {self.row_type(start)} = {trait}::read(alloc, {source})?;"]
+        for at, value in enumerate(places, start):
+            sort = f"ReadField{'Or' * bool(self.fields[at].missing)}" if self.data.named else "ReadPart"
             rest = "_" if at + 1 == self.count else "row"
-            lines += [f"let {self.run(at)}(row) = row;"] * (at in self.starts())
-            lines.append(f"let {sort}({place}, {rest}{', _' * self.data.named}) = row;")
+            lines.append(f"let {sort}({value}, {rest}{', _' * self.data.named}) = row;")
         return lines
 
-    def row(self, member: str, inners: List[str], sees: Optional[List[str]] = None) -> str:
-        """All its values in a member of the impls, or the one, after a blank or a line's end."""
-        if not self.many:
-            return "".join(f" {inner}" for inner in inners)
-        part, end = getattr(self.by_key if self.data.named else BY_PLACE, member)
-        parts = [part.format(
+    def all_taken(self, trait: str, source: str) -> List[str]:
+        """The statements that read all values, as `read_places` call them."""
+        if self.big:
+            return [f"let row: {self.run(0)} = {trait}::read(alloc, {source})?;"]
+        return self.taken(trait, source, self.data.places())
+
+    def read_places(self) -> List[str]:
+        """What code calls the values that were read: the struct of all, where a row has no room for them."""
+        return ["row"] if self.big else self.data.places()
+
+    def maker_name(self) -> str:
+        return self.reader.replace("read_", "make_", 1)
+
+    def maker(self, result: str, made: str, term: Callable[[List[str]], str]) -> List[str]:
+        """The function that makes a value of the struct of all values that were read: its contract spares proofs
+        a look into that."""
+        if not self.big:
+            return []
+        places = self.data.places()
+        apart = [f"let {self.run(start)}({', '.join(places[start:start + LONGEST_ROW] + ['row'] * more)}) = row;"
+                 for start in self.starts() for more in [start + LONGEST_ROW < self.count]]
+        seen = [f"row{f'.{LONGEST_ROW}' * (place // LONGEST_ROW)}.{place % LONGEST_ROW}" for place in range(self.count)]
+        body = "\n".join(apart + [made])
+        return [f"/// Its contract tells proofs what is made of the values.\nfn {self.maker_name()}(row: {self.run(0)}) -> {result}\n"
+                + clause("ensures", f"result ≡ {term(seen)}") + f"{{\n{body}\n}}\n"]
+
+    def parts(self, member: str, inners: List[str], sees: Optional[List[str]] = None) -> List[str]:
+        """What stands for each of its values in a member of the impls."""
+        part = getattr(self.by_key if self.data.named else BY_PLACE, member)[0]
+        return [part.format(
             inner=inner, see=see, place=place, count=self.count, name=name_term(f.wire),
             or_="_or" * bool(f.missing), Or="Or" * bool(f.missing), missing=f.absent())
             for place, (f, inner, see) in enumerate(zip(self.fields, inners, sees or inners))]
+
+    def end(self, member: str) -> str:
+        """What stands after them."""
         words = ("no_others", "closed") if self.data.closed else ("others_left", "skipped")
-        return nest(parts, end.format(known=list_term(self.names_known), left=words[0], end=words[1], count=self.count))
+        return getattr(self.by_key if self.data.named else BY_PLACE, member)[1].format(
+            known=list_term(self.names_known), left=words[0], end=words[1], count=self.count)
+
+    def row(self, member: str, inners: List[str], sees: Optional[List[str]] = None, start: int = 0) -> str:
+        """All its values from a place on in a member of the impls, or the one, after a blank or a line's end."""
+        if not self.many:
+            return "".join(f" {inner}" for inner in inners)
+        return nest(self.parts(member, inners, sees)[start:], self.end(member))
 
     def by_name(self, word: str, row: str) -> str:
         """A row of fields, which is read by name."""
@@ -167,21 +228,61 @@ class Holder:
         """The statements that make them."""
         if not self.many:
             return [f"{self.call}.around({values[0]}, alloc, serializer)" if values else f"{self.call}.send(serializer)"]
-        return sending(self.call, self.before + [self.sent(f, value) for f, value in zip(self.fields, values)])
+        return sending(self.call, self.before + self.sent_row(values, 0), self.sent_last(values, 0))
+
+    def sent_row(self, values: List[str], start: int) -> List[str]:
+        """The values from a place on as a row has them, as many as it has room for."""
+        return [self.sent(f, value) for f, value in list(zip(self.fields, values))[start:start + LONGEST_SENT]]
+
+    def sent_last(self, values: List[str], start: int) -> str:
+        """What follows them: a struct of references to the others, or the end."""
+        end = start + LONGEST_SENT
+        return f"{self.sent_run(end)}({', '.join(values[end:])})" if end < self.count else "SendEnd"
+
+    def sent_run(self, start: int) -> str:
+        """The struct of references to the values from a place on."""
+        return f"Sent{start + 1}Of{self.owner}"
+
+    def sent_types(self) -> List[str]:
+        """The declarations of such structs, and how they are sent."""
+        return [self.run_sent(start) for start in range(LONGEST_SENT, self.count, LONGEST_SENT)] if self.many else []
+
+    def run_sent(self, start: int) -> str:
+        """The struct of references to the values from a place on, and how it is sent."""
+        whole, left = self.sent_run(start), range(self.count - start)
+        script = self.row("script", [f"({f.type.member('Serialize', 'script')} row.{place - start}.now)"
+                                     for place, f in enumerate(self.fields)], start=start)
+        values = [""] * start + [f"self.{place}" for place in left]
+        send = function("fn send<S: Serializer>(&self, alloc: Global, serializer: &mut S, error: &mut serde_content::Error)"
+                        " -> serde_content::ser::Sent",
+                        *row_of(self.sent_row(values, start), self.sent_last(values, start)),
+                        "serde_content::derive_support::SendRow::send(&row, alloc, serializer, error)")
+        types = ", ".join(f"&'a {f.type.rust()}" for f in self.fields[start:])
+        return (f"/// The values from place {start + 1} on, as they are sent.\n#[derive(Drop)]\nstruct {whole}<'a>({types});\n\n"
+                f"impl<'a> serde_content::derive_support::SendRow for {whole}<'a> {{\n"
+                f"{ghost('script', f'λ row. {script.strip()[1:-1]}')}\n\n{send}\n}}\n")
 
     def sent(self, f: Field, value: str) -> str:
         """A value as a row has it, before those after it."""
         return f"SendField({self.list}, {self.index(f)}, {value}, row)" if self.data.named else f"SendPart({value}, row)"
 
     def refusal_row(self) -> str:
+        if self.big:
+            return f"\n({self.run_member(0, 'refusal')})"
         return self.row("refusal", [f"({f.type.member(READ, 'refusal')})" for f in self.fields])
 
     def refusal(self) -> str:
         """What is refused of it."""
         return f"{self.word}_refusal{self.head}{self.by_name('read_by_name', self.refusal_row())}"
 
+    def given(self, values: List[str]) -> List[str]:
+        """What each of them may give."""
+        return [f"({f.type.member(READ, 'gives')}) {v}" for f, v in zip(self.fields, values)]
+
     def gives_row(self, values: List[str]) -> str:
-        return self.row("gives", [f"({f.type.member(READ, 'gives')}) {v}" for f, v in zip(self.fields, values)])
+        if self.big:
+            return f"\n({self.run_member(0, 'gives')}\n{self.run_term(values)})"
+        return self.row("gives", self.given(values))
 
     def gives(self, values: List[str]) -> str:
         """What it may give."""
@@ -192,26 +293,31 @@ class Holder:
         more = {"Struct": f"{self.list}::names()", "Tuple": str(self.count)}.get(self.data.style)
         arguments = ", ".join(filter(None, ["alloc", self.name, more]))
         start = f"{'variant.' if self.of_variant else 'from.deserialize_'}{self.word}({arguments})?"
-        places = self.data.places()
+        places = self.read_places()
         if not self.fields:
             return [f"{start};", f"Ok({make([])})"]
         if self.data.named and not self.of_variant:
             return [f"read_struct::<{self.list}, Self>(alloc, from)"]
         if self.data.named:
-            return [f"let fields = {start}.by_name();", f"let {together(places)} = {self.reader}(alloc, fields)?;",
-                    f"Ok({make(places)})"]
+            return [f"let fields = {start}.by_name();", *self.variant_taken(places), f"Ok({make(places)})"]
         if self.many:
-            return [f"let parts = {start};", *self.taken("ReadParts", "parts", places), f"Ok({make(places)})"]
+            return [f"let parts = {start};", *self.all_taken("ReadParts", "parts"), f"Ok({make(places)})"]
         if self.of_variant:
             return [f"Ok({make([start])})"]
         return [f"let inside = {start};", f"Ok({make(['inside.deserialize(alloc)?'])})"]
+
+    def variant_taken(self, places: List[str]) -> List[str]:
+        """The statements that read a variant's fields."""
+        if self.big:
+            return self.all_taken("ReadFields", "fields")
+        return [f"let {together(places)} = {self.reader}(alloc, fields)?;"]
 
     def read_function(self, made: str, result: str, values: List[str]) -> List[str]:
         """The function that reads fields by name, and makes a value of this type, of which contracts
         see these values."""
         if not self.data.named or not self.fields:
             return []
-        lines = self.taken("ReadFields", "fields", self.data.places()) + [f"Ok({made})"]
+        lines = self.all_taken("ReadFields", "fields") + [f"Ok({made})"]
         return [fields_reader(self.reader, result, self.refusal_row(), self.gives_row(values), lines)]
 
     def read_impl(self, made: str, name: str, values: List[str]) -> List[str]:
@@ -219,7 +325,7 @@ class Holder:
         if not self.data.named or not self.fields:
             return []
         read = function(f"fn read<'n: 'de>(alloc: Global, fields: FieldsByName<'de, 'n>) -> Result<{name}>",
-                        *self.taken("ReadFields", "fields", self.data.places()), f"Ok({made})")
+                        *self.all_taken("ReadFields", "fields"), f"Ok({made})")
         members = [ghost("refusal", self.refusal_row().strip()[1:-1]), ghost("gives", f"λ z. {self.gives_row(values)}")]
         members = [*self.named_by(ghost("name", name_term(self.wire)[1:-1])), *members,
                    *self.named_by(name_method("name", self.wire)), read]

@@ -117,7 +117,7 @@ def brought(words: Set[str], word: str, texts: List[str]) -> bool:
 
 def uses(file: File, homes: Homes, texts: List[str]) -> List[str]:
     """The lines that bring the words of contracts, and those that bring the items of code."""
-    seen = [found for text in texts for found in re.findall(r"λ (?:o )?\([xz] : (.*?)\)\.\s", text)]
+    seen = [found for text in texts for found in re.findall(r"λ (?:o )?\([xz] : (.*?)\)\.\s", text, re.S)]
     words, named = words_in(texts), words_in(seen)
     owns = {own.declared: own for item in file.items for own in item.owns()}
     ghosts = words_of(words, WORDS) + words_of(named, SEEN)

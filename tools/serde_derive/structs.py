@@ -55,10 +55,16 @@ class StructWriter:
 
     def functions(self) -> List[str]:
         """Those that the impls call."""
-        read = self.holder.read_impl(
-            self.item.data.made(self.item.name, self.holder.data.places()), self.item.name,
-            [f"z.{in_term(f.name)}" for f in self.fields])
-        return self.holder.names_list() + (self.holder.row_types() + read) * self.reads
+        holder = self.holder
+        read = holder.read_impl(self.making(holder.read_places()), self.item.name, [f"z.{in_term(f.name)}" for f in self.fields])
+        made = holder.maker(self.item.name, self.item.data.made(self.item.name, holder.data.places()), self.item.data.term)
+        return holder.names_list() + holder.sent_types() * self.sends + (holder.row_types() + made + read) * self.reads
+
+    def making(self, places: List[str]) -> str:
+        """How the code makes it of what was read."""
+        if self.holder.big:
+            return f"{self.holder.maker_name()}({', '.join(places)})"
+        return self.item.data.made(self.item.name, places)
 
     def serialize(self) -> List[str]:
         return [ghost("script", f"λ p. {self.holder.script(self.values)}"),
@@ -66,10 +72,9 @@ class StructWriter:
                 function(SERIALIZE, *self.holder.send([f"&self.{f.name}" for f in self.fields]))]
 
     def deserialize(self) -> List[str]:
-        made = self.holder.read(lambda places: self.item.data.made(self.item.name, places))
         return [ghost("refusal", self.holder.refusal()),
                 ghost("gives", f"λ s p. {self.holder.gives(self.values) + ' s' if self.fields else '⊤'}"),
-                function(DESERIALIZE.format(self.item.name), *made)]
+                function(DESERIALIZE.format(self.item.name), *self.holder.read(self.making))]
 
     def round_trip(self) -> List[str]:
         holder, asked = self.holder, self.holder.data.asked()

@@ -72,10 +72,15 @@ class TaggedWriter(EnumWriter):
         return holder.gives_row(values).strip()
 
     def arm_lines(self, v: Variant, holder: Holder) -> List[str]:
-        places = v.data.places()
-        read = f"let {together(places)} = {holder.reader}(alloc, fields)?;" if places else (
-            f"let _: {holder.row_type(0)} = ReadFields::read(alloc, fields)?;")
-        return [read, f"Ok({self.making(v)(places)})"]
+        if not v.data.fields:
+            read, places = [f"let _: {holder.row_type(0)} = ReadFields::read(alloc, fields)?;"], []
+        elif v.beside:
+            places = v.data.places()
+            read = [f"let {places[0]} = {holder.reader}(alloc, fields)?;"]
+        else:
+            places = holder.read_places()
+            read = holder.variant_taken(places)
+        return [*read, f"Ok({self.making(v, holder)(places)})"]
 
     @property
     def buffered(self) -> str:

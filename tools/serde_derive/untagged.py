@@ -19,11 +19,12 @@ class UntaggedWriter(EnumWriter):
             if v.data.named or not v.data.fields or len(v.data.fields) > 4:
                 raise Refused(v.line, f"variant `{v.name}`: of an untagged enum, only one to four values"
                               " by place are covered")
+        self.holders = {v.name: holder for v, holder in self.variants}
         self.last = f"data did not match any variant of untagged enum {item.name}"
 
     def functions(self) -> List[str]:
         return [text for v, holder in self.variants
-                for text in self.maker(v) * self.reads + self.whole_sender(v, holder) * self.sends]
+                for text in self.maker(v, holder) * self.reads + self.whole_sender(v, holder) * self.sends]
 
     def is_apart(self, v: Variant, holder: Holder) -> bool:
         return len(v.data.fields) > 1
@@ -89,7 +90,7 @@ class UntaggedWriter(EnumWriter):
         return lines + [f'match {first}::<{types}>(alloc, from, "{self.last}")? {{', *arms, "}"]
 
     def given(self, v: Variant) -> str:
-        return f"Ok({self.making(v)(v.data.places())})"
+        return f"Ok({self.making(v, self.holders[v.name])(v.data.places())})"
 
     def place(self, v: Variant) -> int:
         return self.item.variants.index(v)

@@ -571,62 +571,37 @@ type Field12OfStructMixed12 = ReadField<
     OthersSkipped<FieldsOfStructMixed12>,
 >;
 
-/// The row from place 9 on.
+/// The values from place 1 on.
 #[derive(Drop)]
-struct From9OfStructMixed12(Field9OfStructMixed12);
+struct From1OfStructMixed12(
+    String,
+    u8,
+    Option<u8>,
+    bool,
+    i32,
+    Vec<u8>,
+    char,
+    u64,
+    From9OfStructMixed12,
+);
 
-impl<'de> ReadFields<'de> for From9OfStructMixed12 {
-    ghost refusal = { ⟦<Field9OfStructMixed12 as ReadFields<'de>>⟧.refusal };
+impl<'de> ReadFields<'de> for From1OfStructMixed12 {
+    ghost refusal = { λ f. ⟦<Field1OfStructMixed12 as ReadFields<'de>>⟧.refusal f };
 
-    ghost gives = { λ z. ⟦<Field9OfStructMixed12 as ReadFields<'de>>⟧.gives z.0 };
+    ghost gives = { λ z f.
+        (RowThen (name "f0") (⟦<String as Deserialize<'de>>⟧.gives) z.0
+        (RowThen (name "f1") (⟦<u8 as Deserialize<'de>>⟧.gives) z.1
+        (RowOrThen (name "f2") (λ (x : (Option ℕ)). x ≡ None)
+        (⟦<Option<u8> as Deserialize<'de>>⟧.gives) z.2
+        (RowThen (name "f3") (⟦<bool as Deserialize<'de>>⟧.gives) z.3
+        (RowThen (name "f4") (⟦<i32 as Deserialize<'de>>⟧.gives) z.4
+        (RowThen (name "f5") (⟦<Vec<u8> as Deserialize<'de>>⟧.gives) z.5
+        (RowThen (name "f6") (⟦<char as Deserialize<'de>>⟧.gives) z.6
+        (RowThen (name "f7") (⟦<u64 as Deserialize<'de>>⟧.gives) z.7
+        (⟦<From9OfStructMixed12 as ReadFields<'de>>⟧.gives z.8)))))))))
+        f };
 
     fn read<'n: 'de>(alloc: Global, fields: FieldsByName<'de, 'n>) -> Result<Self> {
-        Ok(From9OfStructMixed12(ReadFields::read(alloc, fields)?))
-    }
-}
-
-impl<'de> ReadStruct<'de> for StructMixed12 {
-    ghost name = { name "StructMixed12" };
-
-    ghost refusal = { row_then (name "f0") (⟦<String as Deserialize<'de>>⟧.refusal)
-        (row_then (name "f1") (⟦<u8 as Deserialize<'de>>⟧.refusal)
-        (row_or_then (name "f2") (⟦<Option<u8> as Deserialize<'de>>⟧.refusal)
-        (row_then (name "f3") (⟦<bool as Deserialize<'de>>⟧.refusal)
-        (row_then (name "f4") (⟦<i32 as Deserialize<'de>>⟧.refusal)
-        (row_then (name "f5") (⟦<Vec<u8> as Deserialize<'de>>⟧.refusal)
-        (row_then (name "f6") (⟦<char as Deserialize<'de>>⟧.refusal)
-        (row_then (name "f7") (⟦<u64 as Deserialize<'de>>⟧.refusal)
-        (row_then (name "f8") (⟦<String as Deserialize<'de>>⟧.refusal)
-        (row_then (name "f9") (⟦<u8 as Deserialize<'de>>⟧.refusal)
-        (row_or_then (name "f10") (⟦<Option<u8> as Deserialize<'de>>⟧.refusal)
-        (row_then (name "f11") (⟦<bool as Deserialize<'de>>⟧.refusal)
-        (others_left (name "f0" ∷ name "f1" ∷ name "f2" ∷ name "f3" ∷ name "f4" ∷ name "f5"
-        ∷ name "f6" ∷ name "f7" ∷ name "f8" ∷ name "f9" ∷ name "f10" ∷ name "f11" ∷
-        []))))))))))))) };
-
-    ghost gives = { λ z.
-        (RowThen (name "f0") (⟦<String as Deserialize<'de>>⟧.gives) z.f0
-        (RowThen (name "f1") (⟦<u8 as Deserialize<'de>>⟧.gives) z.f1
-        (RowOrThen (name "f2") (λ (x : (Option ℕ)). x ≡ None)
-        (⟦<Option<u8> as Deserialize<'de>>⟧.gives) z.f2
-        (RowThen (name "f3") (⟦<bool as Deserialize<'de>>⟧.gives) z.f3
-        (RowThen (name "f4") (⟦<i32 as Deserialize<'de>>⟧.gives) z.f4
-        (RowThen (name "f5") (⟦<Vec<u8> as Deserialize<'de>>⟧.gives) z.f5
-        (RowThen (name "f6") (⟦<char as Deserialize<'de>>⟧.gives) z.f6
-        (RowThen (name "f7") (⟦<u64 as Deserialize<'de>>⟧.gives) z.f7
-        (RowThen (name "f8") (⟦<String as Deserialize<'de>>⟧.gives) z.f8
-        (RowThen (name "f9") (⟦<u8 as Deserialize<'de>>⟧.gives) z.f9
-        (RowOrThen (name "f10") (λ (x : (Option ℕ)). x ≡ None)
-        (⟦<Option<u8> as Deserialize<'de>>⟧.gives) z.f10
-        (RowThen (name "f11") (⟦<bool as Deserialize<'de>>⟧.gives) z.f11
-        NoOthers)))))))))))) };
-
-    #[tactic(auto, unfolding(serde_content::specs::Literals::name))]
-    fn name() -> &'static str {
-        "StructMixed12"
-    }
-
-    fn read<'n: 'de>(alloc: Global, fields: FieldsByName<'de, 'n>) -> Result<StructMixed12> {
         let row: Field1OfStructMixed12 = ReadFields::read(alloc, fields)?;
         let ReadField(f0, row, _) = row;
         let ReadField(f1, row, _) = row;
@@ -636,25 +611,103 @@ impl<'de> ReadStruct<'de> for StructMixed12 {
         let ReadField(f5, row, _) = row;
         let ReadField(f6, row, _) = row;
         let ReadField(f7, row, _) = row;
-        let From9OfStructMixed12(row) = row;
+        Ok(From1OfStructMixed12(f0, f1, f2, f3, f4, f5, f6, f7, row))
+    }
+}
+
+/// The values from place 9 on.
+#[derive(Drop)]
+struct From9OfStructMixed12(String, u8, Option<u8>, bool);
+
+impl<'de> ReadFields<'de> for From9OfStructMixed12 {
+    ghost refusal = { λ f. ⟦<Field9OfStructMixed12 as ReadFields<'de>>⟧.refusal f };
+
+    ghost gives = { λ z f.
+        (RowThen (name "f8") (⟦<String as Deserialize<'de>>⟧.gives) z.0
+        (RowThen (name "f9") (⟦<u8 as Deserialize<'de>>⟧.gives) z.1
+        (RowOrThen (name "f10") (λ (x : (Option ℕ)). x ≡ None)
+        (⟦<Option<u8> as Deserialize<'de>>⟧.gives) z.2
+        (RowThen (name "f11") (⟦<bool as Deserialize<'de>>⟧.gives) z.3
+        NoOthers))))
+        f };
+
+    fn read<'n: 'de>(alloc: Global, fields: FieldsByName<'de, 'n>) -> Result<Self> {
+        let row: Field9OfStructMixed12 = ReadFields::read(alloc, fields)?;
         let ReadField(f8, row, _) = row;
         let ReadField(f9, row, _) = row;
         let ReadFieldOr(f10, row, _) = row;
         let ReadField(f11, _, _) = row;
-        Ok(StructMixed12 {
-            f0,
-            f1,
-            f2,
-            f3,
-            f4,
-            f5,
-            f6,
-            f7,
-            f8,
-            f9,
-            f10,
-            f11,
-        })
+        Ok(From9OfStructMixed12(f8, f9, f10, f11))
+    }
+}
+
+/// Its contract tells proofs what is made of the values.
+fn make_struct_mixed12(row: From1OfStructMixed12) -> StructMixed12
+    ensures { result ≡ record {
+      f0 = row.0;
+      f1 = row.1;
+      f2 = row.2;
+      f3 = row.3;
+      f4 = row.4;
+      f5 = row.5;
+      f6 = row.6;
+      f7 = row.7;
+      f8 = row.8.0;
+      f9 = row.8.1;
+      f10 = row.8.2;
+      f11 = row.8.3;
+    } }
+{
+    let From1OfStructMixed12(f0, f1, f2, f3, f4, f5, f6, f7, row) = row;
+    let From9OfStructMixed12(f8, f9, f10, f11) = row;
+    StructMixed12 {
+        f0,
+        f1,
+        f2,
+        f3,
+        f4,
+        f5,
+        f6,
+        f7,
+        f8,
+        f9,
+        f10,
+        f11,
+    }
+}
+
+impl<'de> ReadStruct<'de> for StructMixed12 {
+    ghost name = { name "StructMixed12" };
+
+    ghost refusal = { ⟦<From1OfStructMixed12 as ReadFields<'de>>⟧.refusal };
+
+    ghost gives = { λ z.
+        (⟦<From1OfStructMixed12 as ReadFields<'de>>⟧.gives
+        (record {
+          0 = z.f0;
+          1 = z.f1;
+          2 = z.f2;
+          3 = z.f3;
+          4 = z.f4;
+          5 = z.f5;
+          6 = z.f6;
+          7 = z.f7;
+          8 = (record {
+            0 = z.f8;
+            1 = z.f9;
+            2 = z.f10;
+            3 = z.f11;
+          });
+        })) };
+
+    #[tactic(auto, unfolding(serde_content::specs::Literals::name))]
+    fn name() -> &'static str {
+        "StructMixed12"
+    }
+
+    fn read<'n: 'de>(alloc: Global, fields: FieldsByName<'de, 'n>) -> Result<StructMixed12> {
+        let row: From1OfStructMixed12 = ReadFields::read(alloc, fields)?;
+        Ok(make_struct_mixed12(row))
     }
 }
 
@@ -710,38 +763,26 @@ impl Serialize for StructMixed12 {
 
 impl<'de> Deserialize<'de> for StructMixed12 {
     ghost refusal = { struct_refusal (name "StructMixed12") (read_by_name
-        (row_then (name "f0") (⟦<String as Deserialize<'de>>⟧.refusal)
-        (row_then (name "f1") (⟦<u8 as Deserialize<'de>>⟧.refusal)
-        (row_or_then (name "f2") (⟦<Option<u8> as Deserialize<'de>>⟧.refusal)
-        (row_then (name "f3") (⟦<bool as Deserialize<'de>>⟧.refusal)
-        (row_then (name "f4") (⟦<i32 as Deserialize<'de>>⟧.refusal)
-        (row_then (name "f5") (⟦<Vec<u8> as Deserialize<'de>>⟧.refusal)
-        (row_then (name "f6") (⟦<char as Deserialize<'de>>⟧.refusal)
-        (row_then (name "f7") (⟦<u64 as Deserialize<'de>>⟧.refusal)
-        (row_then (name "f8") (⟦<String as Deserialize<'de>>⟧.refusal)
-        (row_then (name "f9") (⟦<u8 as Deserialize<'de>>⟧.refusal)
-        (row_or_then (name "f10") (⟦<Option<u8> as Deserialize<'de>>⟧.refusal)
-        (row_then (name "f11") (⟦<bool as Deserialize<'de>>⟧.refusal)
-        (others_left (name "f0" ∷ name "f1" ∷ name "f2" ∷ name "f3" ∷ name "f4" ∷ name "f5"
-        ∷ name "f6" ∷ name "f7" ∷ name "f8" ∷ name "f9" ∷ name "f10" ∷ name "f11" ∷
-        []))))))))))))))) };
+        (⟦<From1OfStructMixed12 as ReadFields<'de>>⟧.refusal)) };
 
     ghost gives = { λ s p. StructGives (name "StructMixed12") (ReadByName
-        (RowThen (name "f0") (⟦<String as Deserialize<'de>>⟧.gives) p.f0
-        (RowThen (name "f1") (⟦<u8 as Deserialize<'de>>⟧.gives) p.f1
-        (RowOrThen (name "f2") (λ (x : (Option ℕ)). x ≡ None)
-        (⟦<Option<u8> as Deserialize<'de>>⟧.gives) p.f2
-        (RowThen (name "f3") (⟦<bool as Deserialize<'de>>⟧.gives) p.f3
-        (RowThen (name "f4") (⟦<i32 as Deserialize<'de>>⟧.gives) p.f4
-        (RowThen (name "f5") (⟦<Vec<u8> as Deserialize<'de>>⟧.gives) p.f5
-        (RowThen (name "f6") (⟦<char as Deserialize<'de>>⟧.gives) p.f6
-        (RowThen (name "f7") (⟦<u64 as Deserialize<'de>>⟧.gives) p.f7
-        (RowThen (name "f8") (⟦<String as Deserialize<'de>>⟧.gives) p.f8
-        (RowThen (name "f9") (⟦<u8 as Deserialize<'de>>⟧.gives) p.f9
-        (RowOrThen (name "f10") (λ (x : (Option ℕ)). x ≡ None)
-        (⟦<Option<u8> as Deserialize<'de>>⟧.gives) p.f10
-        (RowThen (name "f11") (⟦<bool as Deserialize<'de>>⟧.gives) p.f11
-        NoOthers))))))))))))) s };
+        (⟦<From1OfStructMixed12 as ReadFields<'de>>⟧.gives
+        (record {
+          0 = p.f0;
+          1 = p.f1;
+          2 = p.f2;
+          3 = p.f3;
+          4 = p.f4;
+          5 = p.f5;
+          6 = p.f6;
+          7 = p.f7;
+          8 = (record {
+            0 = p.f8;
+            1 = p.f9;
+            2 = p.f10;
+            3 = p.f11;
+          });
+        }))) s };
 
     fn deserialize<'n: 'de>(alloc: Global, from: Deserializer<'de, 'n>) -> Result<StructMixed12> {
         read_struct::<FieldsOfStructMixed12, Self>(alloc, from)
@@ -883,53 +924,26 @@ type Field9OfStructByte9 = ReadField<
     OthersSkipped<FieldsOfStructByte9>,
 >;
 
-/// The row from place 9 on.
+/// The values from place 1 on.
 #[derive(Drop)]
-struct From9OfStructByte9(Field9OfStructByte9);
+struct From1OfStructByte9(u8, u8, u8, u8, u8, u8, u8, u8, From9OfStructByte9);
 
-impl<'de> ReadFields<'de> for From9OfStructByte9 {
-    ghost refusal = { ⟦<Field9OfStructByte9 as ReadFields<'de>>⟧.refusal };
+impl<'de> ReadFields<'de> for From1OfStructByte9 {
+    ghost refusal = { λ f. ⟦<Field1OfStructByte9 as ReadFields<'de>>⟧.refusal f };
 
-    ghost gives = { λ z. ⟦<Field9OfStructByte9 as ReadFields<'de>>⟧.gives z.0 };
+    ghost gives = { λ z f.
+        (RowThen (name "f0") (⟦<u8 as Deserialize<'de>>⟧.gives) z.0
+        (RowThen (name "f1") (⟦<u8 as Deserialize<'de>>⟧.gives) z.1
+        (RowThen (name "f2") (⟦<u8 as Deserialize<'de>>⟧.gives) z.2
+        (RowThen (name "f3") (⟦<u8 as Deserialize<'de>>⟧.gives) z.3
+        (RowThen (name "f4") (⟦<u8 as Deserialize<'de>>⟧.gives) z.4
+        (RowThen (name "f5") (⟦<u8 as Deserialize<'de>>⟧.gives) z.5
+        (RowThen (name "f6") (⟦<u8 as Deserialize<'de>>⟧.gives) z.6
+        (RowThen (name "f7") (⟦<u8 as Deserialize<'de>>⟧.gives) z.7
+        (⟦<From9OfStructByte9 as ReadFields<'de>>⟧.gives z.8)))))))))
+        f };
 
     fn read<'n: 'de>(alloc: Global, fields: FieldsByName<'de, 'n>) -> Result<Self> {
-        Ok(From9OfStructByte9(ReadFields::read(alloc, fields)?))
-    }
-}
-
-impl<'de> ReadStruct<'de> for StructByte9 {
-    ghost name = { name "StructByte9" };
-
-    ghost refusal = { row_then (name "f0") (⟦<u8 as Deserialize<'de>>⟧.refusal)
-        (row_then (name "f1") (⟦<u8 as Deserialize<'de>>⟧.refusal)
-        (row_then (name "f2") (⟦<u8 as Deserialize<'de>>⟧.refusal)
-        (row_then (name "f3") (⟦<u8 as Deserialize<'de>>⟧.refusal)
-        (row_then (name "f4") (⟦<u8 as Deserialize<'de>>⟧.refusal)
-        (row_then (name "f5") (⟦<u8 as Deserialize<'de>>⟧.refusal)
-        (row_then (name "f6") (⟦<u8 as Deserialize<'de>>⟧.refusal)
-        (row_then (name "f7") (⟦<u8 as Deserialize<'de>>⟧.refusal)
-        (row_then (name "f8") (⟦<u8 as Deserialize<'de>>⟧.refusal)
-        (others_left (name "f0" ∷ name "f1" ∷ name "f2" ∷ name "f3" ∷ name "f4" ∷ name "f5"
-        ∷ name "f6" ∷ name "f7" ∷ name "f8" ∷ [])))))))))) };
-
-    ghost gives = { λ z.
-        (RowThen (name "f0") (⟦<u8 as Deserialize<'de>>⟧.gives) z.f0
-        (RowThen (name "f1") (⟦<u8 as Deserialize<'de>>⟧.gives) z.f1
-        (RowThen (name "f2") (⟦<u8 as Deserialize<'de>>⟧.gives) z.f2
-        (RowThen (name "f3") (⟦<u8 as Deserialize<'de>>⟧.gives) z.f3
-        (RowThen (name "f4") (⟦<u8 as Deserialize<'de>>⟧.gives) z.f4
-        (RowThen (name "f5") (⟦<u8 as Deserialize<'de>>⟧.gives) z.f5
-        (RowThen (name "f6") (⟦<u8 as Deserialize<'de>>⟧.gives) z.f6
-        (RowThen (name "f7") (⟦<u8 as Deserialize<'de>>⟧.gives) z.f7
-        (RowThen (name "f8") (⟦<u8 as Deserialize<'de>>⟧.gives) z.f8
-        NoOthers))))))))) };
-
-    #[tactic(auto, unfolding(serde_content::specs::Literals::name))]
-    fn name() -> &'static str {
-        "StructByte9"
-    }
-
-    fn read<'n: 'de>(alloc: Global, fields: FieldsByName<'de, 'n>) -> Result<StructByte9> {
         let row: Field1OfStructByte9 = ReadFields::read(alloc, fields)?;
         let ReadField(f0, row, _) = row;
         let ReadField(f1, row, _) = row;
@@ -939,19 +953,87 @@ impl<'de> ReadStruct<'de> for StructByte9 {
         let ReadField(f5, row, _) = row;
         let ReadField(f6, row, _) = row;
         let ReadField(f7, row, _) = row;
-        let From9OfStructByte9(row) = row;
+        Ok(From1OfStructByte9(f0, f1, f2, f3, f4, f5, f6, f7, row))
+    }
+}
+
+/// The values from place 9 on.
+#[derive(Drop)]
+struct From9OfStructByte9(u8);
+
+impl<'de> ReadFields<'de> for From9OfStructByte9 {
+    ghost refusal = { λ f. ⟦<Field9OfStructByte9 as ReadFields<'de>>⟧.refusal f };
+
+    ghost gives = { λ z f.
+        (RowThen (name "f8") (⟦<u8 as Deserialize<'de>>⟧.gives) z.0
+        NoOthers)
+        f };
+
+    fn read<'n: 'de>(alloc: Global, fields: FieldsByName<'de, 'n>) -> Result<Self> {
+        let row: Field9OfStructByte9 = ReadFields::read(alloc, fields)?;
         let ReadField(f8, _, _) = row;
-        Ok(StructByte9 {
-            f0,
-            f1,
-            f2,
-            f3,
-            f4,
-            f5,
-            f6,
-            f7,
-            f8,
-        })
+        Ok(From9OfStructByte9(f8))
+    }
+}
+
+/// Its contract tells proofs what is made of the values.
+fn make_struct_byte9(row: From1OfStructByte9) -> StructByte9
+    ensures { result ≡ record {
+      f0 = row.0;
+      f1 = row.1;
+      f2 = row.2;
+      f3 = row.3;
+      f4 = row.4;
+      f5 = row.5;
+      f6 = row.6;
+      f7 = row.7;
+      f8 = row.8.0;
+    } }
+{
+    let From1OfStructByte9(f0, f1, f2, f3, f4, f5, f6, f7, row) = row;
+    let From9OfStructByte9(f8) = row;
+    StructByte9 {
+        f0,
+        f1,
+        f2,
+        f3,
+        f4,
+        f5,
+        f6,
+        f7,
+        f8,
+    }
+}
+
+impl<'de> ReadStruct<'de> for StructByte9 {
+    ghost name = { name "StructByte9" };
+
+    ghost refusal = { ⟦<From1OfStructByte9 as ReadFields<'de>>⟧.refusal };
+
+    ghost gives = { λ z.
+        (⟦<From1OfStructByte9 as ReadFields<'de>>⟧.gives
+        (record {
+          0 = z.f0;
+          1 = z.f1;
+          2 = z.f2;
+          3 = z.f3;
+          4 = z.f4;
+          5 = z.f5;
+          6 = z.f6;
+          7 = z.f7;
+          8 = (record {
+            0 = z.f8;
+          });
+        })) };
+
+    #[tactic(auto, unfolding(serde_content::specs::Literals::name))]
+    fn name() -> &'static str {
+        "StructByte9"
+    }
+
+    fn read<'n: 'de>(alloc: Global, fields: FieldsByName<'de, 'n>) -> Result<StructByte9> {
+        let row: From1OfStructByte9 = ReadFields::read(alloc, fields)?;
+        Ok(make_struct_byte9(row))
     }
 }
 
@@ -998,29 +1080,23 @@ impl Serialize for StructByte9 {
 
 impl<'de> Deserialize<'de> for StructByte9 {
     ghost refusal = { struct_refusal (name "StructByte9") (read_by_name
-        (row_then (name "f0") (⟦<u8 as Deserialize<'de>>⟧.refusal)
-        (row_then (name "f1") (⟦<u8 as Deserialize<'de>>⟧.refusal)
-        (row_then (name "f2") (⟦<u8 as Deserialize<'de>>⟧.refusal)
-        (row_then (name "f3") (⟦<u8 as Deserialize<'de>>⟧.refusal)
-        (row_then (name "f4") (⟦<u8 as Deserialize<'de>>⟧.refusal)
-        (row_then (name "f5") (⟦<u8 as Deserialize<'de>>⟧.refusal)
-        (row_then (name "f6") (⟦<u8 as Deserialize<'de>>⟧.refusal)
-        (row_then (name "f7") (⟦<u8 as Deserialize<'de>>⟧.refusal)
-        (row_then (name "f8") (⟦<u8 as Deserialize<'de>>⟧.refusal)
-        (others_left (name "f0" ∷ name "f1" ∷ name "f2" ∷ name "f3" ∷ name "f4" ∷ name "f5"
-        ∷ name "f6" ∷ name "f7" ∷ name "f8" ∷ [])))))))))))) };
+        (⟦<From1OfStructByte9 as ReadFields<'de>>⟧.refusal)) };
 
     ghost gives = { λ s p. StructGives (name "StructByte9") (ReadByName
-        (RowThen (name "f0") (⟦<u8 as Deserialize<'de>>⟧.gives) p.f0
-        (RowThen (name "f1") (⟦<u8 as Deserialize<'de>>⟧.gives) p.f1
-        (RowThen (name "f2") (⟦<u8 as Deserialize<'de>>⟧.gives) p.f2
-        (RowThen (name "f3") (⟦<u8 as Deserialize<'de>>⟧.gives) p.f3
-        (RowThen (name "f4") (⟦<u8 as Deserialize<'de>>⟧.gives) p.f4
-        (RowThen (name "f5") (⟦<u8 as Deserialize<'de>>⟧.gives) p.f5
-        (RowThen (name "f6") (⟦<u8 as Deserialize<'de>>⟧.gives) p.f6
-        (RowThen (name "f7") (⟦<u8 as Deserialize<'de>>⟧.gives) p.f7
-        (RowThen (name "f8") (⟦<u8 as Deserialize<'de>>⟧.gives) p.f8
-        NoOthers)))))))))) s };
+        (⟦<From1OfStructByte9 as ReadFields<'de>>⟧.gives
+        (record {
+          0 = p.f0;
+          1 = p.f1;
+          2 = p.f2;
+          3 = p.f3;
+          4 = p.f4;
+          5 = p.f5;
+          6 = p.f6;
+          7 = p.f7;
+          8 = (record {
+            0 = p.f8;
+          });
+        }))) s };
 
     fn deserialize<'n: 'de>(alloc: Global, from: Deserializer<'de, 'n>) -> Result<StructByte9> {
         read_struct::<FieldsOfStructByte9, Self>(alloc, from)
@@ -1377,62 +1453,37 @@ type Field11OfRead12 = ReadFieldOr<FieldsOfRead12, 10, Option<u8>, Field12OfRead
 
 type Field12OfRead12 = ReadField<FieldsOfRead12, 11, bool, OthersSkipped<FieldsOfRead12>>;
 
-/// The row from place 9 on.
+/// The values from place 1 on.
 #[derive(Drop)]
-struct From9OfRead12(Field9OfRead12);
+struct From1OfRead12(
+    String,
+    u8,
+    Option<u8>,
+    bool,
+    i32,
+    Vec<u8>,
+    char,
+    u64,
+    From9OfRead12,
+);
 
-impl<'de> ReadFields<'de> for From9OfRead12 {
-    ghost refusal = { ⟦<Field9OfRead12 as ReadFields<'de>>⟧.refusal };
+impl<'de> ReadFields<'de> for From1OfRead12 {
+    ghost refusal = { λ f. ⟦<Field1OfRead12 as ReadFields<'de>>⟧.refusal f };
 
-    ghost gives = { λ z. ⟦<Field9OfRead12 as ReadFields<'de>>⟧.gives z.0 };
+    ghost gives = { λ z f.
+        (RowThen (name "f0") (⟦<String as Deserialize<'de>>⟧.gives) z.0
+        (RowThen (name "f1") (⟦<u8 as Deserialize<'de>>⟧.gives) z.1
+        (RowOrThen (name "f2") (λ (x : (Option ℕ)). x ≡ None)
+        (⟦<Option<u8> as Deserialize<'de>>⟧.gives) z.2
+        (RowThen (name "f3") (⟦<bool as Deserialize<'de>>⟧.gives) z.3
+        (RowThen (name "f4") (⟦<i32 as Deserialize<'de>>⟧.gives) z.4
+        (RowThen (name "f5") (⟦<Vec<u8> as Deserialize<'de>>⟧.gives) z.5
+        (RowThen (name "f6") (⟦<char as Deserialize<'de>>⟧.gives) z.6
+        (RowThen (name "f7") (⟦<u64 as Deserialize<'de>>⟧.gives) z.7
+        (⟦<From9OfRead12 as ReadFields<'de>>⟧.gives z.8)))))))))
+        f };
 
     fn read<'n: 'de>(alloc: Global, fields: FieldsByName<'de, 'n>) -> Result<Self> {
-        Ok(From9OfRead12(ReadFields::read(alloc, fields)?))
-    }
-}
-
-impl<'de> ReadStruct<'de> for Read12 {
-    ghost name = { name "Read12" };
-
-    ghost refusal = { row_then (name "f0") (⟦<String as Deserialize<'de>>⟧.refusal)
-        (row_then (name "f1") (⟦<u8 as Deserialize<'de>>⟧.refusal)
-        (row_or_then (name "f2") (⟦<Option<u8> as Deserialize<'de>>⟧.refusal)
-        (row_then (name "f3") (⟦<bool as Deserialize<'de>>⟧.refusal)
-        (row_then (name "f4") (⟦<i32 as Deserialize<'de>>⟧.refusal)
-        (row_then (name "f5") (⟦<Vec<u8> as Deserialize<'de>>⟧.refusal)
-        (row_then (name "f6") (⟦<char as Deserialize<'de>>⟧.refusal)
-        (row_then (name "f7") (⟦<u64 as Deserialize<'de>>⟧.refusal)
-        (row_then (name "f8") (⟦<String as Deserialize<'de>>⟧.refusal)
-        (row_then (name "f9") (⟦<u8 as Deserialize<'de>>⟧.refusal)
-        (row_or_then (name "f10") (⟦<Option<u8> as Deserialize<'de>>⟧.refusal)
-        (row_then (name "f11") (⟦<bool as Deserialize<'de>>⟧.refusal)
-        (others_left (name "f0" ∷ name "f1" ∷ name "f2" ∷ name "f3" ∷ name "f4" ∷ name "f5"
-        ∷ name "f6" ∷ name "f7" ∷ name "f8" ∷ name "f9" ∷ name "f10" ∷ name "f11" ∷
-        []))))))))))))) };
-
-    ghost gives = { λ z.
-        (RowThen (name "f0") (⟦<String as Deserialize<'de>>⟧.gives) z.f0
-        (RowThen (name "f1") (⟦<u8 as Deserialize<'de>>⟧.gives) z.f1
-        (RowOrThen (name "f2") (λ (x : (Option ℕ)). x ≡ None)
-        (⟦<Option<u8> as Deserialize<'de>>⟧.gives) z.f2
-        (RowThen (name "f3") (⟦<bool as Deserialize<'de>>⟧.gives) z.f3
-        (RowThen (name "f4") (⟦<i32 as Deserialize<'de>>⟧.gives) z.f4
-        (RowThen (name "f5") (⟦<Vec<u8> as Deserialize<'de>>⟧.gives) z.f5
-        (RowThen (name "f6") (⟦<char as Deserialize<'de>>⟧.gives) z.f6
-        (RowThen (name "f7") (⟦<u64 as Deserialize<'de>>⟧.gives) z.f7
-        (RowThen (name "f8") (⟦<String as Deserialize<'de>>⟧.gives) z.f8
-        (RowThen (name "f9") (⟦<u8 as Deserialize<'de>>⟧.gives) z.f9
-        (RowOrThen (name "f10") (λ (x : (Option ℕ)). x ≡ None)
-        (⟦<Option<u8> as Deserialize<'de>>⟧.gives) z.f10
-        (RowThen (name "f11") (⟦<bool as Deserialize<'de>>⟧.gives) z.f11
-        NoOthers)))))))))))) };
-
-    #[tactic(auto, unfolding(serde_content::specs::Literals::name))]
-    fn name() -> &'static str {
-        "Read12"
-    }
-
-    fn read<'n: 'de>(alloc: Global, fields: FieldsByName<'de, 'n>) -> Result<Read12> {
         let row: Field1OfRead12 = ReadFields::read(alloc, fields)?;
         let ReadField(f0, row, _) = row;
         let ReadField(f1, row, _) = row;
@@ -1442,62 +1493,128 @@ impl<'de> ReadStruct<'de> for Read12 {
         let ReadField(f5, row, _) = row;
         let ReadField(f6, row, _) = row;
         let ReadField(f7, row, _) = row;
-        let From9OfRead12(row) = row;
+        Ok(From1OfRead12(f0, f1, f2, f3, f4, f5, f6, f7, row))
+    }
+}
+
+/// The values from place 9 on.
+#[derive(Drop)]
+struct From9OfRead12(String, u8, Option<u8>, bool);
+
+impl<'de> ReadFields<'de> for From9OfRead12 {
+    ghost refusal = { λ f. ⟦<Field9OfRead12 as ReadFields<'de>>⟧.refusal f };
+
+    ghost gives = { λ z f.
+        (RowThen (name "f8") (⟦<String as Deserialize<'de>>⟧.gives) z.0
+        (RowThen (name "f9") (⟦<u8 as Deserialize<'de>>⟧.gives) z.1
+        (RowOrThen (name "f10") (λ (x : (Option ℕ)). x ≡ None)
+        (⟦<Option<u8> as Deserialize<'de>>⟧.gives) z.2
+        (RowThen (name "f11") (⟦<bool as Deserialize<'de>>⟧.gives) z.3
+        NoOthers))))
+        f };
+
+    fn read<'n: 'de>(alloc: Global, fields: FieldsByName<'de, 'n>) -> Result<Self> {
+        let row: Field9OfRead12 = ReadFields::read(alloc, fields)?;
         let ReadField(f8, row, _) = row;
         let ReadField(f9, row, _) = row;
         let ReadFieldOr(f10, row, _) = row;
         let ReadField(f11, _, _) = row;
-        Ok(Read12 {
-            f0,
-            f1,
-            f2,
-            f3,
-            f4,
-            f5,
-            f6,
-            f7,
-            f8,
-            f9,
-            f10,
-            f11,
-        })
+        Ok(From9OfRead12(f8, f9, f10, f11))
+    }
+}
+
+/// Its contract tells proofs what is made of the values.
+fn make_read12(row: From1OfRead12) -> Read12
+    ensures { result ≡ record {
+      f0 = row.0;
+      f1 = row.1;
+      f2 = row.2;
+      f3 = row.3;
+      f4 = row.4;
+      f5 = row.5;
+      f6 = row.6;
+      f7 = row.7;
+      f8 = row.8.0;
+      f9 = row.8.1;
+      f10 = row.8.2;
+      f11 = row.8.3;
+    } }
+{
+    let From1OfRead12(f0, f1, f2, f3, f4, f5, f6, f7, row) = row;
+    let From9OfRead12(f8, f9, f10, f11) = row;
+    Read12 {
+        f0,
+        f1,
+        f2,
+        f3,
+        f4,
+        f5,
+        f6,
+        f7,
+        f8,
+        f9,
+        f10,
+        f11,
+    }
+}
+
+impl<'de> ReadStruct<'de> for Read12 {
+    ghost name = { name "Read12" };
+
+    ghost refusal = { ⟦<From1OfRead12 as ReadFields<'de>>⟧.refusal };
+
+    ghost gives = { λ z.
+        (⟦<From1OfRead12 as ReadFields<'de>>⟧.gives
+        (record {
+          0 = z.f0;
+          1 = z.f1;
+          2 = z.f2;
+          3 = z.f3;
+          4 = z.f4;
+          5 = z.f5;
+          6 = z.f6;
+          7 = z.f7;
+          8 = (record {
+            0 = z.f8;
+            1 = z.f9;
+            2 = z.f10;
+            3 = z.f11;
+          });
+        })) };
+
+    #[tactic(auto, unfolding(serde_content::specs::Literals::name))]
+    fn name() -> &'static str {
+        "Read12"
+    }
+
+    fn read<'n: 'de>(alloc: Global, fields: FieldsByName<'de, 'n>) -> Result<Read12> {
+        let row: From1OfRead12 = ReadFields::read(alloc, fields)?;
+        Ok(make_read12(row))
     }
 }
 
 impl<'de> Deserialize<'de> for Read12 {
     ghost refusal = { struct_refusal (name "Read12") (read_by_name
-        (row_then (name "f0") (⟦<String as Deserialize<'de>>⟧.refusal)
-        (row_then (name "f1") (⟦<u8 as Deserialize<'de>>⟧.refusal)
-        (row_or_then (name "f2") (⟦<Option<u8> as Deserialize<'de>>⟧.refusal)
-        (row_then (name "f3") (⟦<bool as Deserialize<'de>>⟧.refusal)
-        (row_then (name "f4") (⟦<i32 as Deserialize<'de>>⟧.refusal)
-        (row_then (name "f5") (⟦<Vec<u8> as Deserialize<'de>>⟧.refusal)
-        (row_then (name "f6") (⟦<char as Deserialize<'de>>⟧.refusal)
-        (row_then (name "f7") (⟦<u64 as Deserialize<'de>>⟧.refusal)
-        (row_then (name "f8") (⟦<String as Deserialize<'de>>⟧.refusal)
-        (row_then (name "f9") (⟦<u8 as Deserialize<'de>>⟧.refusal)
-        (row_or_then (name "f10") (⟦<Option<u8> as Deserialize<'de>>⟧.refusal)
-        (row_then (name "f11") (⟦<bool as Deserialize<'de>>⟧.refusal)
-        (others_left (name "f0" ∷ name "f1" ∷ name "f2" ∷ name "f3" ∷ name "f4" ∷ name "f5"
-        ∷ name "f6" ∷ name "f7" ∷ name "f8" ∷ name "f9" ∷ name "f10" ∷ name "f11" ∷
-        []))))))))))))))) };
+        (⟦<From1OfRead12 as ReadFields<'de>>⟧.refusal)) };
 
     ghost gives = { λ s p. StructGives (name "Read12") (ReadByName
-        (RowThen (name "f0") (⟦<String as Deserialize<'de>>⟧.gives) p.f0
-        (RowThen (name "f1") (⟦<u8 as Deserialize<'de>>⟧.gives) p.f1
-        (RowOrThen (name "f2") (λ (x : (Option ℕ)). x ≡ None)
-        (⟦<Option<u8> as Deserialize<'de>>⟧.gives) p.f2
-        (RowThen (name "f3") (⟦<bool as Deserialize<'de>>⟧.gives) p.f3
-        (RowThen (name "f4") (⟦<i32 as Deserialize<'de>>⟧.gives) p.f4
-        (RowThen (name "f5") (⟦<Vec<u8> as Deserialize<'de>>⟧.gives) p.f5
-        (RowThen (name "f6") (⟦<char as Deserialize<'de>>⟧.gives) p.f6
-        (RowThen (name "f7") (⟦<u64 as Deserialize<'de>>⟧.gives) p.f7
-        (RowThen (name "f8") (⟦<String as Deserialize<'de>>⟧.gives) p.f8
-        (RowThen (name "f9") (⟦<u8 as Deserialize<'de>>⟧.gives) p.f9
-        (RowOrThen (name "f10") (λ (x : (Option ℕ)). x ≡ None)
-        (⟦<Option<u8> as Deserialize<'de>>⟧.gives) p.f10
-        (RowThen (name "f11") (⟦<bool as Deserialize<'de>>⟧.gives) p.f11
-        NoOthers))))))))))))) s };
+        (⟦<From1OfRead12 as ReadFields<'de>>⟧.gives
+        (record {
+          0 = p.f0;
+          1 = p.f1;
+          2 = p.f2;
+          3 = p.f3;
+          4 = p.f4;
+          5 = p.f5;
+          6 = p.f6;
+          7 = p.f7;
+          8 = (record {
+            0 = p.f8;
+            1 = p.f9;
+            2 = p.f10;
+            3 = p.f11;
+          });
+        }))) s };
 
     fn deserialize<'n: 'de>(alloc: Global, from: Deserializer<'de, 'n>) -> Result<Read12> {
         read_struct::<FieldsOfRead12, Self>(alloc, from)
@@ -1535,18 +1652,85 @@ type Part8OfPlaceMixed9 = ReadPart<9, 7, u64, From9OfPlaceMixed9>;
 
 type Part9OfPlaceMixed9 = ReadPart<9, 8, String, PartsEnd<9>>;
 
-/// The row from place 9 on.
+/// The values from place 1 on.
 #[derive(Drop)]
-struct From9OfPlaceMixed9(Part9OfPlaceMixed9);
+struct From1OfPlaceMixed9(
+    String,
+    u8,
+    Option<u8>,
+    bool,
+    i32,
+    Vec<u8>,
+    char,
+    u64,
+    From9OfPlaceMixed9,
+);
 
-impl<'de> ReadParts<'de> for From9OfPlaceMixed9 {
-    ghost refusal = { ⟦<Part9OfPlaceMixed9 as ReadParts<'de>>⟧.refusal };
+impl<'de> ReadParts<'de> for From1OfPlaceMixed9 {
+    ghost refusal = { λ f. ⟦<Part1OfPlaceMixed9 as ReadParts<'de>>⟧.refusal f };
 
-    ghost gives = { λ z. ⟦<Part9OfPlaceMixed9 as ReadParts<'de>>⟧.gives z.0 };
+    ghost gives = { λ z f.
+        (PartThen (⟦<String as Deserialize<'de>>⟧.gives) z.0
+        (PartThen (⟦<u8 as Deserialize<'de>>⟧.gives) z.1
+        (PartThen (⟦<Option<u8> as Deserialize<'de>>⟧.gives) z.2
+        (PartThen (⟦<bool as Deserialize<'de>>⟧.gives) z.3
+        (PartThen (⟦<i32 as Deserialize<'de>>⟧.gives) z.4
+        (PartThen (⟦<Vec<u8> as Deserialize<'de>>⟧.gives) z.5
+        (PartThen (⟦<char as Deserialize<'de>>⟧.gives) z.6
+        (PartThen (⟦<u64 as Deserialize<'de>>⟧.gives) z.7
+        (⟦<From9OfPlaceMixed9 as ReadParts<'de>>⟧.gives z.8)))))))))
+        f };
 
     fn read<'n: 'de>(alloc: Global, parts: serde_content::de::Seq<'de, 'n>) -> Result<Self> {
-        Ok(From9OfPlaceMixed9(ReadParts::read(alloc, parts)?))
+        let row: Part1OfPlaceMixed9 = ReadParts::read(alloc, parts)?;
+        let ReadPart(x1, row) = row;
+        let ReadPart(x2, row) = row;
+        let ReadPart(x3, row) = row;
+        let ReadPart(x4, row) = row;
+        let ReadPart(x5, row) = row;
+        let ReadPart(x6, row) = row;
+        let ReadPart(x7, row) = row;
+        let ReadPart(x8, row) = row;
+        Ok(From1OfPlaceMixed9(x1, x2, x3, x4, x5, x6, x7, x8, row))
     }
+}
+
+/// The values from place 9 on.
+#[derive(Drop)]
+struct From9OfPlaceMixed9(String);
+
+impl<'de> ReadParts<'de> for From9OfPlaceMixed9 {
+    ghost refusal = { λ f. ⟦<Part9OfPlaceMixed9 as ReadParts<'de>>⟧.refusal f };
+
+    ghost gives = { λ z f.
+        (PartThen (⟦<String as Deserialize<'de>>⟧.gives) z.0
+        NoPart)
+        f };
+
+    fn read<'n: 'de>(alloc: Global, parts: serde_content::de::Seq<'de, 'n>) -> Result<Self> {
+        let row: Part9OfPlaceMixed9 = ReadParts::read(alloc, parts)?;
+        let ReadPart(x9, _) = row;
+        Ok(From9OfPlaceMixed9(x9))
+    }
+}
+
+/// Its contract tells proofs what is made of the values.
+fn make_place_mixed9(row: From1OfPlaceMixed9) -> PlaceMixed9
+    ensures { result ≡ record {
+      0 = row.0;
+      1 = row.1;
+      2 = row.2;
+      3 = row.3;
+      4 = row.4;
+      5 = row.5;
+      6 = row.6;
+      7 = row.7;
+      8 = row.8.0;
+    } }
+{
+    let From1OfPlaceMixed9(x1, x2, x3, x4, x5, x6, x7, x8, row) = row;
+    let From9OfPlaceMixed9(x9) = row;
+    PlaceMixed9(x1, x2, x3, x4, x5, x6, x7, x8, x9)
 }
 
 impl Serialize for PlaceMixed9 {
@@ -1592,43 +1776,28 @@ impl Serialize for PlaceMixed9 {
 
 impl<'de> Deserialize<'de> for PlaceMixed9 {
     ghost refusal = { tuple_struct_refusal (name "PlaceMixed9")
-        (part_then 9 0 (⟦<String as Deserialize<'de>>⟧.refusal)
-        (part_then 9 1 (⟦<u8 as Deserialize<'de>>⟧.refusal)
-        (part_then 9 2 (⟦<Option<u8> as Deserialize<'de>>⟧.refusal)
-        (part_then 9 3 (⟦<bool as Deserialize<'de>>⟧.refusal)
-        (part_then 9 4 (⟦<i32 as Deserialize<'de>>⟧.refusal)
-        (part_then 9 5 (⟦<Vec<u8> as Deserialize<'de>>⟧.refusal)
-        (part_then 9 6 (⟦<char as Deserialize<'de>>⟧.refusal)
-        (part_then 9 7 (⟦<u64 as Deserialize<'de>>⟧.refusal)
-        (part_then 9 8 (⟦<String as Deserialize<'de>>⟧.refusal)
-        (end_of_parts 9)))))))))) };
+        (⟦<From1OfPlaceMixed9 as ReadParts<'de>>⟧.refusal) };
 
     ghost gives = { λ s p. TupleStructGives (name "PlaceMixed9")
-        (PartThen (⟦<String as Deserialize<'de>>⟧.gives) p.0
-        (PartThen (⟦<u8 as Deserialize<'de>>⟧.gives) p.1
-        (PartThen (⟦<Option<u8> as Deserialize<'de>>⟧.gives) p.2
-        (PartThen (⟦<bool as Deserialize<'de>>⟧.gives) p.3
-        (PartThen (⟦<i32 as Deserialize<'de>>⟧.gives) p.4
-        (PartThen (⟦<Vec<u8> as Deserialize<'de>>⟧.gives) p.5
-        (PartThen (⟦<char as Deserialize<'de>>⟧.gives) p.6
-        (PartThen (⟦<u64 as Deserialize<'de>>⟧.gives) p.7
-        (PartThen (⟦<String as Deserialize<'de>>⟧.gives) p.8
-        NoPart))))))))) s };
+        (⟦<From1OfPlaceMixed9 as ReadParts<'de>>⟧.gives
+        (record {
+          0 = p.0;
+          1 = p.1;
+          2 = p.2;
+          3 = p.3;
+          4 = p.4;
+          5 = p.5;
+          6 = p.6;
+          7 = p.7;
+          8 = (record {
+            0 = p.8;
+          });
+        })) s };
 
     fn deserialize<'n: 'de>(alloc: Global, from: Deserializer<'de, 'n>) -> Result<PlaceMixed9> {
         let parts = from.deserialize_tuple_struct(alloc, name_place_mixed9(), 9)?;
-        let row: Part1OfPlaceMixed9 = ReadParts::read(alloc, parts)?;
-        let ReadPart(x1, row) = row;
-        let ReadPart(x2, row) = row;
-        let ReadPart(x3, row) = row;
-        let ReadPart(x4, row) = row;
-        let ReadPart(x5, row) = row;
-        let ReadPart(x6, row) = row;
-        let ReadPart(x7, row) = row;
-        let ReadPart(x8, row) = row;
-        let From9OfPlaceMixed9(row) = row;
-        let ReadPart(x9, _) = row;
-        Ok(PlaceMixed9(x1, x2, x3, x4, x5, x6, x7, x8, x9))
+        let row: From1OfPlaceMixed9 = ReadParts::read(alloc, parts)?;
+        Ok(make_place_mixed9(row))
     }
 }
 
