@@ -150,7 +150,7 @@ fn skip_left(alloc: Global, from: FieldsByName<'_, '_>, known: &[&str]) -> Resul
 }
 
 /// Ends the reading of fields by name, for a type of your own that refuses others: no entry may be
-/// left. Only the text of an error takes memory.
+/// left. Only making an error takes memory.
 ///
 /// # Errors
 ///
