@@ -1,9 +1,9 @@
 #!/usr/bin/env bash
-# checks/edits.sh [CRATE/EDIT ..]: of each grouped edit, checks/edits/CRATE/EDIT.edit, compares the functions that the
-# check refuses with the list beside it, EDIT.md. The gate counts an edit that one function refuses; this says of each
-# function of a grouped edit that it is refused. With no argument it tries them all, JOBS (or else 2) side by side. It
-# ends with status 1 where a listed function is not refused. It needs out/ of each crate, as `rt check` leaves it, and
-# works on copies.
+# checks/edits.sh [CRATE/EDIT ..]: of each grouped edit, checks/edits/CRATE/EDIT.edit, or of the gate's own,
+# crates/CRATE/must-fail/EDIT.edit, compares the functions that the check refuses with the list next to it, EDIT.md. The
+# gate counts an edit that one function refuses; this says of each function of a grouped edit that it is refused. With no
+# argument it tries them all, JOBS (or else 2) side by side. It ends with status 1 where a listed function is not refused.
+# It needs out/ of each crate, as `rt check` leaves it, and works on copies.
 set -u
 top=$(cd "$(dirname "$0")/.." && pwd)
 
@@ -29,7 +29,10 @@ PYTHON
 
 # Tries one edit, in a copy of the crates. What was proved is linked, since it is much, and a check never writes into it.
 try_edit() {
-    local name=$1 crate=${1%/*} list=$top/checks/edits/$1.md missing=0
+    local name=$1 crate=${1%/*} edit list missing=0
+    edit=$top/checks/edits/$name
+    [ -f "$edit.edit" ] || edit=$top/crates/$crate/must-fail/${name#*/}
+    list=$edit.md
     [ -f "$list" ] || { echo "$name: no list of what it must refuse"; return 1; }
     room=$(mktemp -d)
     trap 'rm -rf "$room"' EXIT
@@ -38,7 +41,7 @@ try_edit() {
     cp -rl "$top/crates" "$room/crates" 2> /dev/null || cp -rf "$top/crates" "$room/"
     find "$room/crates/$crate" -path '*/out/rlib' -prune -o -type f ! -name '*.oantt' -print0 |
         while IFS= read -r -d '' file; do cp -p "$file" "$file.own" && mv "$file.own" "$file"; done
-    apply "$top/checks/edits/$name.edit" "$room/crates/$crate" || return 1
+    apply "$edit.edit" "$room/crates/$crate" || return 1
     (cd "$room/crates/$crate" && rt check --jobs 1 > "$room/log" 2>&1)
     while read -r function; do
         said=$(grep "^fn $function: " "$room/log")
@@ -62,6 +65,7 @@ if [ "${1-}" = --one ]; then
     exit
 fi
 if [ $# = 0 ]; then
-    set -- $(cd "$top/checks/edits" && ls -- */*.edit | sed 's/\.edit$//')
+    set -- $(cd "$top" && ls -- checks/edits/*/*.edit crates/*/must-fail/*.md |
+        sed 's|^checks/edits/||; s|^crates/||; s|/must-fail/|/|; s|\.[a-z]*$||')
 fi
 printf '%s\n' "$@" | xargs -P "${JOBS:-2}" -n 1 "$0" --one || exit 1

@@ -1,7 +1,7 @@
 //! Entries taken by name, in any order.
 
 ghost use Rattle.std.specs.Prelude.{◌≡◌, ◌<◌, ◌++◌, ⊤, ℕ, Bool, List, [], Some, None, IsTrue};
-ghost use Rattle.std.specs.Prelude.{IfOk, IfErr, IfSome, IfNone, is_some, option_map};
+ghost use Rattle.std.specs.Prelude.{IfOk, IfErr, IfSome, IfNone, IsOk, is_some, option_map};
 ghost use Rattle.std.specs.Prelude.{length, map, slice_index_or};
 ghost use Rattle.std.specs.List.{remove};
 ghost use Rattle.std.specs.Map.{lookup, remove_entry};
@@ -108,8 +108,11 @@ impl<'de, 'n> Left<'de, 'n> {
 
     /// The refusal of the first key that is left.
     fn end(self, alloc: Global, known: &[&str]) -> Result<()>
-        ensures { Reads (first_other (map (λ name. name.now) known.now) (entries_of self.entry))
+        ensures value { Reads
+            (first_other (map (λ name. name.now) known.now) (entries_of self.entry))
             (λ u. ⊤) result }
+        ensures succeeds { first_other (map (λ name. name.now) known.now) (entries_of self.entry)
+            ≡ None → IsOk result }
     {
         match self {
             Left::Pairs(mut pairs) => match pairs.pop_front() {
@@ -236,8 +239,11 @@ impl<'de, 'n> FieldsByName<'de, 'n> {
 
     /// The refusal of the first key that is left.
     pub(crate) fn end(self, alloc: Global, known: &[&str]) -> Result<()>
-        ensures { Reads (no_others (map (λ name. name.now) known.now) (fields_left self.entry))
+        ensures value { Reads
+            (no_others (map (λ name. name.now) known.now) (fields_left self.entry))
             (λ u. ⊤) result }
+        ensures succeeds { no_others (map (λ name. name.now) known.now) (fields_left self.entry)
+            ≡ None → IsOk result }
     {
         let FieldsByName {
             keyless,

@@ -1,6 +1,6 @@
 //! Fields read by name, in any order, and the end of fields.
 
-ghost use Rattle.std.specs.Prelude.{◌≡◌, ◌≢◌, Some, None, ⊤, map};
+ghost use Rattle.std.specs.Prelude.{◌≡◌, ◌≢◌, Some, None, IsOk, ⊤, map};
 ghost use Rattle.content_tree.specs.Errors.Cause.{out_of_memory};
 ghost use Rattle.content_tree.specs.Values.Text.{text_of};
 ghost use Rattle.content_de.specs.Outcomes.{Answers, cause};
@@ -8,7 +8,8 @@ ghost use Rattle.content_de.specs.Reads.Tagged.{tag_at};
 ghost use Rattle.content_de.specs.Accesses.ByName.{field_named, fields_left, without_field};
 ghost use Rattle.content_de.specs.Accesses.ByName.{buffered_fields};
 ghost use Rattle.content_de.specs.Reads.Read.{Reads};
-ghost use Rattle.content_de.specs.Reads.ByName.{found_refusal, FoundGives, missing_field};
+ghost use Rattle.content_de.specs.Reads.ByName.{found_refusal, FoundGives, FoundMemoryless};
+ghost use Rattle.content_de.specs.Reads.ByName.{missing_field};
 ghost use Rattle.content_de.specs.Reads.ByName.{no_others, others_skipped};
 
 use crate::by_name::FieldsByName;
@@ -18,7 +19,7 @@ use content_tree::{CowStr, Error, ErrorKind, Result};
 use std::alloc::Global;
 
 /// Reads the field of this name, wherever it is, for a type of your own. The entry is taken away
-/// also where its reading is refused.
+/// also where its reading is refused. Only the type and the text of an error take memory.
 ///
 /// # Errors
 ///
@@ -33,15 +34,18 @@ pub fn named_field<'de, 'n: 'de, T: Deserialize<'de>>(
         (found_refusal (Some (missing_field name.now)) T.refusal
         (field_named name.now (fields_left from.old)))
         (FoundGives (λ a. ⊥) T.gives (field_named name.now (fields_left from.old))) result }
+    ensures succeeds { FoundMemoryless ⊥ T.memoryless (field_named name.now (fields_left from.old))
+        → IsOk result }
     ensures rest { fields_left from.new ≡ without_field name.now (fields_left from.old) }
 {
     match from.take_named(name) {
-        Some(value) => T::deserialize(alloc, value),
+        Some(field) => T::deserialize(alloc, field),
         None => Err(missing_field(alloc, name)),
     }
 }
 
-/// Reads the field of this name, or gives this value where there is none.
+/// Reads the field of this name, or gives this value where there is none. Only the type takes
+/// memory.
 ///
 /// # Errors
 ///
@@ -56,6 +60,8 @@ pub fn field_or<'de, 'n: 'de, T: Deserialize<'de>>(
         (found_refusal None T.refusal (field_named name.now (fields_left from.old)))
         (FoundGives (λ a. a ≡ missing) T.gives
         (field_named name.now (fields_left from.old))) result }
+    ensures succeeds { FoundMemoryless ⊤ T.memoryless (field_named name.now (fields_left from.old))
+        → IsOk result }
     ensures rest { fields_left from.new ≡ without_field name.now (fields_left from.old) }
 {
     match from.take_named(name) {
@@ -106,7 +112,7 @@ pub fn internal_tag<'de, 'n: 'de>(
 }
 
 /// Ends the reading of fields by name, for a type of your own that ignores others: no entry that is
-/// left may have a name of `known` again.
+/// left may have a name of `known` again. Only the text of an error takes memory.
 ///
 /// # Errors
 ///
@@ -114,8 +120,11 @@ pub fn internal_tag<'de, 'n: 'de>(
 /// place.
 #[inline(always)]
 pub fn skip_fields(alloc: Global, from: FieldsByName<'_, '_>, known: &[&str]) -> Result<()>
-    ensures { Reads (others_skipped (map (λ name. name.now) known.now) (fields_left from.entry))
+    ensures value { Reads
+        (others_skipped (map (λ name. name.now) known.now) (fields_left from.entry))
         (λ u. ⊤) result }
+    ensures succeeds { others_skipped (map (λ name. name.now) known.now) (fields_left from.entry)
+        ≡ None → IsOk result }
 {
     if from.is_empty() {
         return Ok(());
@@ -126,8 +135,11 @@ pub fn skip_fields(alloc: Global, from: FieldsByName<'_, '_>, known: &[&str]) ->
 /// The same where some are left.
 #[inline(never)]
 fn skip_left(alloc: Global, from: FieldsByName<'_, '_>, known: &[&str]) -> Result<()>
-    ensures { Reads (others_skipped (map (λ name. name.now) known.now) (fields_left from.entry))
+    ensures value { Reads
+        (others_skipped (map (λ name. name.now) known.now) (fields_left from.entry))
         (λ u. ⊤) result }
+    ensures succeeds { others_skipped (map (λ name. name.now) known.now) (fields_left from.entry)
+        ≡ None → IsOk result }
 {
     for name in known {
         if from.has(name) {
@@ -138,7 +150,7 @@ fn skip_left(alloc: Global, from: FieldsByName<'_, '_>, known: &[&str]) -> Resul
 }
 
 /// Ends the reading of fields by name, for a type of your own that refuses others: no entry may be
-/// left.
+/// left. Only making an error takes memory.
 ///
 /// # Errors
 ///
@@ -146,8 +158,10 @@ fn skip_left(alloc: Global, from: FieldsByName<'_, '_>, known: &[&str]) -> Resul
 /// ``unknown field `NAME`, expected one of `A`, `B`, `C` ``, and what was found where it is no
 /// text; out of memory in its place.
 pub fn end_fields(alloc: Global, from: FieldsByName<'_, '_>, known: &[&str]) -> Result<()>
-    ensures { Reads (no_others (map (λ name. name.now) known.now) (fields_left from.entry))
+    ensures value { Reads (no_others (map (λ name. name.now) known.now) (fields_left from.entry))
         (λ u. ⊤) result }
+    ensures succeeds { no_others (map (λ name. name.now) known.now) (fields_left from.entry) ≡ None
+        → IsOk result }
 {
     from.end(alloc, known)
 }

@@ -10,7 +10,7 @@ use Rattle.content_de.specs.Outcomes.{mismatch}
 use Rattle.content_de.specs.Accesses.Map.{MapLeft}
 use Rattle.content_de.specs.Accesses.ByName.{FieldsLeft, by_name, field_named, without_field}
 use Rattle.content_de.specs.Reads.Names.{quoted, unknown_text}
-use Rattle.content_de.specs.Reads.Read.{Refusal, Gives, first_of}
+use Rattle.content_de.specs.Reads.Read.{Refusal, Gives, Memoryless, first_of}
 
 -- no entry has this name
 abbrev pub missing_field : List ℕ → Cause
@@ -33,6 +33,11 @@ found_refusal missing refusal (Some s) = refusal s
 abbrev pub FoundGives : {A : Type 0} → (A → Type 0) → Gives A → Option Subject → A → Type 0
 FoundGives missing gives None a = missing a
 FoundGives missing gives (Some s) a = gives s a
+
+-- what is found is read without memory; where nothing is, this holds
+abbrev pub FoundMemoryless : Type 0 → Memoryless → Option Subject → Type 0
+FoundMemoryless missing memoryless None = missing
+FoundMemoryless missing memoryless (Some s) = memoryless s
 
 -- the field of this name, and then the others
 abbrev pub named_then : List ℕ → Refusal → (FieldsLeft → Option Cause) → FieldsLeft → Option Cause
