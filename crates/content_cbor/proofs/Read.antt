@@ -18,3 +18,5 @@ pub mod Memory
 pub mod Bytewise
 pub mod Ends
 pub mod Place
+pub mod Formed
+pub mod Told

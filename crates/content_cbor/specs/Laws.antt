@@ -1,5 +1,5 @@
 -- What holds of all items.
-use Rattle.std.specs.Prelude.{◌≡◌, ◌≤◌, ℕ, List, [], length, None, Some}
+use Rattle.std.specs.Prelude.{◌≡◌, ◌≤◌, ◌+◌, ℕ, List, [], length, take, None, Some, true}
 use Rattle.content_tree.specs.Values.Tree.{Tree}
 use Rattle.content_ser.specs.Calls.Event.{Event}
 use Rattle.content_ser.specs.Grammar.Spells.{SpellsWhole}
@@ -7,10 +7,16 @@ use Rattle.content_ser.specs.Scripts.Script.{calls_of, stop_of}
 use Rattle.content_ser.specs.Sending.TreeScript.{script_of}
 use Rattle.content_ser.specs.Serializers.Step.{run}
 use Rattle.content_cbor.specs.Codes.{Codes, IsHead}
+use Rattle.content_cbor.specs.Decoded.{StopsAt}
 use Rattle.content_cbor.specs.Encoder.{Written, nothing, step}
 use Rattle.content_cbor.specs.Form.{form, depth, CodesForm, Fits}
 use Rattle.content_cbor.specs.Heads.{head}
+use Rattle.content_cbor.specs.Inner.Reading.{item_at, whole_at}
 use Rattle.content_cbor.specs.Item.{item}
+use Rattle.content_cbor.specs.Malformed.{is_malformed}
+use Rattle.content_cbor.specs.WellFormed.{BeginsWellFormed}
+use Rattle.content_cbor.specs.declared.decode_error.DecodeError.TheVariants as error
+use Rattle.content_cbor.specs.declared.decode_error.Fault.{Fault}
 use Rattle.content_cbor.specs.declared.heads.Major.{Major}
 
 -- no bytes code two trees
@@ -33,6 +39,16 @@ LimitsWiden = (limit greater : ℕ) (bytes : List ℕ) (t : Tree) → limit ≤ 
 -- the form of what bytes code within a limit keeps the limit too
 abbrev pub FormsKeepLimits : Type 0
 FormsKeepLimits = (limit : ℕ) (bytes : List ℕ) (t : Tree) → Codes limit t bytes → depth (form t) ≤ limit
+
+-- bytes that decoding refuses as malformed begin no well-formed item, up to and with the place
+abbrev pub MalformedBeginsNothing : Type 0
+MalformedBeginsNothing = (limit : ℕ) (bytes : List ℕ) (at : ℕ) (f : Fault) → is_malformed f ≡ true
+    → StopsAt bytes (error.Refused at f) (whole_at limit bytes) → ¬ BeginsWellFormed (take (at + 1) bytes)
+
+-- the same of the item at their front
+abbrev pub MalformedFrontBeginsNothing : Type 0
+MalformedFrontBeginsNothing = (limit : ℕ) (bytes : List ℕ) (at : ℕ) (f : Fault) → is_malformed f ≡ true
+    → StopsAt bytes (error.Refused at f) (item_at limit bytes) → ¬ BeginsWellFormed (take (at + 1) bytes)
 
 -- no head is shorter than the one that is written
 abbrev pub HeadsAreShort : Type 0

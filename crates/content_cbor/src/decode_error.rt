@@ -1,6 +1,7 @@
 //! Why bytes are refused, and where.
 
-ghost use Rattle.std.specs.Prelude.{Some};
+ghost use Rattle.std.specs.Prelude.{◌≡◌, Some};
+ghost use Rattle.content_cbor.specs.Malformed.{is_malformed};
 ghost use Rattle.content_cbor.specs.PrintedFault.{fault_text, error_text};
 
 use std::fmt;
@@ -37,6 +38,21 @@ pub enum Fault {
     TooWide,
     /// A text that is no UTF-8.
     NotUtf8,
+}
+
+impl Fault {
+    /// Whether the bytes up to and with the place begin no well-formed item of RFC 8949, so that no
+    /// decoder takes them ([proved](crate::laws::malformed_begins_nothing)): `Trailing`, `Reserved`,
+    /// `Break` and `WrongChunk`. At `Ended` more bytes may complete an item; all else is only not
+    /// supported here, or not valid (`NotUtf8`, `WrongKind`).
+    pub fn is_malformed(self) -> bool
+        ensures { result ≡ is_malformed self }
+    {
+        matches!(
+            self,
+            Fault::Trailing | Fault::Reserved | Fault::Break | Fault::WrongChunk
+        )
+    }
 }
 
 impl fmt::Display for Fault {

@@ -3,7 +3,9 @@
 ghost use Rattle.content_cbor.specs.Laws.{FittingTreesAreTaken, FormsHaveItems, FormsKeepLimits};
 ghost use Rattle.content_cbor.specs.Laws.{FormsStay};
 ghost use Rattle.content_cbor.specs.Laws.{HeadsAreShort, ItemsCodeForms, LimitsAreKept};
-ghost use Rattle.content_cbor.specs.Laws.{LimitsWiden, OneTree, WholeTreesAreEncoded};
+ghost use Rattle.content_cbor.specs.Laws.{LimitsWiden, MalformedBeginsNothing};
+ghost use Rattle.content_cbor.specs.Laws.{MalformedFrontBeginsNothing, OneTree};
+ghost use Rattle.content_cbor.specs.Laws.{WholeTreesAreEncoded};
 
 /// No bytes code two trees.
 pub fn one_tree()
@@ -24,6 +26,14 @@ pub fn limits_are_kept()
     ensures kept { LimitsAreKept }
     ensures form { FormsKeepLimits }
     ensures widened { LimitsWiden }
+{}
+
+/// Where [`decode`](crate::decode) or [`decode_prefix`](crate::decode_prefix) refuses bytes with a
+/// fault that [`is_malformed`](crate::Fault::is_malformed), no bytes after those up to and with the
+/// place make them a well-formed item: of any kind, with any tag, however deep.
+pub fn malformed_begins_nothing()
+    ensures whole { MalformedBeginsNothing }
+    ensures front { MalformedFrontBeginsNothing }
 {}
 
 /// No head is shorter than the one that is written.

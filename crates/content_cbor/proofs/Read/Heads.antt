@@ -1,5 +1,5 @@
 -- Heads that are read.
-use Rattle.std.proofs.Common.{◌≡◌, ℕ, suc, zero, ◌+◌, ◌*◌, ◌-◌, ◌/◌, ◌%◌, ◌<◌, ◌≤◌, Bool, true, false, cond, eqb, ltb, List, [], ◌∷◌, ◌++◌, get_or, length, take, drop, Option, Some, None, Result, Ok, Err, ◌⊎◌, refl, sym, ap, subst, ◌∙◌, arith, inl, inr}
+use Rattle.std.proofs.Common.{◌≡◌, ℕ, suc, zero, ◌+◌, ◌*◌, ◌-◌, ◌/◌, ◌%◌, ◌<◌, ◌≤◌, true, false, cond, eqb, ltb, List, [], ◌∷◌, ◌++◌, get_or, length, take, drop, Option, Some, None, Ok, Err, ◌⊎◌, refl, sym, ap, subst, ◌∙◌, arith, inl, inr}
 use Rattle.std.specs.Int.{Width, byte_len, from_be_bytes, is_in_range, to_be_bytes, w8}
 use Rattle.std.specs.Int.Digits.{number_from_digits_after}
 use Rattle.std.proofs.lemmas.Bool.{ltb-false, ltb-true, le-ltb, lt-ltb, eqb-true, eqb-false, ne_eqb, cases_lt}
@@ -37,7 +37,7 @@ one_byte [] len fits = absurd (omega (arith, len))
 one_byte (b ∷ []) len fits = ap (λ n. n ∷ []) (omega (arith, fits 0))
 one_byte (b ∷ c ∷ bs) len fits = absurd (omega (arith, len))
 
-wide : (s : Size) → IsWide (width_of s) (room s)
+pub wide : (s : Size) → IsWide (width_of s) (room s)
 wide size.one = record {
   len = λ n. refl;
   back = λ bs len fits. one_byte bs len fits;
@@ -102,10 +102,10 @@ spelled s ds len fits =
     let same = same_number s ds len in
     subst (λ n. Spelled s n ds) (sym same) ((wide s).below ds fits, sym ((wide s).back ds len fits))
 
-spelled_back : (s : Size) (n : ℕ) → n < room s → number_from_digits_after 256 0 (to_be_bytes (width_of s) n) ≡ n
+pub spelled_back : (s : Size) (n : ℕ) → n < room s → number_from_digits_after 256 0 (to_be_bytes (width_of s) n) ≡ n
 spelled_back s n lt = same_number s (to_be_bytes (width_of s) n) ((wide s).len n) ∙ (wide s).again n lt
 
-size_is : (s : Size) → size_of (info_of s) ≡ byte_len (width_of s)
+pub size_is : (s : Size) → size_of (info_of s) ≡ byte_len (width_of s)
 size_is size.one = refl
 size_is size.two = refl
 size_is size.four = refl
@@ -147,7 +147,7 @@ Says m info = (info < 24) ⊎ ((info ≡ 31) ⊎ ((is_simple m ≡ false) × (24
 abbrev pub IsFirst : First → List ℕ → Type 0
 IsFirst first bs = (is_reserved first.«major» first.info ≡ false) × (first.info < 32) × (bs ≡ first_byte first.«major» first.info ∷ [])
 
-abbrev made : Major → ℕ → First
+abbrev pub made : Major → ℕ → First
 made m info = record { «major» = m; info = info }
 
 pub first_sound : Sound IsFirst first_at
@@ -324,7 +324,7 @@ argument_admitted bounds starts info bs n rest is =
       | inr w ↦ digits_admitted bounds (size_of info) 0 bs n rest (starts (size_of info)) w.1
     ]
 
-long_info : (s : Size) → ltb (info_of s) 24 ≡ false
+pub long_info : (s : Size) → ltb (info_of s) 24 ≡ false
 long_info size.one = refl
 long_info size.two = refl
 long_info size.four = refl

@@ -22,7 +22,7 @@ use Rattle.content_cbor.proofs.Read.Parts.{Begins, Ends, until_sound, until_comp
 use Rattle.content_cbor.proofs.Read.Begun.{Before, Opens, PlacedBehind, at_start, behind_a, instead, opens_behind}
 use Rattle.content_cbor.proofs.Read.Numbers.{Fair, IsByte, unbounded_fair}
 use Rattle.content_cbor.proofs.Read.Shrinks.{advances_chunk}
-use Rattle.content_cbor.proofs.Read.Heads.{Admitted, Argument, HeadOf, Says, Starts, argument_admitted, argument_complete, argument_placed, argument_sound, below_28, first_again, first_and, first_placed, first_sound, high_info, long_is, numbered, of_head, says_plain, unreserved}
+use Rattle.content_cbor.proofs.Read.Heads.{Admitted, Argument, HeadOf, Says, Starts, argument_admitted, argument_complete, argument_placed, argument_sound, below_28, first_again, first_and, first_placed, first_sound, high_info, numbered, of_head, says_plain, unreserved}
 use Rattle.content_cbor.proofs.Read.Utf8.{so_many, spaces, spaces_text, text_complete, text_placed, text_sound}
 
 pub not_simple : (t : Bool) → is_simple (string_major t) ≡ false
@@ -161,7 +161,7 @@ begins_is false major.Map info e = absurd cc
 begins_is false major.Tag info e = absurd cc
 begins_is false major.Simple info e = absurd cc
 
-begins_again : (t : Bool) (info : ℕ) → info < 31 → begins_chunk t (string_major t) info ≡ true
+pub begins_again : (t : Bool) (info : ℕ) → info < 31 → begins_chunk t (string_major t) info ≡ true
 begins_again true info lt = lt-ltb info 31 lt
 begins_again false info lt = lt-ltb info 31 lt
 
