@@ -19,4 +19,7 @@ pub mod Bytewise
 pub mod Ends
 pub mod Place
 pub mod Formed
+pub mod Fills
+pub mod Grows
+pub mod GrowsItems
 pub mod Told

@@ -1,5 +1,5 @@
 -- What holds of all items.
-use Rattle.std.specs.Prelude.{◌≡◌, ◌≤◌, ◌+◌, ℕ, List, [], length, take, None, Some, true}
+use Rattle.std.specs.Prelude.{◌≡◌, ◌<◌, ◌≤◌, ◌+◌, ℕ, List, [], get_or, length, take, None, Some, false, true}
 use Rattle.content_tree.specs.Values.Tree.{Tree}
 use Rattle.content_ser.specs.Calls.Event.{Event}
 use Rattle.content_ser.specs.Grammar.Spells.{SpellsWhole}
@@ -49,6 +49,22 @@ MalformedBeginsNothing = (limit : ℕ) (bytes : List ℕ) (at : ℕ) (f : Fault)
 abbrev pub MalformedFrontBeginsNothing : Type 0
 MalformedFrontBeginsNothing = (limit : ℕ) (bytes : List ℕ) (at : ℕ) (f : Fault) → is_malformed f ≡ true
     → StopsAt bytes (error.Refused at f) (item_at limit bytes) → ¬ BeginsWellFormed (take (at + 1) bytes)
+
+-- numbers that are bytes
+abbrev pub AreBytes : List ℕ → Type 0
+AreBytes bytes = (i : ℕ) → get_or bytes i 0 < 256
+
+-- bytes that decoding refuses otherwise begin a well-formed item, up to and with the place
+abbrev pub OthersBeginItems : Type 0
+OthersBeginItems = (limit : ℕ) (bytes : List ℕ) (at : ℕ) (f : Fault) → AreBytes bytes
+    → is_malformed f ≡ false → StopsAt bytes (error.Refused at f) (whole_at limit bytes)
+    → BeginsWellFormed (take (at + 1) bytes)
+
+-- the same of the item at their front
+abbrev pub OtherFrontsBeginItems : Type 0
+OtherFrontsBeginItems = (limit : ℕ) (bytes : List ℕ) (at : ℕ) (f : Fault) → AreBytes bytes
+    → is_malformed f ≡ false → StopsAt bytes (error.Refused at f) (item_at limit bytes)
+    → BeginsWellFormed (take (at + 1) bytes)
 
 -- no head is shorter than the one that is written
 abbrev pub HeadsAreShort : Type 0

@@ -42,9 +42,10 @@ pub enum Fault {
 
 impl Fault {
     /// Whether the bytes up to and with the place begin no well-formed item of RFC 8949, so that no
-    /// decoder takes them ([proved](crate::laws::malformed_begins_nothing)): `Trailing`, `Reserved`,
-    /// `Break` and `WrongChunk`. At `Ended` more bytes may complete an item; all else is only not
-    /// supported here, or not valid (`NotUtf8`, `WrongKind`).
+    /// decoder takes them: at `Trailing`, `Reserved`, `Break` and `WrongChunk`
+    /// ([proved](crate::laws::malformed_begins_nothing)). At every other fault they begin one
+    /// ([proved](crate::laws::others_begin_items)): at `Ended` more bytes may complete it, at
+    /// `WrongKind` and `NotUtf8` it isn't valid, else it isn't supported here.
     pub fn is_malformed(self) -> bool
         ensures { result ≡ is_malformed self }
     {

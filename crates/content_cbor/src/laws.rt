@@ -4,8 +4,8 @@ ghost use Rattle.content_cbor.specs.Laws.{FittingTreesAreTaken, FormsHaveItems, 
 ghost use Rattle.content_cbor.specs.Laws.{FormsStay};
 ghost use Rattle.content_cbor.specs.Laws.{HeadsAreShort, ItemsCodeForms, LimitsAreKept};
 ghost use Rattle.content_cbor.specs.Laws.{LimitsWiden, MalformedBeginsNothing};
-ghost use Rattle.content_cbor.specs.Laws.{MalformedFrontBeginsNothing, OneTree};
-ghost use Rattle.content_cbor.specs.Laws.{WholeTreesAreEncoded};
+ghost use Rattle.content_cbor.specs.Laws.{MalformedFrontBeginsNothing, OneTree, OtherFrontsBeginItems};
+ghost use Rattle.content_cbor.specs.Laws.{OthersBeginItems, WholeTreesAreEncoded};
 
 /// No bytes code two trees.
 pub fn one_tree()
@@ -34,6 +34,13 @@ pub fn limits_are_kept()
 pub fn malformed_begins_nothing()
     ensures whole { MalformedBeginsNothing }
     ensures front { MalformedFrontBeginsNothing }
+{}
+
+/// Where they refuse bytes with another fault, some bytes after those up to and with the place make
+/// them a well-formed item: so that fault is one of what is cut off, not valid or not supported.
+pub fn others_begin_items()
+    ensures whole { OthersBeginItems }
+    ensures front { OtherFrontsBeginItems }
 {}
 
 /// No head is shorter than the one that is written.

@@ -1,14 +1,12 @@
 -- What is well-formed is never refused as malformed.
-use Rattle.std.proofs.Common.{◌≡◌, ℕ, suc, zero, ◌+◌, ◌*◌, ◌<◌, ◌≤◌, pos, negsuc, Bool, true, false, cond, eqb, ltb, List, [], ◌∷◌, ◌++◌, length, take, drop, Option, Some, None, Result, Ok, Err, ◌⊎◌, refl, sym, ap, subst, ◌∙◌, append_assoc, append-nil, arith, length-append, inl, inr}
-use Rattle.std.specs.Int.{byte_len, is_in_range, to_be_bytes}
+use Rattle.std.proofs.Common.{◌≡◌, ℕ, suc, zero, ◌+◌, ◌*◌, ◌<◌, ◌≤◌, Bool, true, false, cond, eqb, ltb, List, [], ◌∷◌, ◌++◌, length, Option, Some, None, Result, Ok, Err, refl, sym, ap, subst, ◌∙◌, append_assoc, arith, inl, inr}
+use Rattle.std.specs.Int.{is_in_range, to_be_bytes}
 use Rattle.std.specs.Int.Digits.{number_from_digits_after}
 use Rattle.std.specs.List.{concat}
 use Rattle.std.proofs.lemmas.Bool.{lt-ltb, ne_eqb}
 use Rattle.std.proofs.lemmas.List.{drop_at}
-use Rattle.content_tree.specs.Values.Text.{static_name, owned_text}
-use Rattle.content_tree.specs.Values.Tree as tree
+use Rattle.content_tree.specs.Values.Text.{static_name}
 use Rattle.content_tree.specs.Values.Tree.{Tree}
-use Rattle.content_tree.specs.Values.Value.{trees_of, pairs_of}
 use Rattle.content_cbor.specs.Codes.{Size, IsHead, info_of, number_of, width_of}
 use Rattle.content_cbor.specs.Codes as size
 use Rattle.content_cbor.specs.Heads.{first_byte}
@@ -25,10 +23,10 @@ use Rattle.content_cbor.specs.declared.utf8.Lack.{Lack}
 use Rattle.content_cbor.specs.Inner.Steps.{◌>>=◌, Reader, or_refused, refused, refused_before, unless}
 use Rattle.content_cbor.specs.Inner.Numbers.{Bounds, argument_at, digits_at, size_of, unbounded}
 use Rattle.content_cbor.specs.Inner.Texts.{after_byte, tail, text_at, within}
-use Rattle.content_cbor.specs.Inner.Reading.{at_break, begins_chunk, bounds_of, bytes_at, chunk_at, chunk_bounds, chunks_at, content_at, digits_of, digits_until, each_at, first_at, head_at, head_behind}
-use Rattle.content_cbor.specs.Inner.Reading.{inside_at, is_simple, item_at, item_fault, kind_at, leaf_at, length_at, magnitude_at, magnitude_behind, pair_at, parts_at, room, simple_at, string_at, string_major, tag_at, until_at}
+use Rattle.content_cbor.specs.Inner.Reading.{at_break, bounds_of, bytes_at, chunk_at, chunk_bounds, chunks_at, content_at, digits_of, digits_until, each_at, first_at, head_at, head_behind}
+use Rattle.content_cbor.specs.Inner.Reading.{inside_at, is_simple, item_at, item_fault, kind_at, leaf_at, length_at, magnitude_at, magnitude_behind, pair_at, parts_at, room, string_at, string_major, tag_at, until_at}
 use Rattle.content_cbor.proofs.Read.Heads.{first_again, high_info, kind_again, long_info, made, size_is, spelled_back, unreserved, wide}
-use Rattle.content_cbor.proofs.Read.Strings.{begins_again, head_begins, not_simple, opening_begins}
+use Rattle.content_cbor.proofs.Read.Strings.{begins_again, head_begins, opening_begins}
 
 -- a fault of bytes that are well-formed
 abbrev pub IsPlain : Fault → Type 0
@@ -135,7 +133,7 @@ first_reads : (m : Major) (info : ℕ) (rest : List ℕ) → info ≤ 27 → fir
 first_reads m info rest low = first_again m info rest (unreserved m info low) (omega (arith, low))
 
 -- what is wrong with an item that is well-formed, if anything is
-abbrev ArePlain : Option Fault → Type 0
+abbrev pub ArePlain : Option Fault → Type 0
 ArePlain None = Unit {0}
 ArePlain (Some f) = IsPlain f
 

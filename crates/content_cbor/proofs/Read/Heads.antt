@@ -97,7 +97,7 @@ same_number size.eight (a ∷ b ∷ c ∷ d ∷ e ∷ f ∷ g ∷ h ∷ i ∷ ds
 abbrev pub Spelled : Size → ℕ → List ℕ → Type 0
 Spelled s n bs = (n < room s) × (bs ≡ to_be_bytes (width_of s) n)
 
-spelled : (s : Size) (ds : List ℕ) → length ds ≡ byte_len (width_of s) → IsBytes ds → Spelled s (number_from_digits_after 256 0 ds) ds
+pub spelled : (s : Size) (ds : List ℕ) → length ds ≡ byte_len (width_of s) → IsBytes ds → Spelled s (number_from_digits_after 256 0 ds) ds
 spelled s ds len fits =
     let same = same_number s ds len in
     subst (λ n. Spelled s n ds) (sym same) ((wide s).below ds fits, sym ((wide s).back ds len fits))
@@ -174,7 +174,7 @@ first_placed (b ∷ bs) e is =
     ]
 
 -- what is not reserved says something
-open_or_low : (info : ℕ) → info < 32 → is_in_range 28 30 info ≡ false → (info ≡ 31) ⊎ (info ≤ 27)
+pub open_or_low : (info : ℕ) → info < 32 → is_in_range 28 30 info ≡ false → (info ≡ 31) ⊎ (info ≤ 27)
 open_or_low info lt is =
     elim (cases_lt info 28) [
       | inl low ↦ inr (omega (arith, low))
@@ -277,7 +277,7 @@ Admitted bounds info n bs = Argument info n bs × (bounds.admits 0 n ≡ true)
 abbrev pub Starts : Bounds → Type 0
 Starts bounds = (s : Size) → bounds.admits (byte_len (width_of s)) 0 ≡ true
 
-which_size : (info : ℕ) → 24 ≤ info → info ≤ 27 → (s : Size) × (info ≡ info_of s)
+pub which_size : (info : ℕ) → 24 ≤ info → info ≤ 27 → (s : Size) × (info ≡ info_of s)
 which_size info low high =
     elim (cases_lt info 25) [
       | inl a ↦ (size.one, omega (arith, low, a))
@@ -391,7 +391,7 @@ pub head_is : (bounds : Bounds) (m : Major) (o : Option ℕ) (bs : List ℕ) →
 head_is bounds m None bs is = is
 head_is bounds m (Some n) bs is = is.0
 
-abbrev headed : Major → Option ℕ → Head
+abbrev pub headed : Major → Option ℕ → Head
 headed m o = record { «major» = m; number = o }
 
 -- a first byte with the number behind it

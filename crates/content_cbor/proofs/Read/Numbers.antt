@@ -86,10 +86,10 @@ abbrev pub Counts : Bounds → ℕ → ℕ → ℕ → List ℕ → Type 0
 Counts bounds due n m ds = (length ds ≡ due) × (number_from_digits_after 256 n ds ≡ m) × IsBytes ds
     × (bounds.admits due n ≡ true → bounds.admits 0 m ≡ true)
 
-no_bytes : IsBytes []
+pub no_bytes : IsBytes []
 no_bytes i = let none : get_or [] i 0 ≡ 0 = get_or_past {X = ℕ} [] i 0 (omega arith) in omega (arith, none)
 
-one_more : (b : ℕ) (bs : List ℕ) → b < 256 → IsBytes bs → IsBytes (b ∷ bs)
+pub one_more : (b : ℕ) (bs : List ℕ) → b < 256 → IsBytes bs → IsBytes (b ∷ bs)
 one_more b bs small fits zero = small
 one_more b bs small fits (suc i) = fits i
 

@@ -143,7 +143,7 @@ good_text n bs long good =
 abbrev pub LengthIs : Bool → Bounds → ℕ → List ℕ → Type 0
 LengthIs t bounds n bs = IsHead (string_major t) n bs × (bounds.admits 0 n ≡ true)
 
-begins_is : (t : Bool) (m : Major) (info : ℕ) → begins_chunk t m info ≡ true → (m ≡ string_major t) × (info < 31)
+pub begins_is : (t : Bool) (m : Major) (info : ℕ) → begins_chunk t m info ≡ true → (m ≡ string_major t) × (info < 31)
 begins_is true major.Unsigned info e = absurd cc
 begins_is true major.Negative info e = absurd cc
 begins_is true major.Bytes info e = absurd cc
@@ -170,7 +170,7 @@ first_of_chunk : (t : Bool) (m : Major) (info n : ℕ) (bs : List ℕ) → Says 
 first_of_chunk t m info n bs says same low is =
     subst (λ k. IsHead k n (first_byte m info ∷ bs)) same (numbered m n (first_byte m info ∷ bs) (first_and m info n bs says (λ e. omega (arith, low, e)) is))
 
-says_chunk : (t : Bool) (m : Major) (info : ℕ) → m ≡ string_major t → info < 32 → is_reserved m info ≡ false → Says m info
+pub says_chunk : (t : Bool) (m : Major) (info : ℕ) → m ≡ string_major t → info < 32 → is_reserved m info ≡ false → Says m info
 says_chunk t m info is lt known = says_plain m info (ap is_simple is ∙ not_simple t) lt known
 
 pub length_sound : (t : Bool) (bounds : Bounds) → Starts bounds → Sound (LengthIs t bounds) (length_at t bounds)

@@ -121,7 +121,7 @@ chunk_fits negative n bs l rest fits is =
 lengths_fair : (negative : Bool) (n : ℕ) → Fair IsByte (chunk_bounds negative n)
 lengths_fair negative n = chunk_fair (eqb n 0) (digits_behind 15 (greatest negative) n)
 
-lengths_start : (negative : Bool) (n : ℕ) → Starts (chunk_bounds negative n)
+pub lengths_start : (negative : Bool) (n : ℕ) → Starts (chunk_bounds negative n)
 lengths_start negative n = chunk_starts (eqb n 0) (digits_behind 15 (greatest negative) n)
 
 -- ---- digits in chunks

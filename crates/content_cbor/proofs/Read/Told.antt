@@ -1,11 +1,11 @@
--- What is refused as malformed begins no well-formed item.
-use Rattle.std.proofs.Common.{◌≡◌, ℕ, suc, ◌+◌, ◌-◌, ◌<◌, ◌≤◌, true, false, cond, eqb, List, [], ◌++◌, length, take, drop, Result, Ok, Err, refl, sym, ap, subst, ◌∙◌, append-nil, arith, length-append, length-drop, inl, inr}
+-- What is refused as malformed begins no well-formed item, and all else begins one.
+use Rattle.std.proofs.Common.{◌≡◌, ℕ, suc, ◌+◌, ◌-◌, ◌<◌, true, false, cond, eqb, List, [], ◌++◌, length, take, drop, Result, Ok, Err, refl, sym, ap, subst, ◌∙◌, append-nil, arith, length-append, length-drop, inl, inr}
 use Rattle.std.proofs.lemmas.Bool.{cases_lt, eqb-false}
-use Rattle.std.proofs.lemmas.List.{take-append-drop}
+use Rattle.std.proofs.lemmas.List.{nil_from_length, take-append-drop, take_all, take_at}
 use Rattle.content_tree.specs.Values.Tree.{Tree}
 use Rattle.content_cbor.specs.Decoded.{StopsAt}
 use Rattle.content_cbor.specs.Malformed.{is_malformed}
-use Rattle.content_cbor.specs.WellFormed.{BeginsWellFormed}
+use Rattle.content_cbor.specs.WellFormed.{BeginsWellFormed, WellFormed}
 use Rattle.content_cbor.specs.declared.decode_error.DecodeError.TheVariants as error
 use Rattle.content_cbor.specs.declared.decode_error.Fault.{Fault}
 use Rattle.content_cbor.specs.declared.decode_error.Fault.TheVariants as fault
@@ -14,10 +14,13 @@ use Rattle.content_cbor.specs.Inner.Steps.{refused}
 use Rattle.content_cbor.specs.Inner.Reading.{item_at, whole_at}
 use Rattle.content_cbor.proofs.Read.Ends.{IsEnd}
 use Rattle.content_cbor.proofs.Read.Formed.{Passes, judges_item}
+use Rattle.content_cbor.proofs.Read.Grows.{same_fault, true_false}
+use Rattle.content_cbor.proofs.Read.GrowsItems.{item_grown}
 use Rattle.content_cbor.proofs.Read.Longer.{Agrees, later, longer_item}
 use Rattle.content_cbor.proofs.Read.Place.{caught, inside, left_within, read_both, still_refused}
-use Rattle.content_cbor.proofs.Read.Shrinks.{Smaller, advances_item, shorter}
+use Rattle.content_cbor.proofs.Read.Shrinks.{advances_item, shorter}
 use Rattle.content_cbor.proofs.Read.Steps.{bind_err, chosen, ok_is, same_left}
+use Rattle.content_cbor.proofs.Read.Took.{IsBytes}
 
 -- what is malformed has not ended
 positive : (e : Refusal) → IsEnd e → is_malformed e.«fault» ≡ true → 0 < e.left
@@ -89,9 +92,46 @@ whole_not_formed limit bs e at is bad place begins =
       ]
     ]
 
+-- ---- what is not malformed
+
+item_begins : (limit : ℕ) (bs : List ℕ) (e : Refusal) (at : ℕ) → IsBytes bs → item_at limit bs ≡ Err e → is_malformed e.«fault» ≡ false → at ≡ length bs - e.left
+    → BeginsWellFormed (take (at + 1) bs)
+item_begins limit bs e at fits is plain place =
+    let b = item_grown limit bs e fits is plain in
+    let long = ap length b.split in
+    let parts = length-append b.front b.behind in
+    let same : take (at + 1) bs ≡ b.front =
+    elim (cases_lt 0 e.left) [
+      | inl some ↦
+          let front : length b.front ≡ at + 1 = omega (arith, some, place, left_within limit bs e is, long, parts, b.last) in
+          ap (take (at + 1)) b.split ∙ take_at b.front b.behind (at + 1) front
+      | inr none ↦
+          let nothing : b.behind ≡ [] = nil_from_length b.behind (omega (arith, none, b.last)) in
+          take_all (at + 1) bs (omega (arith, place, none)) ∙ b.split ∙ ap (λ t. b.front ++ t) nothing ∙ append-nil b.front
+    ] in
+    (suc (suc limit), b.opens.0, subst (λ t. WellFormed (suc (suc limit)) (t ++ b.opens.0)) (sym same) b.opens.1)
+
+whole_begins : (limit : ℕ) (bs : List ℕ) (e : Refusal) (at : ℕ) → IsBytes bs → whole_at limit bs ≡ Err e → is_malformed e.«fault» ≡ false → at ≡ length bs - e.left
+    → BeginsWellFormed (take (at + 1) bs)
+unfolding whole_at
+whole_begins limit bs e at fits is plain place =
+    elim (bind_err (item_at limit bs) (λ x. cond (eqb (length x.1) 0) (Ok x.0) (refused fault.Trailing x.1)) e is) [
+      | inl w ↦ item_begins limit bs e at fits w plain place
+      | inr a ↦ elim (chosen (eqb (length a.0.1) 0) (Ok a.0.0) (refused fault.Trailing a.0.1) (Err e) a.2) [
+        | inl w ↦ absurd cc
+        | inr w ↦ absurd (true_false (same_fault {A = Tree} (record { «fault» = fault.Trailing; left = length a.0.1 }) e w.1 plain))
+      ]
+    ]
+
 -- the same of an answer's fault and place
 pub told_front : (limit : ℕ) (bs : List ℕ) (at : ℕ) (f : Fault) → StopsAt bs (error.Refused at f) (item_at limit bs) → is_malformed f ≡ true → BeginsWellFormed (take (at + 1) bs) → ⊥
 told_front limit bs at f stops bad begins = not_formed limit bs (record { «fault» = f; left = stops.0 }) at stops.1 bad stops.2 begins
 
 pub told_whole : (limit : ℕ) (bs : List ℕ) (at : ℕ) (f : Fault) → StopsAt bs (error.Refused at f) (whole_at limit bs) → is_malformed f ≡ true → BeginsWellFormed (take (at + 1) bs) → ⊥
 told_whole limit bs at f stops bad begins = whole_not_formed limit bs (record { «fault» = f; left = stops.0 }) at stops.1 bad stops.2 begins
+
+pub begun_front : (limit : ℕ) (bs : List ℕ) (at : ℕ) (f : Fault) → IsBytes bs → StopsAt bs (error.Refused at f) (item_at limit bs) → is_malformed f ≡ false → BeginsWellFormed (take (at + 1) bs)
+begun_front limit bs at f fits stops plain = item_begins limit bs (record { «fault» = f; left = stops.0 }) at fits stops.1 plain stops.2
+
+pub begun_whole : (limit : ℕ) (bs : List ℕ) (at : ℕ) (f : Fault) → IsBytes bs → StopsAt bs (error.Refused at f) (whole_at limit bs) → is_malformed f ≡ false → BeginsWellFormed (take (at + 1) bs)
+begun_whole limit bs at f fits stops plain = whole_begins limit bs (record { «fault» = f; left = stops.0 }) at fits stops.1 plain stops.2
