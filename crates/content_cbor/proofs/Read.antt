@@ -23,3 +23,4 @@ pub mod Fills
 pub mod Grows
 pub mod GrowsItems
 pub mod Told
+pub mod Fits

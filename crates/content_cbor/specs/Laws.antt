@@ -1,5 +1,5 @@
 -- What holds of all items.
-use Rattle.std.specs.Prelude.{◌≡◌, ◌<◌, ◌≤◌, ◌+◌, ℕ, List, [], get_or, length, take, None, Some, false, true}
+use Rattle.std.specs.Prelude.{◌≡◌, ◌<◌, ◌≤◌, ◌+◌, ℕ, List, [], drop, get_or, length, take, None, Some, false, true}
 use Rattle.content_tree.specs.Values.Tree.{Tree}
 use Rattle.content_ser.specs.Calls.Event.{Event}
 use Rattle.content_ser.specs.Grammar.Spells.{SpellsWhole}
@@ -9,6 +9,7 @@ use Rattle.content_ser.specs.Serializers.Step.{run}
 use Rattle.content_cbor.specs.Codes.{Codes, IsHead}
 use Rattle.content_cbor.specs.Decoded.{StopsAt}
 use Rattle.content_cbor.specs.Encoder.{Written, nothing, step}
+use Rattle.content_cbor.specs.FaultBytes.{FitsBytes}
 use Rattle.content_cbor.specs.Form.{form, depth, CodesForm, Fits}
 use Rattle.content_cbor.specs.Heads.{head}
 use Rattle.content_cbor.specs.Inner.Reading.{item_at, whole_at}
@@ -65,6 +66,16 @@ abbrev pub OtherFrontsBeginItems : Type 0
 OtherFrontsBeginItems = (limit : ℕ) (bytes : List ℕ) (at : ℕ) (f : Fault) → AreBytes bytes
     → is_malformed f ≡ false → StopsAt bytes (error.Refused at f) (item_at limit bytes)
     → BeginsWellFormed (take (at + 1) bytes)
+
+-- a fault of decoding is one of the byte at its place, whatever was read before it
+abbrev pub FaultsFitBytes : Type 0
+FaultsFitBytes = (limit : ℕ) (bytes : List ℕ) (at : ℕ) (f : Fault) → AreBytes bytes
+    → StopsAt bytes (error.Refused at f) (whole_at limit bytes) → FitsBytes f (drop at bytes)
+
+-- the same of the item at their front
+abbrev pub FrontFaultsFitBytes : Type 0
+FrontFaultsFitBytes = (limit : ℕ) (bytes : List ℕ) (at : ℕ) (f : Fault) → AreBytes bytes
+    → StopsAt bytes (error.Refused at f) (item_at limit bytes) → FitsBytes f (drop at bytes)
 
 -- no head is shorter than the one that is written
 abbrev pub HeadsAreShort : Type 0

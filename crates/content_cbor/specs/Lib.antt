@@ -6,6 +6,7 @@ pub mod Encoder
 pub mod Codes
 pub mod WellFormed
 pub mod Malformed
+pub mod FaultBytes
 pub mod Form
 pub mod Laws
 pub mod Inner

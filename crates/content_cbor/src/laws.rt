@@ -1,7 +1,7 @@
 //! What holds of all data items, for those who prove something of what they encode and decode.
 
-ghost use Rattle.content_cbor.specs.Laws.{FittingTreesAreTaken, FormsHaveItems, FormsKeepLimits};
-ghost use Rattle.content_cbor.specs.Laws.{FormsStay};
+ghost use Rattle.content_cbor.specs.Laws.{FaultsFitBytes, FittingTreesAreTaken, FormsHaveItems};
+ghost use Rattle.content_cbor.specs.Laws.{FormsKeepLimits, FormsStay, FrontFaultsFitBytes};
 ghost use Rattle.content_cbor.specs.Laws.{HeadsAreShort, ItemsCodeForms, LimitsAreKept};
 ghost use Rattle.content_cbor.specs.Laws.{LimitsWiden, MalformedBeginsNothing};
 ghost use Rattle.content_cbor.specs.Laws.{MalformedFrontBeginsNothing, OneTree, OtherFrontsBeginItems};
@@ -41,6 +41,15 @@ pub fn malformed_begins_nothing()
 pub fn others_begin_items()
     ensures whole { OthersBeginItems }
     ensures front { OtherFrontsBeginItems }
+{}
+
+/// The fault with which they refuse bytes is one of the byte at the place, whatever was read before
+/// it: `Reserved` of a first byte without a meaning, `Break` of `ff`, `Float` of `f9` to `fb`,
+/// `Simple` of another from `e0` on, `WrongChunk` and `WrongKind` of one that begins an item. It is
+/// `Ended` exactly where no byte is there.
+pub fn faults_fit_bytes()
+    ensures whole { FaultsFitBytes }
+    ensures front { FrontFaultsFitBytes }
 {}
 
 /// No head is shorter than the one that is written.

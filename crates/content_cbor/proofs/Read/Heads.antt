@@ -135,7 +135,7 @@ major_back m info lt = ap major_of (top_of m info lt) ∙ bits_of m
 code_back : (q : ℕ) → q < 8 → code (major_of q) ≡ q
 code_back q lt = grind arith
 
-byte_back : (b : ℕ) → b < 256 → b ≡ first_byte (major_of (b / 32)) (b % 32)
+pub byte_back : (b : ℕ) → b < 256 → b ≡ first_byte (major_of (b / 32)) (b % 32)
 byte_back b lt =
     let e : code (major_of (b / 32)) ≡ b / 32 = code_back (b / 32) (omega (arith, lt)) in
     rw e (omega arith)
