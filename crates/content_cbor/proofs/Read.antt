@@ -24,3 +24,4 @@ pub mod Grows
 pub mod GrowsItems
 pub mod Told
 pub mod Fits
+pub mod Wider

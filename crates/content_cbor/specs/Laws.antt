@@ -18,6 +18,7 @@ use Rattle.content_cbor.specs.Malformed.{is_malformed}
 use Rattle.content_cbor.specs.WellFormed.{BeginsWellFormed}
 use Rattle.content_cbor.specs.declared.decode_error.DecodeError.TheVariants as error
 use Rattle.content_cbor.specs.declared.decode_error.Fault.{Fault}
+use Rattle.content_cbor.specs.declared.decode_error.Fault.TheVariants as fault
 use Rattle.content_cbor.specs.declared.heads.Major.{Major}
 
 -- no bytes code two trees
@@ -43,13 +44,15 @@ FormsKeepLimits = (limit : ℕ) (bytes : List ℕ) (t : Tree) → Codes limit t 
 
 -- bytes that decoding refuses as malformed begin no well-formed item, up to and with the place
 abbrev pub MalformedBeginsNothing : Type 0
-MalformedBeginsNothing = (limit : ℕ) (bytes : List ℕ) (at : ℕ) (f : Fault) → is_malformed f ≡ true
-    → StopsAt bytes (error.Refused at f) (whole_at limit bytes) → ¬ BeginsWellFormed (take (at + 1) bytes)
+MalformedBeginsNothing = (limit : ℕ) (bytes : List ℕ) (at : ℕ) (f : Fault)
+    → is_malformed f ≡ true → StopsAt bytes (error.Refused at f) (whole_at limit bytes)
+    → ¬ BeginsWellFormed (take (at + 1) bytes)
 
 -- the same of the item at their front
 abbrev pub MalformedFrontBeginsNothing : Type 0
-MalformedFrontBeginsNothing = (limit : ℕ) (bytes : List ℕ) (at : ℕ) (f : Fault) → is_malformed f ≡ true
-    → StopsAt bytes (error.Refused at f) (item_at limit bytes) → ¬ BeginsWellFormed (take (at + 1) bytes)
+MalformedFrontBeginsNothing = (limit : ℕ) (bytes : List ℕ) (at : ℕ) (f : Fault)
+    → is_malformed f ≡ true → StopsAt bytes (error.Refused at f) (item_at limit bytes)
+    → ¬ BeginsWellFormed (take (at + 1) bytes)
 
 -- numbers that are bytes
 abbrev pub AreBytes : List ℕ → Type 0
@@ -76,6 +79,19 @@ FaultsFitBytes = (limit : ℕ) (bytes : List ℕ) (at : ℕ) (f : Fault) → Are
 abbrev pub FrontFaultsFitBytes : Type 0
 FrontFaultsFitBytes = (limit : ℕ) (bytes : List ℕ) (at : ℕ) (f : Fault) → AreBytes bytes
     → StopsAt bytes (error.Refused at f) (item_at limit bytes) → FitsBytes f (drop at bytes)
+
+-- within a greater limit bytes are refused alike, unless they nested too deep
+abbrev pub OnlyDepthIsLimited : Type 0
+OnlyDepthIsLimited = (limit greater : ℕ) (bytes : List ℕ) (at : ℕ) (f : Fault) → limit ≤ greater
+    → ¬ (f ≡ fault.TooDeep) → StopsAt bytes (error.Refused at f) (whole_at limit bytes)
+    → StopsAt bytes (error.Refused at f) (whole_at greater bytes)
+
+-- the same of the item at their front
+abbrev pub OnlyFrontDepthIsLimited : Type 0
+OnlyFrontDepthIsLimited = (limit greater : ℕ) (bytes : List ℕ) (at : ℕ) (f : Fault)
+    → limit ≤ greater → ¬ (f ≡ fault.TooDeep)
+    → StopsAt bytes (error.Refused at f) (item_at limit bytes)
+    → StopsAt bytes (error.Refused at f) (item_at greater bytes)
 
 -- no head is shorter than the one that is written
 abbrev pub HeadsAreShort : Type 0

@@ -167,6 +167,7 @@ fn read_leaf<'de>(
             Ok((Value::Number(number), rest))
         }
         (Major::Simple, Some(number)) => Ok(read_simple(number, bytes)?),
+        // A head that was read is none of these.
         (Major::Simple, None) => Err(Stop::Refused(stop_before(Fault::Break, bytes))),
         _ => Err(Stop::Refused(stop_before(Fault::Reserved, bytes))),
     }
