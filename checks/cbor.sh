@@ -3,8 +3,8 @@
 # with longer heads, chunks and indefinite lengths, and compares what cbor_cli prints of each, the value and its
 # shortest coding, with what cbor2 says. Then it makes 10,000 random trees as lines of calls, and compares the bytes
 # that cbor_cli writes of each with those that cbor2 writes. Last it makes 20,000 lines, half of them the values above
-# damaged and half random bytes, and compares whether and where cbor_cli refuses each with what a scanner in Python
-# says. It stands outside the gate, on what `rt ci` leaves in crates/cbor_cli/out, and takes seconds.
+# damaged and half random bytes, and compares whether, where and why cbor_cli refuses each with what a scanner in
+# Python says. It stands outside the gate, on what `rt ci` leaves in crates/cbor_cli/out, and takes seconds.
 set -eu
 top=$(cd "$(dirname "$0")/.." && pwd)
 room=$(mktemp -d)

@@ -18,3 +18,10 @@ pub mod Memory
 pub mod Bytewise
 pub mod Ends
 pub mod Place
+pub mod Formed
+pub mod Fills
+pub mod Grows
+pub mod GrowsItems
+pub mod Told
+pub mod Fits
+pub mod Wider

@@ -1,5 +1,5 @@
 -- What holds of all items.
-use Rattle.std.specs.Prelude.{◌≡◌, ◌≤◌, ℕ, List, [], length, None, Some}
+use Rattle.std.specs.Prelude.{◌≡◌, ◌<◌, ◌≤◌, ◌+◌, ℕ, List, [], drop, get_or, length, take, None, Some, false, true}
 use Rattle.content_tree.specs.Values.Tree.{Tree}
 use Rattle.content_ser.specs.Calls.Event.{Event}
 use Rattle.content_ser.specs.Grammar.Spells.{SpellsWhole}
@@ -7,10 +7,18 @@ use Rattle.content_ser.specs.Scripts.Script.{calls_of, stop_of}
 use Rattle.content_ser.specs.Sending.TreeScript.{script_of}
 use Rattle.content_ser.specs.Serializers.Step.{run}
 use Rattle.content_cbor.specs.Codes.{Codes, IsHead}
+use Rattle.content_cbor.specs.Decoded.{StopsAt}
 use Rattle.content_cbor.specs.Encoder.{Written, nothing, step}
+use Rattle.content_cbor.specs.FaultBytes.{FitsBytes}
 use Rattle.content_cbor.specs.Form.{form, depth, CodesForm, Fits}
 use Rattle.content_cbor.specs.Heads.{head}
+use Rattle.content_cbor.specs.Inner.Reading.{item_at, whole_at}
 use Rattle.content_cbor.specs.Item.{item}
+use Rattle.content_cbor.specs.Malformed.{is_malformed}
+use Rattle.content_cbor.specs.WellFormed.{BeginsWellFormed}
+use Rattle.content_cbor.specs.declared.decode_error.DecodeError.TheVariants as error
+use Rattle.content_cbor.specs.declared.decode_error.Fault.{Fault}
+use Rattle.content_cbor.specs.declared.decode_error.Fault.TheVariants as fault
 use Rattle.content_cbor.specs.declared.heads.Major.{Major}
 
 -- no bytes code two trees
@@ -33,6 +41,57 @@ LimitsWiden = (limit greater : ℕ) (bytes : List ℕ) (t : Tree) → limit ≤ 
 -- the form of what bytes code within a limit keeps the limit too
 abbrev pub FormsKeepLimits : Type 0
 FormsKeepLimits = (limit : ℕ) (bytes : List ℕ) (t : Tree) → Codes limit t bytes → depth (form t) ≤ limit
+
+-- bytes that decoding refuses as malformed begin no well-formed item, up to and with the place
+abbrev pub MalformedBeginsNothing : Type 0
+MalformedBeginsNothing = (limit : ℕ) (bytes : List ℕ) (at : ℕ) (f : Fault)
+    → is_malformed f ≡ true → StopsAt bytes (error.Refused at f) (whole_at limit bytes)
+    → ¬ BeginsWellFormed (take (at + 1) bytes)
+
+-- the same of the item at their front
+abbrev pub MalformedFrontBeginsNothing : Type 0
+MalformedFrontBeginsNothing = (limit : ℕ) (bytes : List ℕ) (at : ℕ) (f : Fault)
+    → is_malformed f ≡ true → StopsAt bytes (error.Refused at f) (item_at limit bytes)
+    → ¬ BeginsWellFormed (take (at + 1) bytes)
+
+-- numbers that are bytes
+abbrev pub AreBytes : List ℕ → Type 0
+AreBytes bytes = (i : ℕ) → get_or bytes i 0 < 256
+
+-- bytes that decoding refuses otherwise begin a well-formed item, up to and with the place
+abbrev pub OthersBeginItems : Type 0
+OthersBeginItems = (limit : ℕ) (bytes : List ℕ) (at : ℕ) (f : Fault) → AreBytes bytes
+    → is_malformed f ≡ false → StopsAt bytes (error.Refused at f) (whole_at limit bytes)
+    → BeginsWellFormed (take (at + 1) bytes)
+
+-- the same of the item at their front
+abbrev pub OtherFrontsBeginItems : Type 0
+OtherFrontsBeginItems = (limit : ℕ) (bytes : List ℕ) (at : ℕ) (f : Fault) → AreBytes bytes
+    → is_malformed f ≡ false → StopsAt bytes (error.Refused at f) (item_at limit bytes)
+    → BeginsWellFormed (take (at + 1) bytes)
+
+-- a fault of decoding is one of the byte at its place, whatever was read before it
+abbrev pub FaultsFitBytes : Type 0
+FaultsFitBytes = (limit : ℕ) (bytes : List ℕ) (at : ℕ) (f : Fault) → AreBytes bytes
+    → StopsAt bytes (error.Refused at f) (whole_at limit bytes) → FitsBytes f (drop at bytes)
+
+-- the same of the item at their front
+abbrev pub FrontFaultsFitBytes : Type 0
+FrontFaultsFitBytes = (limit : ℕ) (bytes : List ℕ) (at : ℕ) (f : Fault) → AreBytes bytes
+    → StopsAt bytes (error.Refused at f) (item_at limit bytes) → FitsBytes f (drop at bytes)
+
+-- within a greater limit bytes are refused alike, unless they nested too deep
+abbrev pub OnlyDepthIsLimited : Type 0
+OnlyDepthIsLimited = (limit greater : ℕ) (bytes : List ℕ) (at : ℕ) (f : Fault) → limit ≤ greater
+    → ¬ (f ≡ fault.TooDeep) → StopsAt bytes (error.Refused at f) (whole_at limit bytes)
+    → StopsAt bytes (error.Refused at f) (whole_at greater bytes)
+
+-- the same of the item at their front
+abbrev pub OnlyFrontDepthIsLimited : Type 0
+OnlyFrontDepthIsLimited = (limit greater : ℕ) (bytes : List ℕ) (at : ℕ) (f : Fault)
+    → limit ≤ greater → ¬ (f ≡ fault.TooDeep)
+    → StopsAt bytes (error.Refused at f) (item_at limit bytes)
+    → StopsAt bytes (error.Refused at f) (item_at greater bytes)
 
 -- no head is shorter than the one that is written
 abbrev pub HeadsAreShort : Type 0

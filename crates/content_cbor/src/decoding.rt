@@ -15,7 +15,7 @@ ghost use Rattle.content_cbor.specs.Inner.Reading.{each_at, item_at, leaf_at, pa
 ghost use Rattle.content_cbor.specs.Inner.Reading.{simple_at, until_at, whole_at};
 
 use crate::decode_error::{DecodeError, Fault};
-use crate::heads::{Head, Major, after_break, read_head};
+use crate::heads::{Head, Major, after_break, read_head, read_kind};
 use crate::numbers::{from_negative, from_unsigned, read_tag};
 use crate::stop::{Refusal, Stop, stop_at, stop_before};
 use crate::strings::{read_byte_string, read_text_string};
@@ -167,6 +167,7 @@ fn read_leaf<'de>(
             Ok((Value::Number(number), rest))
         }
         (Major::Simple, Some(number)) => Ok(read_simple(number, bytes)?),
+        // A head that was read is none of these.
         (Major::Simple, None) => Err(Stop::Refused(stop_before(Fault::Break, bytes))),
         _ => Err(Stop::Refused(stop_before(Fault::Reserved, bytes))),
     }
@@ -186,12 +187,8 @@ fn read_item<'de>(
         → item_at limit bytes.now ≡ Ok (t, rest) → takes_memory t ≡ true }
 {
     if limit == 0 {
-        let fault = if bytes.len() == 0 {
-            Fault::Ended
-        } else {
-            Fault::TooDeep
-        };
-        return Err(Stop::Refused(stop_at(fault, bytes)));
+        read_kind(bytes)?;
+        return Err(Stop::Refused(stop_at(Fault::TooDeep, bytes)));
     }
     let (head, rest) = read_head(limit - 1, bytes)?;
     match head.major {

@@ -8,7 +8,8 @@ ghost use Rattle.content_cbor.specs.Inner.Steps.{Finds};
 ghost use Rattle.content_cbor.specs.Inner.Numbers.{argument_at, between, bounds_in, digits_at};
 ghost use Rattle.content_cbor.specs.Inner.Numbers.{size_of, unbounded};
 ghost use Rattle.content_cbor.specs.Inner.Reading.{at_break, bounds_of, first_at, head_at};
-ghost use Rattle.content_cbor.specs.Inner.Reading.{head_behind, major_of};
+ghost use Rattle.content_cbor.specs.Inner.Reading.{head_behind, is_reserved, item_fault, kind_at};
+ghost use Rattle.content_cbor.specs.Inner.Reading.{major_of};
 
 use crate::decode_error::Fault;
 use crate::digits::{Range, read_digits};
@@ -172,6 +173,17 @@ fn read_u64(bytes: &[u8]) -> Result<(u64, &[u8]), Refusal>
     Ok((number, rest))
 }
 
+/// Whether RFC 8949 gives no meaning to a first byte.
+#[inline(always)]
+fn is_reserved(major: Major, info: u8) -> bool
+    ensures { result ≡ is_reserved major info }
+{
+    match major {
+        Major::Unsigned | Major::Negative | Major::Tag => 27 < info,
+        _ => 28 <= info && info <= 30,
+    }
+}
+
 /// The first byte of a head, and the bytes after it.
 #[inline(always)]
 #[tactic(auto, unfolding(crate::specs::Inner::Reading::first_at))]
@@ -183,20 +195,43 @@ pub(crate) fn read_first(bytes: &[u8]) -> Result<(First, &[u8]), Refusal>
     };
     let info = *first % 32;
     let major = Major::of(*first / 32);
-    if 24 <= info && info < 31 {
-        if 27 < info {
-            return Err(stop_at(Fault::Reserved, bytes));
-        }
-        if matches!(major, Major::Simple) {
-            let fault = if info == 24 {
-                Fault::Simple
-            } else {
-                Fault::Float
-            };
-            return Err(stop_at(fault, bytes));
-        }
+    if is_reserved(major, info) {
+        return Err(stop_at(Fault::Reserved, bytes));
     }
     Ok((First { major, info }, rest))
+}
+
+/// What is wrong with an item that begins so, whatever the limit.
+#[inline(always)]
+fn item_fault(first: First) -> Option<Fault>
+    ensures { result ≡ item_fault first.«major» first.info }
+{
+    match first.major {
+        Major::Simple => match first.info {
+            31 => Some(Fault::Break),
+            25..=27 => Some(Fault::Float),
+            20..=22 => None,
+            _ => Some(Fault::Simple),
+        },
+        Major::Tag => match first.info {
+            24..=u8::MAX | 2..=3 => None,
+            _ => Some(Fault::Tag),
+        },
+        _ => None,
+    }
+}
+
+/// The first byte of an item, whatever the limit, and the bytes after it.
+#[inline(always)]
+#[tactic(auto, unfolding(crate::specs::Inner::Reading::kind_at))]
+pub(crate) fn read_kind(bytes: &[u8]) -> Result<(First, &[u8]), Refusal>
+    ensures { Finds (λ x. (x.0, x.1.now)) result (kind_at bytes.now) }
+{
+    let (first, rest) = read_first(bytes)?;
+    match item_fault(first) {
+        Some(fault) => Err(stop_at(fault, bytes)),
+        None => Ok((first, rest)),
+    }
 }
 
 /// The number of a head, in its first byte or after it.
@@ -335,7 +370,7 @@ fn read_bounded_head(limit: usize, first: First, bytes: &[u8]) -> Result<(Head, 
 pub(crate) fn read_head(limit: usize, bytes: &[u8]) -> Result<(Head, &[u8]), Refusal>
     ensures { Finds (λ x. (x.0, x.1.now)) result (head_at limit bytes.now) }
 {
-    let (first, rest) = read_first(bytes)?;
+    let (first, rest) = read_kind(bytes)?;
     if limit == 0 || matches!(first.major, Major::Tag) {
         read_bounded_head(limit, first, rest)
     } else {

@@ -1,9 +1,13 @@
 //! What holds of all data items, for those who prove something of what they encode and decode.
 
-ghost use Rattle.content_cbor.specs.Laws.{FittingTreesAreTaken, FormsHaveItems, FormsKeepLimits};
-ghost use Rattle.content_cbor.specs.Laws.{FormsStay};
+ghost use Rattle.content_cbor.specs.Laws.{FaultsFitBytes, FittingTreesAreTaken, FormsHaveItems};
+ghost use Rattle.content_cbor.specs.Laws.{FormsKeepLimits, FormsStay, FrontFaultsFitBytes};
 ghost use Rattle.content_cbor.specs.Laws.{HeadsAreShort, ItemsCodeForms, LimitsAreKept};
-ghost use Rattle.content_cbor.specs.Laws.{LimitsWiden, OneTree, WholeTreesAreEncoded};
+ghost use Rattle.content_cbor.specs.Laws.{LimitsWiden, MalformedBeginsNothing};
+ghost use Rattle.content_cbor.specs.Laws.{MalformedFrontBeginsNothing, OneTree};
+ghost use Rattle.content_cbor.specs.Laws.{OnlyDepthIsLimited, OnlyFrontDepthIsLimited};
+ghost use Rattle.content_cbor.specs.Laws.{OtherFrontsBeginItems, OthersBeginItems};
+ghost use Rattle.content_cbor.specs.Laws.{WholeTreesAreEncoded};
 
 /// No bytes code two trees.
 pub fn one_tree()
@@ -24,6 +28,38 @@ pub fn limits_are_kept()
     ensures kept { LimitsAreKept }
     ensures form { FormsKeepLimits }
     ensures widened { LimitsWiden }
+{}
+
+/// Where [`decode`](crate::decode) or [`decode_prefix`](crate::decode_prefix) refuses bytes with a
+/// fault that [`is_malformed`](crate::Fault::is_malformed), no bytes after those up to and with the
+/// place make them a well-formed item: of any kind, with any tag, however deep.
+pub fn malformed_begins_nothing()
+    ensures whole { MalformedBeginsNothing }
+    ensures front { MalformedFrontBeginsNothing }
+{}
+
+/// Where `decode` or `decode_prefix` refuses bytes with another fault, some bytes after those up to
+/// and with the place make them a well-formed item: they were cut off, or the item isn't valid or
+/// isn't supported.
+pub fn others_begin_items()
+    ensures whole { OthersBeginItems }
+    ensures front { OtherFrontsBeginItems }
+{}
+
+/// The fault with which `decode` or `decode_prefix` refuses bytes fits the byte at the place,
+/// whatever was read before it: `Reserved` a first byte without a meaning, `Break` `ff`, `Float`
+/// `f9` to `fb`, `Simple` `e0` to `f3`, `f7` and `f8`, `WrongChunk` and `WrongKind` one that begins
+/// an item. It is `Ended` exactly where no byte is there.
+pub fn faults_fit_bytes()
+    ensures whole { FaultsFitBytes }
+    ensures front { FrontFaultsFitBytes }
+{}
+
+/// Within a greater limit `decode` and `decode_prefix` refuse bytes with the same fault at the same
+/// place, unless it was `TooDeep`: so a greater limit helps at no other fault.
+pub fn only_depth_is_limited()
+    ensures whole { OnlyDepthIsLimited }
+    ensures front { OnlyFrontDepthIsLimited }
 {}
 
 /// No head is shorter than the one that is written.

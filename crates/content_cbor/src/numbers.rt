@@ -128,8 +128,10 @@ fn read_magnitude(is_negative: bool, bytes: &[u8]) -> Result<(u128, &[u8]), Refu
     ensures room { IfOk result (λ x. x.0 ≤ greatest is_negative) }
 {
     let (first, rest) = read_first(bytes)?;
-    if !matches!(first.major, Major::Bytes) {
-        return Err(stop_at(Fault::WrongKind, bytes));
+    match (first.major, first.info) {
+        (Major::Bytes, _) => {}
+        (Major::Simple, 31) => return Err(stop_at(Fault::Break, bytes)),
+        _ => return Err(stop_at(Fault::WrongKind, bytes)),
     }
     let (head, rest) = read_head_behind(first, rest)?;
     read_digits_behind(is_negative, head.number, rest)

@@ -70,7 +70,7 @@ pub(crate) fn read_length(
     if begins_chunk(is_text, first) {
         read_argument(range, first.info, rest)
     } else {
-        Err(stop_at(Fault::WrongKind, bytes))
+        Err(stop_at(Fault::WrongChunk, bytes))
     }
 }
 

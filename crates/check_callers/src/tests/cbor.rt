@@ -2,10 +2,11 @@
 //! serialised, and characters past ASCII, whose bytes RFC 8949 gives in its appendix A.
 
 use content_cbor::{
-    decode, decode_prefix, encode, encode_array, from_bytes, read_back, round_trip, to_bytes,
-    write_and_read_back,
+    DecodeError, decode, decode_prefix, encode, encode_array, from_bytes, read_back, round_trip,
+    to_bytes, write_and_read_back,
 };
 use serde_content::Value;
+use std::alloc::Global;
 use std::collections::BTreeMap;
 use std::test::Fail;
 
@@ -92,6 +93,36 @@ fn other_bytes_are_no_typed_data(rt: HostRuntime) -> Result<(), Fail> {
             assert!(rt; text.as_str() == "refused at byte 0: a float");
         }
     }
+    Ok(())
+}
+
+/// Whether the fault is malformed with which bytes are refused within the limit 1, if they are.
+fn malformed(alloc: Global, bytes: &[u8]) -> Option<bool> {
+    match decode(alloc, bytes, 1) {
+        Err(DecodeError::Refused { fault, .. }) => Some(fault.is_malformed()),
+        _ => None,
+    }
+}
+
+#[test]
+fn malformed_bytes_are_told_apart(rt: HostRuntime) -> Result<(), Fail> {
+    let alloc = rt.alloc();
+
+    // A first byte without meaning, a break alone, an item that is no chunk, a second item.
+    assert!(rt; malformed(alloc, &[0x1c]) == Some(true));
+    assert!(rt; malformed(alloc, &[0xff]) == Some(true));
+    assert!(rt; malformed(alloc, &[0x5f, 0x00]) == Some(true));
+    assert!(rt; malformed(alloc, &[0x00, 0x00]) == Some(true));
+
+    // What can still become an item; a float, a simple value, tags, depth, a large number, a text.
+    assert!(rt; malformed(alloc, &[0x18]) == Some(false));
+    assert!(rt; malformed(alloc, &[0xf9]) == Some(false));
+    assert!(rt; malformed(alloc, &[0xf8, 0x20]) == Some(false));
+    assert!(rt; malformed(alloc, &[0xc1, 0x00]) == Some(false));
+    assert!(rt; malformed(alloc, &[0xc2, 0x00]) == Some(false));
+    assert!(rt; malformed(alloc, &[0x81, 0x00]) == Some(false));
+    assert!(rt; malformed(alloc, &[0xc2, 0x51, 0x01]) == Some(false));
+    assert!(rt; malformed(alloc, &[0x61, 0xff]) == Some(false));
     Ok(())
 }
 

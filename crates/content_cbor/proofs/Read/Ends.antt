@@ -1,6 +1,7 @@
 -- Readers refuse at the end of the bytes exactly what has ended.
 use Rattle.std.proofs.Common.{◌≡◌, ℕ, suc, zero, ◌+◌, ◌*◌, ◌/◌, ◌%◌, Bool, true, false, cond, eqb, ltb, List, [], ◌∷◌, length, Option, Some, None, Result, Ok, Err, refl}
 use Rattle.std.specs.Prelude.{◌↔◌}
+use Rattle.std.specs.Int.{is_in_range}
 use Rattle.std.specs.List.{concat}
 use Rattle.content_tree.specs.Values.Tree.{Tree}
 use Rattle.content_cbor.specs.declared.decode_error.Fault.{Fault}
@@ -9,12 +10,12 @@ use Rattle.content_cbor.specs.declared.heads.First.{First}
 use Rattle.content_cbor.specs.declared.heads.Major.{Major}
 use Rattle.content_cbor.specs.declared.heads.Major.TheVariants as major
 use Rattle.content_cbor.specs.declared.stop.Refusal.{Refusal}
-use Rattle.content_cbor.specs.Inner.Steps.{◌>>=◌, Reader, or_refused, refused}
+use Rattle.content_cbor.specs.Inner.Steps.{◌>>=◌, Reader, or_refused, refused, unless}
 use Rattle.content_cbor.specs.Inner.Numbers.{Bounds, argument_at, digits_at, size_of, unbounded}
 use Rattle.content_cbor.specs.declared.utf8.Lack.{Lack}
 use Rattle.content_cbor.specs.Inner.Texts.{after_byte, text_at, within}
 use Rattle.content_cbor.specs.Inner.Reading.{begins_chunk, bounds_of, chunk_at, chunk_bounds, chunks_at, content_at, digits_of, digits_until, each_at, first_at, head_at, head_behind}
-use Rattle.content_cbor.specs.Inner.Reading.{inside_at, is_simple, item_at, leaf_at, length_at, magnitude_at, magnitude_behind, major_of, pair_at, parts_at, room, string_at, tag_at, until_at, whole_at}
+use Rattle.content_cbor.specs.Inner.Reading.{inside_at, is_reserved, item_at, item_fault, kind_at, leaf_at, length_at, magnitude_at, magnitude_behind, major_of, pair_at, parts_at, room, string_at, tag_at, until_at, whole_at}
 
 -- what is refused with nothing left has ended, and nothing else has
 abbrev pub IsEnd : Refusal → Type 0
@@ -70,11 +71,39 @@ ends_first : (bs : List ℕ) → Ends (first_at bs)
 unfolding first_at
 ends_first [] = ended
 ends_first (b ∷ bs) =
-    ends_if (ltb (b % 32) 24) _ _ tt
-    (ends_if (eqb (b % 32) 31) _ _ tt
-    (ends_if (ltb 27 (b % 32)) _ _ (other fault.Reserved (length bs) (λ is. absurd cc, λ is. absurd cc))
-    (ends_if (is_simple (major_of (b / 32))) _ _
-    (ends_if (eqb (b % 32) 24) _ _ (other fault.Simple (length bs) (λ is. absurd cc, λ is. absurd cc)) (other fault.Float (length bs) (λ is. absurd cc, λ is. absurd cc))) tt)))
+    ends_if (is_reserved (major_of (b / 32)) (b % 32)) _ _ (other fault.Reserved (length bs) (λ is. absurd cc, λ is. absurd cc)) tt
+
+-- what is wrong, if anything is, is another fault
+abbrev AreOther : Option Fault → Type 0
+AreOther None = Unit {0}
+AreOther (Some f) = IsOther f
+
+other_if : (b : Bool) (x y : Option Fault) → AreOther x → AreOther y → AreOther (cond b x y)
+other_if true x y p q = p
+other_if false x y p q = q
+
+item_other : (m : Major) (info : ℕ) → AreOther (item_fault m info)
+item_other major.Simple info =
+    other_if (eqb info 31) _ _ (λ is. absurd cc, λ is. absurd cc)
+    (other_if (is_in_range 25 27 info) _ _ (λ is. absurd cc, λ is. absurd cc) (other_if (is_in_range 20 22 info) _ _ tt (λ is. absurd cc, λ is. absurd cc)))
+item_other major.Tag info =
+    other_if (ltb 23 info) _ _ tt (other_if (is_in_range 2 3 info) _ _ tt (λ is. absurd cc, λ is. absurd cc))
+item_other major.Unsigned info = tt
+item_other major.Negative info = tt
+item_other major.Bytes info = tt
+item_other major.Text info = tt
+item_other major.Array info = tt
+item_other major.Map info = tt
+
+ends_unless : (o : Option Fault) (b : ℕ) (bs : List ℕ) (h : First × List ℕ) → AreOther o → Ends (unless o (b ∷ bs) h)
+ends_unless None b bs h is = tt
+ends_unless (Some f) b bs h is = other f (length bs) is
+
+ends_kind : (bs : List ℕ) → Ends (kind_at bs)
+unfolding kind_at first_at
+ends_kind [] = ended
+ends_kind (b ∷ bs) =
+    ends_then (first_at (b ∷ bs)) _ (ends_first (b ∷ bs)) (λ h. ends_unless (item_fault h.0.«major» h.0.info) b bs h (item_other h.0.«major» h.0.info))
 
 -- ---- heads
 
@@ -98,7 +127,7 @@ bound_of limit major.Simple = (λ is. absurd cc, λ is. absurd cc)
 ends_head : (limit : ℕ) (bs : List ℕ) → Ends (head_at limit bs)
 unfolding head_at
 ends_head limit bs =
-    ends_then (first_at bs) _ (ends_first bs) (λ h.
+    ends_then (kind_at bs) _ (ends_kind bs) (λ h.
     ends_head_behind (bounds_of limit h.0.«major») (bound_of limit h.0.«major») h.0 h.1)
 
 -- ---- texts and bytes
@@ -127,6 +156,11 @@ unfolding first_at
 ends_at_first f [] h is not = absurd cc
 ends_at_first f (b ∷ bs) h is not = other f (length bs) not
 
+ends_at_kind : (f : Fault) (bs : List ℕ) (h : First × List ℕ) → kind_at bs ≡ Ok h → IsOther f → IsInside (record { «fault» = f; left = length bs })
+unfolding kind_at first_at
+ends_at_kind f [] h is not = absurd cc
+ends_at_kind f (b ∷ bs) h is not = other f (length bs) not
+
 ends_known : {A B : Type 0} (r : Result A Refusal) (f : A → Result B Refusal) → Ends r → ((x : A) → r ≡ Ok x → Ends (f x)) → Ends (r >>= f)
 ends_known (Ok x) f p next = next x refl
 ends_known (Err e) f p next = p
@@ -136,7 +170,7 @@ unfolding length_at
 ends_length t bounds not bs =
     ends_known (first_at bs) _ (ends_first bs) (λ h is.
     ends_if (begins_chunk t h.0.«major» h.0.info) _ _ (ends_argument bounds not h.0.info h.1)
-    (ends_at_first fault.WrongKind bs h is (λ no. absurd cc, λ no. absurd cc)))
+    (ends_at_first fault.WrongChunk bs h is (λ no. absurd cc, λ no. absurd cc)))
 
 ends_chunk : (t : Bool) (bs : List ℕ) → Ends (chunk_at t bs)
 unfolding chunk_at
@@ -196,24 +230,30 @@ ends_digits_of : (negative : Bool) (o : Option ℕ) (bs : List ℕ) → Ends (di
 ends_digits_of negative (Some n) bs = ends_digits (room negative) (room_bound negative) n 0 bs
 ends_digits_of negative None bs = ends_digits_until negative 0 (length bs) bs
 
-ends_magnitude_behind : (negative : Bool) (from : List ℕ) (m : Major) (info : ℕ) (bs : List ℕ) → IsInside (record { «fault» = fault.WrongKind; left = length from })
+-- a break that is due no more, or another kind
+ends_simple : (b : Bool) (from : List ℕ) → ((f : Fault) → IsOther f → IsInside (record { «fault» = f; left = length from }))
+    → IsInside (record { «fault» = cond b fault.Break fault.WrongKind; left = length from })
+ends_simple true from at = at fault.Break (λ is. absurd cc, λ is. absurd cc)
+ends_simple false from at = at fault.WrongKind (λ is. absurd cc, λ is. absurd cc)
+
+ends_magnitude_behind : (negative : Bool) (from : List ℕ) (m : Major) (info : ℕ) (bs : List ℕ) → ((f : Fault) → IsOther f → IsInside (record { «fault» = f; left = length from }))
     → Ends (magnitude_behind negative from m info bs)
 ends_magnitude_behind negative from major.Bytes info bs at =
     ends_then (head_behind unbounded (record { «major» = major.Bytes; info = info }) bs) _
     (ends_head_behind unbounded open_bound (record { «major» = major.Bytes; info = info }) bs) (λ h. ends_digits_of negative h.0.number h.1)
-ends_magnitude_behind negative from major.Unsigned info bs at = at
-ends_magnitude_behind negative from major.Negative info bs at = at
-ends_magnitude_behind negative from major.Text info bs at = at
-ends_magnitude_behind negative from major.Array info bs at = at
-ends_magnitude_behind negative from major.Map info bs at = at
-ends_magnitude_behind negative from major.Tag info bs at = at
-ends_magnitude_behind negative from major.Simple info bs at = at
+ends_magnitude_behind negative from major.Unsigned info bs at = at fault.WrongKind (λ is. absurd cc, λ is. absurd cc)
+ends_magnitude_behind negative from major.Negative info bs at = at fault.WrongKind (λ is. absurd cc, λ is. absurd cc)
+ends_magnitude_behind negative from major.Text info bs at = at fault.WrongKind (λ is. absurd cc, λ is. absurd cc)
+ends_magnitude_behind negative from major.Array info bs at = at fault.WrongKind (λ is. absurd cc, λ is. absurd cc)
+ends_magnitude_behind negative from major.Map info bs at = at fault.WrongKind (λ is. absurd cc, λ is. absurd cc)
+ends_magnitude_behind negative from major.Tag info bs at = at fault.WrongKind (λ is. absurd cc, λ is. absurd cc)
+ends_magnitude_behind negative from major.Simple info bs at = ends_simple (eqb info 31) from at
 
 ends_magnitude : (negative : Bool) (bs : List ℕ) → Ends (magnitude_at negative bs)
 unfolding magnitude_at
 ends_magnitude negative bs =
     ends_known (first_at bs) _ (ends_first bs) (λ h is.
-    ends_magnitude_behind negative bs h.0.«major» h.0.info h.1 (ends_at_first fault.WrongKind bs h is (λ no. absurd cc, λ no. absurd cc)))
+    ends_magnitude_behind negative bs h.0.«major» h.0.info h.1 (λ f not. ends_at_first f bs h is not))
 
 ends_tag : (n : ℕ) (bs : List ℕ) → Ends (tag_at n bs)
 unfolding tag_at
@@ -261,8 +301,8 @@ ends_inside read ends major.Simple o bs = ends_leaf major.Simple o bs
 
 pub ends_item : (limit : ℕ) (bs : List ℕ) → Ends (item_at limit bs)
 unfolding item_at
-ends_item zero [] = ended
-ends_item zero (b ∷ bs) = other fault.TooDeep (length bs) (λ is. absurd cc, λ is. absurd cc)
+ends_item zero bs =
+    ends_known (kind_at bs) _ (ends_kind bs) (λ h is. ends_at_kind fault.TooDeep bs h is (λ no. absurd cc, λ no. absurd cc))
 ends_item (suc limit) bs =
     ends_then (head_at limit bs) _ (ends_head limit bs) (λ h. ends_inside (item_at limit) (ends_item limit) h.0.«major» h.0.number h.1)
 

@@ -1,6 +1,6 @@
 -- Heads that are read.
-use Rattle.std.proofs.Common.{◌≡◌, ℕ, suc, zero, ◌+◌, ◌*◌, ◌-◌, ◌/◌, ◌%◌, ◌<◌, ◌≤◌, Bool, true, false, cond, eqb, ltb, List, [], ◌∷◌, ◌++◌, get_or, length, take, drop, Option, Some, None, Result, Ok, Err, ◌⊎◌, refl, sym, ap, subst, ◌∙◌, arith, inl, inr}
-use Rattle.std.specs.Int.{Width, byte_len, from_be_bytes, to_be_bytes, w8}
+use Rattle.std.proofs.Common.{◌≡◌, ℕ, suc, zero, ◌+◌, ◌*◌, ◌-◌, ◌/◌, ◌%◌, ◌<◌, ◌≤◌, true, false, cond, eqb, ltb, List, [], ◌∷◌, ◌++◌, get_or, length, take, drop, Option, Some, None, Ok, Err, ◌⊎◌, refl, sym, ap, subst, ◌∙◌, arith, inl, inr}
+use Rattle.std.specs.Int.{Width, byte_len, from_be_bytes, is_in_range, to_be_bytes, w8}
 use Rattle.std.specs.Int.Digits.{number_from_digits_after}
 use Rattle.std.proofs.lemmas.Bool.{ltb-false, ltb-true, le-ltb, lt-ltb, eqb-true, eqb-false, ne_eqb, cases_lt}
 use Rattle.std.proofs.lemmas.List.{length-take, take_all}
@@ -15,13 +15,13 @@ use Rattle.content_cbor.specs.declared.heads.Head.{Head}
 use Rattle.content_cbor.specs.declared.heads.Major.{Major}
 use Rattle.content_cbor.specs.declared.heads.Major.TheVariants as major
 use Rattle.content_cbor.specs.declared.stop.Refusal.{Refusal}
-use Rattle.content_cbor.specs.Inner.Steps.{◌>>=◌, refused, refused_before}
+use Rattle.content_cbor.specs.Inner.Steps.{◌>>=◌, refused, refused_before, unless}
 use Rattle.content_cbor.specs.Inner.Numbers.{Bounds, argument_at, between, digits_at, leading, size_of, unbounded}
-use Rattle.content_cbor.specs.Inner.Reading.{bounds_of, first_at, head_at, head_behind, is_simple, major_of}
-use Rattle.content_cbor.proofs.Read.Steps.{ok_is, bind_err, bind_ok, chosen, failed, passed, same_left}
+use Rattle.content_cbor.specs.Inner.Reading.{bounds_of, first_at, head_at, head_behind, is_reserved, is_simple, item_fault, kind_at, major_of}
+use Rattle.content_cbor.proofs.Read.Steps.{ok_is, bind_err, bind_ok, chosen, failed, not_wrong, passed, same_left, wrong_left}
 use Rattle.content_cbor.proofs.Read.Took.{IsBytes, IsBytes-rest, Took, Sound, Complete, regrouped}
 use Rattle.content_cbor.proofs.Read.Begun.{Before, Opens, behind_a, instead}
-use Rattle.content_cbor.proofs.Read.Numbers.{All, Fair, IsByte, between_fair, unbounded_fair, in_range_from, leading_none, digits_admitted, digits_complete, digits_placed, digits_sound, reads_unbounded}
+use Rattle.content_cbor.proofs.Read.Numbers.{All, Fair, IsByte, between_fair, unbounded_fair, beyond_range, in_range_from, in_range_is, leading_none, digits_admitted, digits_complete, digits_placed, digits_sound, reads_unbounded}
 
 -- ---- numbers of a width
 
@@ -37,7 +37,7 @@ one_byte [] len fits = absurd (omega (arith, len))
 one_byte (b ∷ []) len fits = ap (λ n. n ∷ []) (omega (arith, fits 0))
 one_byte (b ∷ c ∷ bs) len fits = absurd (omega (arith, len))
 
-wide : (s : Size) → IsWide (width_of s) (room s)
+pub wide : (s : Size) → IsWide (width_of s) (room s)
 wide size.one = record {
   len = λ n. refl;
   back = λ bs len fits. one_byte bs len fits;
@@ -97,15 +97,15 @@ same_number size.eight (a ∷ b ∷ c ∷ d ∷ e ∷ f ∷ g ∷ h ∷ i ∷ ds
 abbrev pub Spelled : Size → ℕ → List ℕ → Type 0
 Spelled s n bs = (n < room s) × (bs ≡ to_be_bytes (width_of s) n)
 
-spelled : (s : Size) (ds : List ℕ) → length ds ≡ byte_len (width_of s) → IsBytes ds → Spelled s (number_from_digits_after 256 0 ds) ds
+pub spelled : (s : Size) (ds : List ℕ) → length ds ≡ byte_len (width_of s) → IsBytes ds → Spelled s (number_from_digits_after 256 0 ds) ds
 spelled s ds len fits =
     let same = same_number s ds len in
     subst (λ n. Spelled s n ds) (sym same) ((wide s).below ds fits, sym ((wide s).back ds len fits))
 
-spelled_back : (s : Size) (n : ℕ) → n < room s → number_from_digits_after 256 0 (to_be_bytes (width_of s) n) ≡ n
+pub spelled_back : (s : Size) (n : ℕ) → n < room s → number_from_digits_after 256 0 (to_be_bytes (width_of s) n) ≡ n
 spelled_back s n lt = same_number s (to_be_bytes (width_of s) n) ((wide s).len n) ∙ (wide s).again n lt
 
-size_is : (s : Size) → size_of (info_of s) ≡ byte_len (width_of s)
+pub size_is : (s : Size) → size_of (info_of s) ≡ byte_len (width_of s)
 size_is size.one = refl
 size_is size.two = refl
 size_is size.four = refl
@@ -135,7 +135,7 @@ major_back m info lt = ap major_of (top_of m info lt) ∙ bits_of m
 code_back : (q : ℕ) → q < 8 → code (major_of q) ≡ q
 code_back q lt = grind arith
 
-byte_back : (b : ℕ) → b < 256 → b ≡ first_byte (major_of (b / 32)) (b % 32)
+pub byte_back : (b : ℕ) → b < 256 → b ≡ first_byte (major_of (b / 32)) (b % 32)
 byte_back b lt =
     let e : code (major_of (b / 32)) ≡ b / 32 = code_back (b / 32) (omega (arith, lt)) in
     rw e (omega arith)
@@ -145,23 +145,10 @@ abbrev pub Says : Major → ℕ → Type 0
 Says m info = (info < 24) ⊎ ((info ≡ 31) ⊎ ((is_simple m ≡ false) × (24 ≤ info) × (info ≤ 27)))
 
 abbrev pub IsFirst : First → List ℕ → Type 0
-IsFirst first bs = Says first.«major» first.info × (bs ≡ first_byte first.«major» first.info ∷ [])
+IsFirst first bs = (is_reserved first.«major» first.info ≡ false) × (first.info < 32) × (bs ≡ first_byte first.«major» first.info ∷ [])
 
-both_refused : (c : Bool) (bs : List ℕ) (p : First × List ℕ) → cond c (refused fault.Simple bs) (refused fault.Float bs) ≡ Ok p → ⊥
-both_refused true bs p e = absurd cc
-both_refused false bs p e = absurd cc
-
-abbrev made : Major → ℕ → First
+abbrev pub made : Major → ℕ → First
 made m info = record { «major» = m; info = info }
-
-abbrev read_as : Major → ℕ → List ℕ → Result (First × List ℕ) Refusal
-read_as m info bs = Ok (made m info, bs)
-
-took_first : (b : ℕ) (bs : List ℕ) (h : First) (rest : List ℕ) → IsBytes (b ∷ bs) → Says (major_of (b / 32)) (b % 32)
-    → read_as (major_of (b / 32)) (b % 32) bs ≡ Ok (h, rest) → Took (IsFirst h) (b ∷ bs) rest
-took_first b bs h rest fits says is =
-    subst (λ (p : First × List ℕ). Took (IsFirst p.0) (b ∷ bs) p.1) (ok_is (made (major_of (b / 32)) (b % 32), bs) (h, rest) is)
-    (record { front = b ∷ []; part = (says, ap (λ x. x ∷ []) (byte_back b (fits 0))); split = refl; fits = IsBytes-rest b bs fits })
 
 pub first_sound : Sound IsFirst first_at
 unfolding first_at
@@ -169,56 +156,111 @@ first_sound [] h rest fits e = absurd cc
 first_sound (b ∷ bs) h rest fits e =
     let m = major_of (b / 32) in
     let info = b % 32 in
-    elim (chosen (ltb info 24) (Ok (made m info, bs)) (cond (eqb info 31) (Ok (made m info, bs)) (cond (ltb 27 info) (refused fault.Reserved (b ∷ bs))
-    (cond (is_simple m) (cond (eqb info 24) (refused fault.Simple (b ∷ bs)) (refused fault.Float (b ∷ bs))) (Ok (made m info, bs))))) (Ok (h, rest)) e) [
-      | inl w ↦ took_first b bs h rest fits (inl (ltb-true info 24 w.0)) w.1
-      | inr v ↦ elim (chosen (eqb info 31) (Ok (made m info, bs)) (cond (ltb 27 info) (refused fault.Reserved (b ∷ bs))
-          (cond (is_simple m) (cond (eqb info 24) (refused fault.Simple (b ∷ bs)) (refused fault.Float (b ∷ bs))) (Ok (made m info, bs)))) (Ok (h, rest)) v.1) [
-            | inl w ↦ took_first b bs h rest fits (inr (inl (eqb-true info 31 w.0))) w.1
-            | inr u ↦
-                let g = passed (ltb 27 info) (record { «fault» = fault.Reserved; left = length (b ∷ bs) })
-                (cond (is_simple m) (cond (eqb info 24) (refused fault.Simple (b ∷ bs)) (refused fault.Float (b ∷ bs))) (Ok (made m info, bs))) (h, rest) u.1 in
-                elim (chosen (is_simple m) (cond (eqb info 24) (refused fault.Simple (b ∷ bs)) (refused fault.Float (b ∷ bs))) (Ok (made m info, bs)) (Ok (h, rest)) g.1) [
-                  | inl w ↦ absurd (both_refused (eqb info 24) (b ∷ bs) (h, rest) w.1)
-                  | inr w ↦ took_first b bs h rest fits (inr (inr (w.0, ltb-false info 24 v.0, ltb-false 27 info g.0))) w.1
-                ]
-          ]
-    ]
+    let g = passed (is_reserved m info) (record { «fault» = fault.Reserved; left = length (b ∷ bs) }) (Ok (made m info, bs)) (h, rest) e in
+    subst (λ (p : First × List ℕ). Took (IsFirst p.0) (b ∷ bs) p.1) (ok_is (made m info, bs) (h, rest) g.1)
+    (record { front = b ∷ []; part = (g.0, omega arith, ap (λ x. x ∷ []) (byte_back b (fits 0))); split = refl; fits = IsBytes-rest b bs fits })
 
-pub first_again : (m : Major) (info : ℕ) (rest : List ℕ) → Says m info → first_at (first_byte m info ∷ rest) ≡ Ok (made m info, rest)
+pub first_again : (m : Major) (info : ℕ) (rest : List ℕ) → is_reserved m info ≡ false → info < 32 → first_at (first_byte m info ∷ rest) ≡ Ok (made m info, rest)
 unfolding first_at
-first_again m info rest (inl w) = rw (low_of m info (omega (arith, w)), major_back m info (omega (arith, w)), lt-ltb info 24 w) refl
-first_again m info rest (inr (inl w)) =
-    rw w (rw (low_of m 31 (omega arith), major_back m 31 (omega arith)) refl)
-first_again m info rest (inr (inr w)) =
-    let lt : info < 32 = omega (arith, w.2) in
-    rw (low_of m info lt, major_back m info lt, le-ltb info 24 w.1, ne_eqb info 31 (λ e. omega (arith, w.2, e)), le-ltb 27 info w.2, w.0) refl
-
-both_at_start : (c : Bool) (bs : List ℕ) (e : Refusal) → cond c (refused {A = First × List ℕ} fault.Simple bs) (refused fault.Float bs) ≡ Err e → length bs ≡ e.left
-both_at_start true bs e is = same_left {A = First × List ℕ} (record { «fault» = fault.Simple; left = length bs }) e is
-both_at_start false bs e is = same_left {A = First × List ℕ} (record { «fault» = fault.Float; left = length bs }) e is
+first_again m info rest known lt = rw (low_of m info lt, major_back m info lt, known) refl
 
 pub first_placed : (bs : List ℕ) (e : Refusal) → first_at bs ≡ Err e → length bs ≡ e.left
 unfolding first_at
 first_placed [] e is = same_left {A = First × List ℕ} (record { «fault» = fault.Ended; left = 0 }) e is
 first_placed (b ∷ bs) e is =
-    let m = major_of (b / 32) in
-    let info = b % 32 in
-    elim (chosen (ltb info 24) (Ok (made m info, bs)) (cond (eqb info 31) (Ok (made m info, bs)) (cond (ltb 27 info) (refused fault.Reserved (b ∷ bs))
-    (cond (is_simple m) (cond (eqb info 24) (refused fault.Simple (b ∷ bs)) (refused fault.Float (b ∷ bs))) (Ok (made m info, bs))))) (Err e) is) [
+    elim (chosen (is_reserved (major_of (b / 32)) (b % 32)) (refused fault.Reserved (b ∷ bs)) (Ok (made (major_of (b / 32)) (b % 32), bs)) (Err e) is) [
+      | inl w ↦ same_left {A = First × List ℕ} (record { «fault» = fault.Reserved; left = length (b ∷ bs) }) e w.1
+      | inr w ↦ absurd cc
+    ]
+
+-- what is not reserved says something
+pub open_or_low : (info : ℕ) → info < 32 → is_in_range 28 30 info ≡ false → (info ≡ 31) ⊎ (info ≤ 27)
+open_or_low info lt is =
+    elim (cases_lt info 28) [
+      | inl low ↦ inr (omega (arith, low))
+      | inr high ↦ elim (cases_lt info 31) [
+        | inl below ↦ let in_ : is_in_range 28 30 info ≡ true = in_range_from 28 30 info high (omega (arith, below)) in absurd cc
+        | inr all ↦ inl (omega (arith, all, lt))
+      ]
+    ]
+
+short_or_long : (m : Major) (info : ℕ) → is_simple m ≡ false → info ≤ 27 → Says m info
+short_or_long m info plain le =
+    elim (cases_lt info 24) [
+      | inl low ↦ inl low
+      | inr high ↦ inr (inr (plain, high, le))
+    ]
+
+opened : (m : Major) (info : ℕ) → is_simple m ≡ false → (info ≡ 31) ⊎ (info ≤ 27) → Says m info
+opened m info plain (inl is) = inr (inl is)
+opened m info plain (inr le) = short_or_long m info plain le
+
+pub says_plain : (m : Major) (info : ℕ) → is_simple m ≡ false → info < 32 → is_reserved m info ≡ false → Says m info
+says_plain major.Unsigned info plain lt known = short_or_long major.Unsigned info refl (ltb-false 27 info known)
+says_plain major.Negative info plain lt known = short_or_long major.Negative info refl (ltb-false 27 info known)
+says_plain major.Tag info plain lt known = short_or_long major.Tag info refl (ltb-false 27 info known)
+says_plain major.Bytes info plain lt known = opened major.Bytes info refl (open_or_low info lt known)
+says_plain major.Text info plain lt known = opened major.Text info refl (open_or_low info lt known)
+says_plain major.Array info plain lt known = opened major.Array info refl (open_or_low info lt known)
+says_plain major.Map info plain lt known = opened major.Map info refl (open_or_low info lt known)
+says_plain major.Simple info plain lt known = absurd cc
+
+-- a first byte with its number in it or behind it is none of them
+pub unreserved : (m : Major) (info : ℕ) → info ≤ 27 → is_reserved m info ≡ false
+unreserved m info le = grind arith
+
+-- ---- first bytes of items
+
+-- with nothing wrong, a simple value has its number in its first byte
+abbrev faultless : Option Fault
+faultless = None
+
+simple_low : (info : ℕ) → info < 32 → item_fault major.Simple info ≡ None → info < 24
+simple_low info lt is =
+    elim (chosen (eqb info 31) (Some fault.Break) (cond (is_in_range 25 27 info) (Some fault.Float) (cond (is_in_range 20 22 info) None (Some fault.Simple))) faultless is) [
       | inl w ↦ absurd cc
-      | inr v ↦ elim (chosen (eqb info 31) (Ok (made m info, bs)) (cond (ltb 27 info) (refused fault.Reserved (b ∷ bs))
-          (cond (is_simple m) (cond (eqb info 24) (refused fault.Simple (b ∷ bs)) (refused fault.Float (b ∷ bs))) (Ok (made m info, bs)))) (Err e) v.1) [
-            | inl w ↦ absurd cc
-            | inr u ↦ elim (chosen (ltb 27 info) (refused fault.Reserved (b ∷ bs))
-                (cond (is_simple m) (cond (eqb info 24) (refused fault.Simple (b ∷ bs)) (refused fault.Float (b ∷ bs))) (Ok (made m info, bs))) (Err e) u.1) [
-                  | inl w ↦ same_left {A = First × List ℕ} (record { «fault» = fault.Reserved; left = length (b ∷ bs) }) e w.1
-                  | inr t ↦ elim (chosen (is_simple m) (cond (eqb info 24) (refused fault.Simple (b ∷ bs)) (refused fault.Float (b ∷ bs))) (Ok (made m info, bs)) (Err e) t.1) [
-                    | inl w ↦ both_at_start (eqb info 24) (b ∷ bs) e w.1
-                    | inr w ↦ absurd cc
-                  ]
-                ]
-          ]
+      | inr v ↦ elim (chosen (is_in_range 25 27 info) (Some fault.Float) (cond (is_in_range 20 22 info) None (Some fault.Simple)) faultless v.1) [
+        | inl w ↦ absurd cc
+        | inr u ↦ elim (chosen (is_in_range 20 22 info) faultless (Some fault.Simple) faultless u.1) [
+          | inl w ↦ omega (arith, (in_range_is 20 22 info w.0).1)
+          | inr w ↦ absurd cc
+        ]
+      ]
+    ]
+
+says_of : (m : Major) (info : ℕ) → info < 32 → is_reserved m info ≡ false → item_fault m info ≡ None → Says m info
+says_of major.Simple info lt known right = inl (simple_low info lt right)
+says_of major.Unsigned info lt known right = says_plain major.Unsigned info refl lt known
+says_of major.Negative info lt known right = says_plain major.Negative info refl lt known
+says_of major.Tag info lt known right = says_plain major.Tag info refl lt known
+says_of major.Bytes info lt known right = says_plain major.Bytes info refl lt known
+says_of major.Text info lt known right = says_plain major.Text info refl lt known
+says_of major.Array info lt known right = says_plain major.Array info refl lt known
+says_of major.Map info lt known right = says_plain major.Map info refl lt known
+
+abbrev pub IsKind : First → List ℕ → Type 0
+IsKind first bs = Says first.«major» first.info × (bs ≡ first_byte first.«major» first.info ∷ [])
+
+pub kind_sound : Sound IsKind kind_at
+unfolding kind_at
+kind_sound bs h rest fits e =
+    let a = bind_ok (first_at bs) (λ h. unless (item_fault h.0.«major» h.0.info) bs h) (h, rest) e in
+    let f = first_sound bs a.0.0 a.0.1 fits a.1 in
+    let right = not_wrong (item_fault a.0.0.«major» a.0.0.info) bs a.0 (h, rest) a.2 in
+    subst (λ (p : First × List ℕ). Took (IsKind p.0) bs p.1) right.1
+    (record { front = f.front; part = (says_of a.0.0.«major» a.0.0.info f.part.1 f.part.0 right.0, f.part.2); split = f.split; fits = f.fits })
+
+pub kind_again : (m : Major) (info : ℕ) (rest : List ℕ) → is_reserved m info ≡ false → info < 32 → item_fault m info ≡ None
+    → kind_at (first_byte m info ∷ rest) ≡ Ok (made m info, rest)
+unfolding kind_at
+kind_again m info rest known lt right = rw (first_again m info rest known lt, right) refl
+
+pub kind_placed : (bs : List ℕ) (e : Refusal) → kind_at bs ≡ Err e → length bs ≡ e.left
+unfolding kind_at
+kind_placed bs e is =
+    elim (bind_err (first_at bs) (λ h. unless (item_fault h.0.«major» h.0.info) bs h) e is) [
+      | inl w ↦ first_placed bs e w
+      | inr a ↦ wrong_left (item_fault a.0.0.«major» a.0.0.info) bs a.0 e a.2
     ]
 
 -- ---- arguments
@@ -235,7 +277,7 @@ Admitted bounds info n bs = Argument info n bs × (bounds.admits 0 n ≡ true)
 abbrev pub Starts : Bounds → Type 0
 Starts bounds = (s : Size) → bounds.admits (byte_len (width_of s)) 0 ≡ true
 
-which_size : (info : ℕ) → 24 ≤ info → info ≤ 27 → (s : Size) × (info ≡ info_of s)
+pub which_size : (info : ℕ) → 24 ≤ info → info ≤ 27 → (s : Size) × (info ≡ info_of s)
 which_size info low high =
     elim (cases_lt info 25) [
       | inl a ↦ (size.one, omega (arith, low, a))
@@ -282,7 +324,7 @@ argument_admitted bounds starts info bs n rest is =
       | inr w ↦ digits_admitted bounds (size_of info) 0 bs n rest (starts (size_of info)) w.1
     ]
 
-long_info : (s : Size) → ltb (info_of s) 24 ≡ false
+pub long_info : (s : Size) → ltb (info_of s) 24 ≡ false
 long_info size.one = refl
 long_info size.two = refl
 long_info size.four = refl
@@ -349,7 +391,7 @@ pub head_is : (bounds : Bounds) (m : Major) (o : Option ℕ) (bs : List ℕ) →
 head_is bounds m None bs is = is
 head_is bounds m (Some n) bs is = is.0
 
-abbrev headed : Major → Option ℕ → Head
+abbrev pub headed : Major → Option ℕ → Head
 headed m o = record { «major» = m; number = o }
 
 -- a first byte with the number behind it
@@ -475,8 +517,8 @@ same_bounds limit h m bs is head = subst (λ k. HeadIs (bounds_of limit k) h bs)
 pub head_sound : (limit : ℕ) → Sound (ItemHead limit) (head_at limit)
 unfolding head_at
 head_sound limit bs h rest fits is =
-    let a = bind_ok (first_at bs) (λ f. head_behind (bounds_of limit f.0.«major») f.0 f.1) (h, rest) is in
-    let f = first_sound bs a.0.0 a.0.1 fits a.1 in
+    let a = bind_ok (kind_at bs) (λ f. head_behind (bounds_of limit f.0.«major») f.0 f.1) (h, rest) is in
+    let f = kind_sound bs a.0.0 a.0.1 fits a.1 in
     let m = a.0.0.«major» in
     let b = behind_sound (bounds_of limit m) (bounds_start limit m) a.0.0 f.part.0 a.0.1 h rest f.fits a.2 in
     record {
@@ -486,13 +528,72 @@ head_sound limit bs h rest fits is =
       fits = b.fits;
     }
 
-pub head_complete : (limit : ℕ) → Complete (ItemHead limit) (head_at limit)
+-- a head that an item can have
+abbrev pub Stands : Major → Option ℕ → Type 0
+Stands major.Simple (Some n) = (20 ≤ n) × (n ≤ 22)
+Stands m (Some n) = Unit {0}
+Stands major.Bytes None = Unit {0}
+Stands major.Text None = Unit {0}
+Stands major.Array None = Unit {0}
+Stands major.Map None = Unit {0}
+Stands m None = ⊥
+
+-- a first byte that an item can have
+abbrev IsRight : Major → ℕ → Type 0
+IsRight m info = (is_reserved m info ≡ false) × (info < 32) × (item_fault m info ≡ None)
+
+short_right : (limit : ℕ) (m : Major) (n : ℕ) → n < 24 → (bounds_of limit m).admits 0 n ≡ true → Stands m (Some n) → IsRight m n
+short_right limit major.Simple n lt admitted stands =
+    (unreserved major.Simple n (omega (arith, lt)), omega (arith, lt), rw (ne_eqb n 31 (λ e. omega (arith, e, lt)), beyond_range 25 27 n (omega (arith, lt)), in_range_from 20 22 n stands.0 stands.1) refl)
+short_right limit major.Tag n lt admitted stands =
+    (unreserved major.Tag n (omega (arith, lt)), omega (arith, lt), rw (le-ltb 23 n (omega (arith, lt)), admitted) refl)
+short_right limit major.Unsigned n lt admitted stands = (unreserved major.Unsigned n (omega (arith, lt)), omega (arith, lt), refl)
+short_right limit major.Negative n lt admitted stands = (unreserved major.Negative n (omega (arith, lt)), omega (arith, lt), refl)
+short_right limit major.Bytes n lt admitted stands = (unreserved major.Bytes n (omega (arith, lt)), omega (arith, lt), refl)
+short_right limit major.Text n lt admitted stands = (unreserved major.Text n (omega (arith, lt)), omega (arith, lt), refl)
+short_right limit major.Array n lt admitted stands = (unreserved major.Array n (omega (arith, lt)), omega (arith, lt), refl)
+short_right limit major.Map n lt admitted stands = (unreserved major.Map n (omega (arith, lt)), omega (arith, lt), refl)
+
+long_right : (m : Major) (s : Size) → is_simple m ≡ false → IsRight m (info_of s)
+long_right m s plain =
+    let le = high_info s in
+    (unreserved m (info_of s) le, omega (arith, le), no_fault m (info_of s) plain (long_is s))
+  where
+    no_fault : (m : Major) (info : ℕ) → is_simple m ≡ false → 24 ≤ info → item_fault m info ≡ None
+    no_fault major.Simple info plain long = absurd cc
+    no_fault major.Tag info plain long = rw (lt-ltb 23 info (omega (arith, long))) refl
+    no_fault major.Unsigned info plain long = refl
+    no_fault major.Negative info plain long = refl
+    no_fault major.Bytes info plain long = refl
+    no_fault major.Text info plain long = refl
+    no_fault major.Array info plain long = refl
+    no_fault major.Map info plain long = refl
+
+open_right : (m : Major) → Stands m None → IsRight m 31
+open_right major.Bytes stands = (refl, omega arith, refl)
+open_right major.Text stands = (refl, omega arith, refl)
+open_right major.Array stands = (refl, omega arith, refl)
+open_right major.Map stands = (refl, omega arith, refl)
+open_right major.Unsigned stands = absurd stands
+open_right major.Negative stands = absurd stands
+open_right major.Tag stands = absurd stands
+open_right major.Simple stands = absurd stands
+
+head_right : (limit : ℕ) (m : Major) (o : Option ℕ) (front : List ℕ) (is : HeadIn (bounds_of limit m) m o front) → Stands m o
+    → IsRight m (head_apart (bounds_of limit m) (bounds_fair limit m) m o front is).info
+unfolding head_apart bounds_fair
+head_right limit m None front is stands = open_right m stands
+head_right limit m (Some n) front (inl w, admitted) stands = short_right limit m n w.0 admitted stands
+head_right limit m (Some n) front (inr w, admitted) stands = long_right m w.1 w.0
+
+pub head_complete : (limit : ℕ) (h : Head) (front rest : List ℕ) → ItemHead limit h front → Stands h.«major» h.number → head_at limit (front ++ rest) ≡ Ok (h, rest)
 unfolding head_at
-head_complete limit h front rest is =
+head_complete limit h front rest is stands =
     let bounds = bounds_of limit h.«major» in
     let a = head_apart bounds (bounds_fair limit h.«major») h.«major» h.number front is in
+    let right = head_right limit h.«major» h.number front is stands in
     ap (λ t. head_at limit (t ++ rest)) a.split
-    ∙ rw (first_again h.«major» a.info (a.back ++ rest) a.says) (a.read rest)
+    ∙ rw (kind_again h.«major» a.info (a.back ++ rest) right.0 right.1 right.2) (a.read rest)
 
 -- where nothing is refused before its first byte
 not_so_simple : (m : Major) (info : ℕ) → Says m info → (info ≡ 31 → ⊥) → 24 ≤ info → is_simple m ≡ false
@@ -532,10 +633,10 @@ pub head_placed : (limit : ℕ) (bs : List ℕ) (e : Refusal) → IsBytes bs →
     → (length bs ≡ e.left) ⊎ Before (Opens (NumberedHead limit)) bs e.left
 unfolding head_at
 head_placed limit bs e fits is =
-    elim (bind_err (first_at bs) (λ f. head_behind (bounds_of limit f.0.«major») f.0 f.1) e is) [
-      | inl w ↦ inl (first_placed bs e w)
+    elim (bind_err (kind_at bs) (λ f. head_behind (bounds_of limit f.0.«major») f.0 f.1) e is) [
+      | inl w ↦ inl (kind_placed bs e w)
       | inr a ↦
-          let f = first_sound bs a.0.0 a.0.1 fits a.1 in
+          let f = kind_sound bs a.0.0 a.0.1 fits a.1 in
           let m = a.0.0.«major» in
           let byte = first_byte m a.0.0.info in
           let split : bs ≡ (byte ∷ []) ++ a.0.1 = f.split ∙ ap (λ t. t ++ a.0.1) f.part.1 in

@@ -12,15 +12,15 @@ use Rattle.content_cbor.specs.declared.decode_error.Fault.TheVariants as fault
 use Rattle.content_cbor.specs.declared.heads.Major.{Major}
 use Rattle.content_cbor.specs.declared.heads.Major.TheVariants as major
 use Rattle.content_cbor.specs.declared.stop.Refusal.{Refusal}
-use Rattle.content_cbor.specs.Inner.Steps.{◌>>=◌, Reader, refused_before}
-use Rattle.content_cbor.specs.Inner.Reading.{at_break, bounds_of, each_at, head_at, inside_at, is_simple, item_at, leaf_at, pair_at, parts_at, simple_at, string_at, tag_at}
+use Rattle.content_cbor.specs.Inner.Steps.{◌>>=◌, Reader, refused, refused_before}
+use Rattle.content_cbor.specs.Inner.Reading.{at_break, bounds_of, each_at, head_at, inside_at, is_simple, item_at, kind_at, leaf_at, pair_at, parts_at, simple_at, string_at, tag_at}
 use Rattle.content_cbor.proofs.Read.Steps.{ok_is, bind_err, bind_ok, chosen, same_left}
 use Rattle.content_cbor.proofs.Read.Took.{IsBytes, Took, Sound, Complete, regrouped}
 use Rattle.content_cbor.proofs.Read.Begun.{Before, Opens, Placed, PlacedBehind, at_start, behind_a, instead, opens_behind}
 use Rattle.content_cbor.proofs.Read.Parts.{Begins, Ends, copies, each_placed, each_sound, until_placed, until_sound}
 use Rattle.content_cbor.proofs.Read.Numbers.{in_range_is}
 use Rattle.content_cbor.proofs.Read.Shrinks.{Advances, advances_item, advances_pair}
-use Rattle.content_cbor.proofs.Read.Heads.{HeadIn, HeadOf, NumberedHead, head_is, head_placed, head_sound, numbered}
+use Rattle.content_cbor.proofs.Read.Heads.{HeadIn, HeadOf, NumberedHead, head_is, head_placed, head_sound, kind_placed, numbered}
 use Rattle.content_cbor.proofs.Read.Strings.{StringBody, some_string, string_placed, string_sound, string_whole}
 use Rattle.content_cbor.proofs.Read.Utf8.{spaces}
 use Rattle.content_cbor.proofs.Read.Tags.{IsTag, Numbered, nothing_under, tag_placed, tag_sound}
@@ -171,10 +171,12 @@ known limit major.Array o bs is = tt
 known limit major.Map o bs is = tt
 known limit major.Simple o bs is = tt
 
+none_read : (x : Tree × List ℕ) (bs : List ℕ) → refused fault.TooDeep bs ≡ Ok x → ⊥
+none_read x bs e = absurd cc
+
 pub item_sound : (limit : ℕ) → Sound (Codes limit) (item_at limit)
 unfolding item_at
-item_sound zero [] t rest fits e = absurd cc
-item_sound zero (b ∷ bs) t rest fits e = absurd cc
+item_sound zero bs t rest fits e = let a = bind_ok (kind_at bs) (λ h. refused fault.TooDeep bs) (t, rest) e in absurd (none_read (t, rest) bs a.2)
 item_sound (suc limit) bs t rest fits e =
     let a = bind_ok (head_at limit bs) (λ h. inside_at (item_at limit) h.0.«major» h.0.number h.1) (t, rest) e in
     let h = head_sound limit bs a.0.0 a.0.1 fits a.1 in
@@ -376,8 +378,11 @@ numbered_opens limit major.Simple n head simple is = absurd cc
 
 pub item_placed : (limit : ℕ) → Placed (Codes limit) (item_at limit)
 unfolding item_at
-item_placed zero [] e fits is = inl (same_left {A = Tree × List ℕ} (record { «fault» = fault.Ended; left = 0 }) e is)
-item_placed zero (b ∷ bs) e fits is = inl (same_left {A = Tree × List ℕ} (record { «fault» = fault.TooDeep; left = length (b ∷ bs) }) e is)
+item_placed zero bs e fits is =
+    elim (bind_err (kind_at bs) (λ h. refused fault.TooDeep bs) e is) [
+      | inl w ↦ inl (kind_placed bs e w)
+      | inr a ↦ inl (same_left {A = Tree × List ℕ} (record { «fault» = fault.TooDeep; left = length bs }) e a.2)
+    ]
 item_placed (suc limit) bs e fits is =
     elim (bind_err (head_at limit bs) (λ h. inside_at (item_at limit) h.0.«major» h.0.number h.1) e is) [
       | inl w ↦ elim (head_placed limit bs e fits w) [

@@ -10,12 +10,12 @@ use Rattle.content_cbor.specs.declared.heads.First.{First}
 use Rattle.content_cbor.specs.declared.heads.Major.{Major}
 use Rattle.content_cbor.specs.declared.heads.Major.TheVariants as major
 use Rattle.content_cbor.specs.declared.stop.Refusal.{Refusal}
-use Rattle.content_cbor.specs.Inner.Steps.{◌>>=◌, Reader, refused, refused_before, or_refused}
+use Rattle.content_cbor.specs.Inner.Steps.{◌>>=◌, Reader, refused, refused_before, or_refused, unless}
 use Rattle.content_cbor.specs.Inner.Numbers.{Bounds, argument_at, digits_at, size_of, unbounded}
 use Rattle.content_cbor.specs.declared.utf8.Lack.{Lack}
 use Rattle.content_cbor.specs.Inner.Texts.{after_byte, tail, text_at, within}
 use Rattle.content_cbor.specs.Inner.Reading.{begins_chunk, bounds_of, bytes_at, chunk_at, chunk_bounds, chunks_at, content_at, digits_of, digits_until, each_at, first_at, head_at, head_behind}
-use Rattle.content_cbor.specs.Inner.Reading.{inside_at, is_simple, item_at, leaf_at, length_at, magnitude_at, magnitude_behind, major_of, pair_at, parts_at, room, string_at, tag_at, until_at}
+use Rattle.content_cbor.specs.Inner.Reading.{inside_at, is_reserved, item_at, item_fault, kind_at, leaf_at, length_at, magnitude_at, magnitude_behind, major_of, pair_at, parts_at, room, string_at, tag_at, until_at}
 use Rattle.content_cbor.proofs.Read.Shrinks.{Advances, Smaller, advances_chunk, advances_digits, advances_digits_until, advances_item, advances_magnitude, advances_pair, advances_text, advances_until}
 use Rattle.content_cbor.proofs.Read.Shrinks.{fewer, much_smaller, no_longer, no_more, shorter, shrinks_content, shrinks_digits, shrinks_digits_of, shrinks_each, shrinks_head, shrinks_inside, shrinks_length, smaller_then}
 
@@ -92,11 +92,23 @@ settled_then more (Err e) longer f g is next = inr (ap (λ r. r >>= g) is)
 first_settles : (b : ℕ) (bs more : List ℕ) → Settled more (first_at (b ∷ bs)) (first_at (b ∷ (bs ++ more)))
 unfolding first_at
 first_settles b bs more =
-    settled_if more (ltb (b % 32) 24) _ _ _ _ refl
-    (settled_if more (eqb (b % 32) 31) _ _ _ _ refl
-    (settled_if more (ltb 27 (b % 32)) _ _ _ _ (settled_refused more fault.Reserved (b ∷ bs))
-    (settled_if more (is_simple (major_of (b / 32))) _ _ _ _
-    (settled_if more (eqb (b % 32) 24) _ _ _ _ (settled_refused more fault.Simple (b ∷ bs)) (settled_refused more fault.Float (b ∷ bs))) refl)))
+    settled_if more (is_reserved (major_of (b / 32)) (b % 32)) _ _ _ _ (settled_refused more fault.Reserved (b ∷ bs)) refl
+
+settled_unless : (more : List ℕ) (o : Option Fault) (left : List ℕ) (h : First × List ℕ) → Settled more (unless o left h) (unless o (left ++ more) (h.0, h.1 ++ more))
+settled_unless more None left h = refl
+settled_unless more (Some f) left h = settled_refused more f left
+
+settled_with : {A B : Type 0} (more : List ℕ) (r longer : Result (A × List ℕ) Refusal) (f g : A × List ℕ → Result (B × List ℕ) Refusal)
+    → Settled more r longer → ((x : A × List ℕ) → r ≡ Ok x → Settled more (f x) (g (x.0, x.1 ++ more))) → Settled more (r >>= f) (longer >>= g)
+settled_with more (Ok x) longer f g is next = rw is (next x refl)
+settled_with more (Err e) longer f g is next = ap (λ r. r >>= g) is
+
+-- and so does one of an item
+kind_settles : (b : ℕ) (bs more : List ℕ) → Settled more (kind_at (b ∷ bs)) (kind_at (b ∷ (bs ++ more)))
+unfolding kind_at
+kind_settles b bs more =
+    settled_with more (first_at (b ∷ bs)) (first_at (b ∷ (bs ++ more))) _ _ (first_settles b bs more) (λ h is.
+    settled_unless more (item_fault h.0.«major» h.0.info) (b ∷ bs) h)
 
 longer_head_behind : (bounds : Bounds) (first : First) → Longer (head_behind bounds first)
 longer_head_behind bounds first bs more =
@@ -104,10 +116,10 @@ longer_head_behind bounds first bs more =
     (agrees_then more (argument_at bounds first.info bs) (argument_at bounds first.info (bs ++ more)) _ _ (longer_argument bounds first.info bs more) (λ y less. less) (λ n is. refl))
 
 longer_head : (limit : ℕ) → Longer (head_at limit)
-unfolding head_at first_at
+unfolding head_at kind_at first_at
 longer_head limit [] more = inl (refl, shrinks_head limit more)
 longer_head limit (b ∷ bs) more =
-    settled_then more (first_at (b ∷ bs)) (first_at (b ∷ (bs ++ more))) _ _ (first_settles b bs more) (λ h is.
+    settled_then more (kind_at (b ∷ bs)) (kind_at (b ∷ (bs ++ more))) _ _ (kind_settles b bs more) (λ h is.
     longer_head_behind (bounds_of limit h.0.«major») h.0 h.1 more)
 
 -- ---- texts and bytes
@@ -154,7 +166,7 @@ unfolding length_at first_at
 longer_length t bounds [] more = inl (refl, shrinks_length t bounds more)
 longer_length t bounds (b ∷ bs) more =
     settled_then more (first_at (b ∷ bs)) (first_at (b ∷ (bs ++ more))) _ _ (first_settles b bs more) (λ h is.
-    agrees_if more (begins_chunk t h.0.«major» h.0.info) _ _ _ _ (longer_argument bounds h.0.info h.1 more) (agrees_refused more fault.WrongKind (b ∷ bs)))
+    agrees_if more (begins_chunk t h.0.«major» h.0.info) _ _ _ _ (longer_argument bounds h.0.info h.1 more) (agrees_refused more fault.WrongChunk (b ∷ bs)))
 
 longer_chunk : (t : Bool) → Longer (chunk_at t)
 unfolding chunk_at
@@ -252,7 +264,7 @@ longer_magnitude_behind negative from major.Text info bs more = agrees_refused m
 longer_magnitude_behind negative from major.Array info bs more = agrees_refused more fault.WrongKind from
 longer_magnitude_behind negative from major.Map info bs more = agrees_refused more fault.WrongKind from
 longer_magnitude_behind negative from major.Tag info bs more = agrees_refused more fault.WrongKind from
-longer_magnitude_behind negative from major.Simple info bs more = agrees_refused more fault.WrongKind from
+longer_magnitude_behind negative from major.Simple info bs more = agrees_refused more (cond (eqb info 31) fault.Break fault.WrongKind) from
 
 longer_magnitude : (negative : Bool) → Longer (magnitude_at negative)
 unfolding magnitude_at first_at
@@ -300,7 +312,7 @@ longer_parts read longer advances needs None bs more =
 longer_parts read longer advances needs (Some n) bs more = longer_each read longer advances n bs more
 
 item_needs : (limit : ℕ) → Needs (item_at limit)
-unfolding item_at head_at first_at
+unfolding item_at head_at kind_at first_at
 item_needs zero = refl
 item_needs (suc limit) = refl
 
@@ -326,10 +338,19 @@ longer_inside limit longer major.Simple o bs more = longer_leaf major.Simple o b
 none_deep : (more : List ℕ) → Smaller (length more) (item_at 0 more)
 none_deep more = advances_item 0 more
 
+-- no bytes have ended, whatever the limit
+longer_none : (more : List ℕ) (r : Result (Tree × List ℕ) Refusal) → r ≡ refused fault.Ended [] → Agrees more r (item_at 0 more)
+longer_none more r is = rw is (inl (refl, none_deep more))
+
+longer_deep : Longer (item_at 0)
+unfolding item_at
+longer_deep [] more = longer_none more (kind_at [] >>= λ h. refused fault.TooDeep []) (item_needs 0)
+longer_deep (b ∷ bs) more =
+    settled_then more (kind_at (b ∷ bs)) (kind_at (b ∷ (bs ++ more))) _ _ (kind_settles b bs more) (λ h is. agrees_refused more fault.TooDeep (b ∷ bs))
+
 pub longer_item : (limit : ℕ) → Longer (item_at limit)
 unfolding item_at
-longer_item zero [] more = inl (refl, none_deep more)
-longer_item zero (b ∷ bs) more = agrees_refused more fault.TooDeep (b ∷ bs)
+longer_item zero bs more = longer_deep bs more
 longer_item (suc limit) bs more =
     agrees_then more (head_at limit bs) (head_at limit (bs ++ more)) _ _ (longer_head limit bs more)
     (λ y less. much_smaller (length y.1) (length more) (inside_at (item_at limit) y.0.«major» y.0.number y.1) less (shrinks_inside (item_at limit) (advances_item limit) y.0.«major» y.0.number y.1))

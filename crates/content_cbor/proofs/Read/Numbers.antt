@@ -1,5 +1,5 @@
 -- Numbers that are read digit by digit.
-use Rattle.std.proofs.Common.{◌≡◌, ℕ, suc, zero, ◌+◌, ◌*◌, ◌-◌, ◌/◌, ◌^◌, ◌<◌, ◌≤◌, true, List, [], ◌∷◌, ◌++◌, get_or, length, take, drop, Ok, Err, refl, sym, ap, subst, ◌∙◌, arith, shr-shr, inl, inr}
+use Rattle.std.proofs.Common.{◌≡◌, ℕ, suc, zero, ◌+◌, ◌*◌, ◌-◌, ◌/◌, ◌^◌, ◌<◌, ◌≤◌, true, false, List, [], ◌∷◌, ◌++◌, get_or, length, take, drop, Ok, Err, refl, sym, ap, subst, ◌∙◌, arith, shr-shr, inl, inr}
 use Rattle.std.specs.Int.{is_in_range}
 use Rattle.std.specs.Int.Digits.{number_from_digits_after}
 use Rattle.std.proofs.lemmas.Bool.{and_parts, and_from, leb-true, le-leb, cases_lt}
@@ -19,6 +19,9 @@ in_range_is l m n is = let p = and_parts _ _ is in (leb-true _ _ p.0, leb-true _
 
 pub in_range_from : (l m n : ℕ) → l ≤ n → n ≤ m → is_in_range l m n ≡ true
 in_range_from l m n low high = and_from _ _ (le-leb _ _ low) (le-leb _ _ high)
+
+pub beyond_range : (l m n : ℕ) → n < l → is_in_range l m n ≡ false
+beyond_range l m n lt = grind arith
 
 pub leading_le : (due l m : ℕ) → l ≤ m → leading due l ≤ leading due m
 leading_le zero l m le = le
@@ -83,10 +86,10 @@ abbrev pub Counts : Bounds → ℕ → ℕ → ℕ → List ℕ → Type 0
 Counts bounds due n m ds = (length ds ≡ due) × (number_from_digits_after 256 n ds ≡ m) × IsBytes ds
     × (bounds.admits due n ≡ true → bounds.admits 0 m ≡ true)
 
-no_bytes : IsBytes []
+pub no_bytes : IsBytes []
 no_bytes i = let none : get_or [] i 0 ≡ 0 = get_or_past {X = ℕ} [] i 0 (omega arith) in omega (arith, none)
 
-one_more : (b : ℕ) (bs : List ℕ) → b < 256 → IsBytes bs → IsBytes (b ∷ bs)
+pub one_more : (b : ℕ) (bs : List ℕ) → b < 256 → IsBytes bs → IsBytes (b ∷ bs)
 one_more b bs small fits zero = small
 one_more b bs small fits (suc i) = fits i
 

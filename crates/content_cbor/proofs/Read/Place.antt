@@ -46,11 +46,11 @@ begun_before limit bs e fits is deep =
 
 -- ---- not viable with one byte more
 
-read_both : (x : Tree × List ℕ) (e : Refusal) (r : Result (Tree × List ℕ) Refusal) → r ≡ Ok x → r ≡ Err e → ⊥
+pub read_both : (x : Tree × List ℕ) (e : Refusal) (r : Result (Tree × List ℕ) Refusal) → r ≡ Ok x → r ≡ Err e → ⊥
 read_both x e r is fails = absurd cc
 
 -- what is refused before its end stays so, whatever follows
-still_refused : (more : List ℕ) (e : Refusal) (r longer : Result (Tree × List ℕ) Refusal) → Agrees more r longer → r ≡ Err e → 0 < e.left → longer ≡ Err (later (length more) e)
+pub still_refused : (more : List ℕ) (e : Refusal) (r longer : Result (Tree × List ℕ) Refusal) → Agrees more r longer → r ≡ Err e → 0 < e.left → longer ≡ Err (later (length more) e)
 still_refused more e (Ok x) longer agrees is some = absurd cc
 still_refused more e (Err d) longer (inl w) is some =
     let same : d ≡ e = same_refusal {A = Tree × List ℕ} d e is in absurd (omega (arith, w.0, ap (λ (u : Refusal). u.left) same, some))
@@ -58,15 +58,15 @@ still_refused more e (Err d) longer (inr w) is some =
     let same : d ≡ e = same_refusal {A = Tree × List ℕ} d e is in w ∙ ap (λ u. Err (later (length more) u)) same
 
 -- and what is refused was refused there already, without the bytes behind the place
-caught : (more : List ℕ) (e : Refusal) (r longer : Result (Tree × List ℕ) Refusal) → Agrees more r longer → longer ≡ Err e → length more < e.left
-    → (d : Refusal) × (r ≡ Err d) × (0 < d.left)
+pub caught : (more : List ℕ) (e : Refusal) (r longer : Result (Tree × List ℕ) Refusal) → Agrees more r longer → longer ≡ Err e → length more < e.left
+    → (d : Refusal) × (r ≡ Err d) × (0 < d.left) × (d.«fault» ≡ e.«fault»)
 caught more e (Ok x) longer agrees is past = absurd (read_both (x.0, x.1 ++ more) e longer agrees is)
 caught more e (Err d) longer (inl w) is past =
     let le : Leaves (length more) longer = no_more (length more) longer w.1 in
     absurd (omega (arith, past, subst (Leaves (length more)) is le))
 caught more e (Err d) longer (inr w) is past =
     let same : later (length more) d ≡ e = same_refusal {A = Tree × List ℕ} (later (length more) d) e (sym w ∙ is) in
-    (d, refl, omega (arith, past, ap (λ (u : Refusal). u.left) same))
+    (d, refl, omega (arith, past, ap (λ (u : Refusal). u.left) same), ap (λ (u : Refusal). u.«fault») same)
 
 none_begun : (limit : ℕ) (bs : List ℕ) (e : Refusal) → item_at limit bs ≡ Err e → 0 < e.left → IsViable limit bs → ⊥
 none_begun limit bs e is some g =
@@ -77,7 +77,7 @@ none_begun limit bs e is some g =
 leaves_error : {A : Type 0} (n : ℕ) (r : Result (A × List ℕ) Refusal) (e : Refusal) → Leaves n r → r ≡ Err e → e.left ≤ n
 leaves_error n r e le is = subst (Leaves n) is le
 
-left_within : (limit : ℕ) (bs : List ℕ) (e : Refusal) → item_at limit bs ≡ Err e → e.left ≤ length bs
+pub left_within : (limit : ℕ) (bs : List ℕ) (e : Refusal) → item_at limit bs ≡ Err e → e.left ≤ length bs
 left_within limit bs e is = leaves_error (length bs) (item_at limit bs) e (no_more (length bs) (item_at limit bs) (advances_item limit bs)) is
 
 one_more : (limit at : ℕ) (bs : List ℕ) → IsViable limit (take (at + 1) bs) → IsViable limit (take (suc at) bs)
@@ -93,7 +93,7 @@ dead limit bs e at is place before viable =
     none_begun limit front c.0 c.1 c.2 viable
 
 -- what has ended has its place at the end
-inside : (limit : ℕ) (bs : List ℕ) (e : Refusal) → item_at limit bs ≡ Err e → IsInside e
+pub inside : (limit : ℕ) (bs : List ℕ) (e : Refusal) → item_at limit bs ≡ Err e → IsInside e
 inside limit bs e is = subst (Ends {A = Tree × List ℕ}) is (ends_item limit bs)
 
 at_end : (n : ℕ) (e : Refusal) → e.left ≤ n → IsEnd e → (e.«fault» ≡ fault.Ended) ↔ (n - e.left ≡ n)

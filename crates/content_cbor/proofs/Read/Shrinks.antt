@@ -8,12 +8,12 @@ use Rattle.content_cbor.specs.declared.heads.First.{First}
 use Rattle.content_cbor.specs.declared.heads.Major.{Major}
 use Rattle.content_cbor.specs.declared.heads.Major.TheVariants as major
 use Rattle.content_cbor.specs.declared.stop.Refusal.{Refusal}
-use Rattle.content_cbor.specs.Inner.Steps.{◌>>=◌, Reader, or_refused}
+use Rattle.content_cbor.specs.Inner.Steps.{◌>>=◌, Reader, or_refused, unless}
 use Rattle.content_cbor.specs.Inner.Numbers.{Bounds, argument_at, digits_at, size_of, unbounded}
 use Rattle.content_cbor.specs.declared.utf8.Lack.{Lack}
 use Rattle.content_cbor.specs.Inner.Texts.{after_byte, text_at, within}
 use Rattle.content_cbor.specs.Inner.Reading.{begins_chunk, bounds_of, bytes_at, chunk_at, chunk_bounds, chunks_at, content_at, digits_of, digits_until, each_at, first_at, head_at, head_behind}
-use Rattle.content_cbor.specs.Inner.Reading.{inside_at, is_simple, item_at, leaf_at, length_at, magnitude_at, magnitude_behind, major_of, pair_at, parts_at, room, string_at, tag_at, until_at}
+use Rattle.content_cbor.specs.Inner.Reading.{inside_at, is_reserved, item_at, item_fault, kind_at, leaf_at, length_at, magnitude_at, magnitude_behind, major_of, pair_at, parts_at, room, string_at, tag_at, until_at}
 
 -- so many bytes are left at most, behind what was read or at the fault
 abbrev pub Leaves : {A : Type 0} → ℕ → Result (A × List ℕ) Refusal → Type 0
@@ -109,11 +109,16 @@ unfolding first_at
 first_shrinks [] = omega arith
 first_shrinks (b ∷ bs) =
     let n = suc (length bs) in
-    smaller_if n (ltb (b % 32) 24) _ _ (omega arith)
-    (smaller_if n (eqb (b % 32) 31) _ _ (omega arith)
-    (smaller_if n (ltb 27 (b % 32)) _ _ (omega arith)
-    (smaller_if n (is_simple (major_of (b / 32))) _ _
-    (smaller_if n (eqb (b % 32) 24) _ _ (omega arith) (omega arith)) (omega arith))))
+    smaller_if n (is_reserved (major_of (b / 32)) (b % 32)) _ _ (omega arith) (omega arith)
+
+smaller_unless : (o : Option Fault) (left : List ℕ) (h : First × List ℕ) → length h.1 < length left → Smaller (length left) (unless o left h)
+smaller_unless None left h less = less
+smaller_unless (Some f) left h less = omega arith
+
+pub kind_shrinks : (bs : List ℕ) → Smaller (length bs) (kind_at bs)
+unfolding kind_at
+kind_shrinks bs =
+    smaller_then (length bs) (first_at bs) _ (first_shrinks bs) (λ h less. smaller_unless (item_fault h.0.«major» h.0.info) bs h less)
 
 pub advances_digits : (bounds : Bounds) (due n : ℕ) → Advances (digits_at bounds (suc due) n)
 unfolding digits_at
@@ -130,7 +135,7 @@ shrinks_head_behind bounds first bs =
 pub shrinks_head : (limit : ℕ) (bs : List ℕ) → Smaller (length bs) (head_at limit bs)
 unfolding head_at
 shrinks_head limit bs =
-    smaller_then (length bs) (first_at bs) _ (first_shrinks bs) (λ h less.
+    smaller_then (length bs) (kind_at bs) _ (kind_shrinks bs) (λ h less.
     much_smaller (length h.1) (length bs) (head_behind (bounds_of limit h.0.«major») h.0 h.1) less (shrinks_head_behind (bounds_of limit h.0.«major») h.0 h.1))
 
 -- ---- texts and bytes
@@ -299,8 +304,7 @@ shrinks_inside read advances major.Simple o bs = shrinks_leaf major.Simple o bs
 
 pub advances_item : (limit : ℕ) → Advances (item_at limit)
 unfolding item_at
-advances_item zero [] = omega arith
-advances_item zero (b ∷ bs) = omega arith
+advances_item zero bs = smaller_then (length bs) (kind_at bs) _ (kind_shrinks bs) (λ h less. omega arith)
 advances_item (suc limit) bs =
     smaller_then (length bs) (head_at limit bs) _ (shrinks_head limit bs) (λ h less.
     much_smaller (length h.1) (length bs) (inside_at (item_at limit) h.0.«major» h.0.number h.1) less

@@ -2,7 +2,7 @@
 use Rattle.std.proofs.Common.{◌≡◌, ℕ, Bool, true, false, cond, Option, Some, None, Result, Ok, Err, List, length, ◌⊎◌, refl, ap, inl, inr}
 use Rattle.content_cbor.specs.declared.decode_error.Fault.{Fault}
 use Rattle.content_cbor.specs.declared.stop.Refusal.{Refusal}
-use Rattle.content_cbor.specs.Inner.Steps.{◌>>=◌, or_refused}
+use Rattle.content_cbor.specs.Inner.Steps.{◌>>=◌, or_refused, unless}
 
 abbrev done : {A : Type 0} → A → Result A Refusal
 done x = Ok x
@@ -34,6 +34,11 @@ pub there : {A : Type 0} (f : Fault) (left : List ℕ) (o : Option A) (x : A) �
 there f left None x e = absurd cc
 there f left (Some y) x e = cc
 
+-- nothing was wrong
+pub not_wrong : {A : Type 0} (o : Option Fault) (left : List ℕ) (x y : A) → unless o left x ≡ Ok y → (o ≡ None) × (x ≡ y)
+not_wrong None left x y e = (refl, ok_is x y e)
+not_wrong (Some f) left x y e = absurd cc
+
 -- ---- steps that failed
 
 abbrev pub told : {A : Type 0} → Refusal → Result A Refusal
@@ -49,6 +54,11 @@ pub bind_err : {A B : Type 0} (r : Result A Refusal) (f : A → Result B Refusal
     → (r ≡ Err e) ⊎ ((x : A) × (r ≡ Ok x) × (f x ≡ Err e))
 bind_err (Ok x) f e is = inr (x, refl, is)
 bind_err (Err d) f e is = inl (ap told (same_refusal d e is))
+
+-- where something was wrong
+pub wrong_left : {A : Type 0} (o : Option Fault) (left : List ℕ) (x : A) (e : Refusal) → unless o left x ≡ Err e → length left ≡ e.left
+wrong_left None left x e is = absurd cc
+wrong_left {A} (Some f) left x e is = same_left {A = A} (record { «fault» = f; left = length left }) e is
 
 -- where nothing was there
 pub not_there : {A : Type 0} (f : Fault) (left : List ℕ) (o : Option A) (e : Refusal) → or_refused f left o ≡ Err e → length left ≡ e.left

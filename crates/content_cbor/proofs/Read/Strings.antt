@@ -15,14 +15,14 @@ use Rattle.content_cbor.specs.declared.stop.Refusal.{Refusal}
 use Rattle.content_cbor.specs.Inner.Steps.{◌>>=◌, refused}
 use Rattle.content_cbor.specs.Inner.Numbers.{Bounds, argument_at, unbounded}
 use Rattle.content_cbor.specs.Inner.Texts.{tail, text_at}
-use Rattle.content_cbor.specs.Inner.Reading.{at_break, begins_chunk, bytes_at, chunk_at, chunks_at, content_at, first_at, is_simple, length_at, string_at, string_major, until_at}
+use Rattle.content_cbor.specs.Inner.Reading.{at_break, begins_chunk, bytes_at, chunk_at, chunks_at, content_at, first_at, is_reserved, is_simple, length_at, string_at, string_major, until_at}
 use Rattle.content_cbor.proofs.Read.Steps.{ok_is, bind_err, bind_ok, chosen, failed, passed, same_left}
 use Rattle.content_cbor.proofs.Read.Took.{IsBytes, IsBytes-drop, Took, Sound, Complete, regrouped}
 use Rattle.content_cbor.proofs.Read.Parts.{Begins, Ends, until_sound, until_complete, until_placed}
 use Rattle.content_cbor.proofs.Read.Begun.{Before, Opens, PlacedBehind, at_start, behind_a, instead, opens_behind}
 use Rattle.content_cbor.proofs.Read.Numbers.{Fair, IsByte, unbounded_fair}
 use Rattle.content_cbor.proofs.Read.Shrinks.{advances_chunk}
-use Rattle.content_cbor.proofs.Read.Heads.{Admitted, Argument, HeadOf, Says, Starts, argument_admitted, argument_complete, argument_placed, argument_sound, below_28, first_again, first_and, first_placed, first_sound, high_info, long_is, numbered, of_head}
+use Rattle.content_cbor.proofs.Read.Heads.{Admitted, Argument, HeadOf, Says, Starts, argument_admitted, argument_complete, argument_placed, argument_sound, below_28, first_again, first_and, first_placed, first_sound, high_info, numbered, of_head, says_plain, unreserved}
 use Rattle.content_cbor.proofs.Read.Utf8.{so_many, spaces, spaces_text, text_complete, text_placed, text_sound}
 
 pub not_simple : (t : Bool) → is_simple (string_major t) ≡ false
@@ -143,7 +143,7 @@ good_text n bs long good =
 abbrev pub LengthIs : Bool → Bounds → ℕ → List ℕ → Type 0
 LengthIs t bounds n bs = IsHead (string_major t) n bs × (bounds.admits 0 n ≡ true)
 
-begins_is : (t : Bool) (m : Major) (info : ℕ) → begins_chunk t m info ≡ true → (m ≡ string_major t) × (info < 31)
+pub begins_is : (t : Bool) (m : Major) (info : ℕ) → begins_chunk t m info ≡ true → (m ≡ string_major t) × (info < 31)
 begins_is true major.Unsigned info e = absurd cc
 begins_is true major.Negative info e = absurd cc
 begins_is true major.Bytes info e = absurd cc
@@ -161,7 +161,7 @@ begins_is false major.Map info e = absurd cc
 begins_is false major.Tag info e = absurd cc
 begins_is false major.Simple info e = absurd cc
 
-begins_again : (t : Bool) (info : ℕ) → info < 31 → begins_chunk t (string_major t) info ≡ true
+pub begins_again : (t : Bool) (info : ℕ) → info < 31 → begins_chunk t (string_major t) info ≡ true
 begins_again true info lt = lt-ltb info 31 lt
 begins_again false info lt = lt-ltb info 31 lt
 
@@ -170,20 +170,24 @@ first_of_chunk : (t : Bool) (m : Major) (info n : ℕ) (bs : List ℕ) → Says 
 first_of_chunk t m info n bs says same low is =
     subst (λ k. IsHead k n (first_byte m info ∷ bs)) same (numbered m n (first_byte m info ∷ bs) (first_and m info n bs says (λ e. omega (arith, low, e)) is))
 
+pub says_chunk : (t : Bool) (m : Major) (info : ℕ) → m ≡ string_major t → info < 32 → is_reserved m info ≡ false → Says m info
+says_chunk t m info is lt known = says_plain m info (ap is_simple is ∙ not_simple t) lt known
+
 pub length_sound : (t : Bool) (bounds : Bounds) → Starts bounds → Sound (LengthIs t bounds) (length_at t bounds)
 unfolding length_at
 length_sound t bounds starts bs n rest fits is =
-    let a = bind_ok (first_at bs) (λ h. cond (begins_chunk t h.0.«major» h.0.info) (argument_at bounds h.0.info h.1) (refused fault.WrongKind bs)) (n, rest) is in
+    let a = bind_ok (first_at bs) (λ h. cond (begins_chunk t h.0.«major» h.0.info) (argument_at bounds h.0.info h.1) (refused fault.WrongChunk bs)) (n, rest) is in
     let m = a.0.0.«major» in
     let info = a.0.0.info in
     let f = first_sound bs a.0.0 a.0.1 fits a.1 in
-    let g = failed (begins_chunk t m info) (record { «fault» = fault.WrongKind; left = length bs }) (argument_at bounds info a.0.1) (n, rest) a.2 in
+    let g = failed (begins_chunk t m info) (record { «fault» = fault.WrongChunk; left = length bs }) (argument_at bounds info a.0.1) (n, rest) a.2 in
     let b = begins_is t m info g.0 in
-    let x = argument_sound bounds starts info (below_28 m info f.part.0 (λ e. omega (arith, b.1, e))) a.0.1 n rest f.fits g.1 in
+    let says = says_chunk t m info b.0 f.part.1 f.part.0 in
+    let x = argument_sound bounds starts info (below_28 m info says (λ e. omega (arith, b.1, e))) a.0.1 n rest f.fits g.1 in
     record {
       front = first_byte m info ∷ x.front;
-      part = (first_of_chunk t m info n x.front f.part.0 b.0 b.1 x.part.0, x.part.1);
-      split = regrouped bs f.front a.0.1 x.front rest f.split x.split ∙ ap (λ u. (u ++ x.front) ++ rest) f.part.1;
+      part = (first_of_chunk t m info n x.front says b.0 b.1 x.part.0, x.part.1);
+      split = regrouped bs f.front a.0.1 x.front rest f.split x.split ∙ ap (λ u. (u ++ x.front) ++ rest) f.part.2;
       fits = x.fits;
     }
 
@@ -191,23 +195,24 @@ pub length_admitted : (t : Bool) (bounds : Bounds) → ((due : ℕ) → bounds.a
     → bounds.admits 0 n ≡ true
 unfolding length_at
 length_admitted t bounds starts bs n rest is =
-    let a = bind_ok (first_at bs) (λ h. cond (begins_chunk t h.0.«major» h.0.info) (argument_at bounds h.0.info h.1) (refused fault.WrongKind bs)) (n, rest) is in
-    let g = failed (begins_chunk t a.0.0.«major» a.0.0.info) (record { «fault» = fault.WrongKind; left = length bs }) (argument_at bounds a.0.0.info a.0.1) (n, rest) a.2 in
+    let a = bind_ok (first_at bs) (λ h. cond (begins_chunk t h.0.«major» h.0.info) (argument_at bounds h.0.info h.1) (refused fault.WrongChunk bs)) (n, rest) is in
+    let g = failed (begins_chunk t a.0.0.«major» a.0.0.info) (record { «fault» = fault.WrongChunk; left = length bs }) (argument_at bounds a.0.0.info a.0.1) (n, rest) a.2 in
     argument_admitted bounds starts a.0.0.info a.0.1 n rest g.1
 
-length_again : (t : Bool) (bounds : Bounds) (info n : ℕ) (back rest : List ℕ) → Says (string_major t) info → info < 31 → argument_at bounds info (back ++ rest) ≡ Ok (n, rest)
+length_again : (t : Bool) (bounds : Bounds) (info n : ℕ) (back rest : List ℕ) → info ≤ 27 → argument_at bounds info (back ++ rest) ≡ Ok (n, rest)
     → length_at t bounds (first_byte (string_major t) info ∷ (back ++ rest)) ≡ Ok (n, rest)
 unfolding length_at
-length_again t bounds info n back rest says low is = rw (first_again (string_major t) info (back ++ rest) says, begins_again t info low, is) refl
+length_again t bounds info n back rest low is =
+    rw (first_again (string_major t) info (back ++ rest) (unreserved (string_major t) info low) (omega (arith, low)), begins_again t info (omega (arith, low)), is) refl
 
 pub length_complete : (t : Bool) (bounds : Bounds) → Fair IsByte bounds → Complete (LengthIs t bounds) (length_at t bounds)
 length_complete t bounds fair n front rest (inl w, admitted) =
     ap (λ u. length_at t bounds (u ++ rest)) w.1
-    ∙ length_again t bounds n n [] rest (inl w.0) (omega (arith, w.0)) (argument_complete bounds fair n n [] rest (inl (w.0, refl, refl), admitted))
+    ∙ length_again t bounds n n [] rest (omega (arith, w.0)) (argument_complete bounds fair n n [] rest (inl (w.0, refl, refl), admitted))
 length_complete t bounds fair n front rest (inr w, admitted) =
     let back = to_be_bytes (width_of w.0) n in
     ap (λ u. length_at t bounds (u ++ rest)) w.2
-    ∙ length_again t bounds (info_of w.0) n back rest (inr (inr (not_simple t, long_is w.0, high_info w.0))) (omega (arith, high_info w.0))
+    ∙ length_again t bounds (info_of w.0) n back rest (high_info w.0)
     (argument_complete bounds fair (info_of w.0) n back rest (inr (w.0, refl, (w.1, refl)), admitted))
 
 -- refused at its first byte, or behind what begins a head
@@ -215,21 +220,22 @@ pub length_placed : (t : Bool) (bounds : Bounds) → Fair IsByte bounds → Star
     → (length bs ≡ e.left) ⊎ Before (Opens (LengthIs t bounds)) bs e.left
 unfolding length_at
 length_placed t bounds fair starts bs e fits is =
-    elim (bind_err (first_at bs) (λ h. cond (begins_chunk t h.0.«major» h.0.info) (argument_at bounds h.0.info h.1) (refused fault.WrongKind bs)) e is) [
+    elim (bind_err (first_at bs) (λ h. cond (begins_chunk t h.0.«major» h.0.info) (argument_at bounds h.0.info h.1) (refused fault.WrongChunk bs)) e is) [
       | inl w ↦ inl (first_placed bs e w)
       | inr a ↦
           let m = a.0.0.«major» in
           let info = a.0.0.info in
-          elim (chosen (begins_chunk t m info) (argument_at bounds info a.0.1) (refused fault.WrongKind bs) (Err e) a.2) [
-            | inr w ↦ inl (same_left {A = ℕ × List ℕ} (record { «fault» = fault.WrongKind; left = length bs }) e w.1)
+          elim (chosen (begins_chunk t m info) (argument_at bounds info a.0.1) (refused fault.WrongChunk bs) (Err e) a.2) [
+            | inr w ↦ inl (same_left {A = ℕ × List ℕ} (record { «fault» = fault.WrongChunk; left = length bs }) e w.1)
             | inl w ↦
                 let f = first_sound bs a.0.0 a.0.1 fits a.1 in
                 let b = begins_is t m info w.0 in
-                let split : bs ≡ (first_byte m info ∷ []) ++ a.0.1 = f.split ∙ ap (λ u. u ++ a.0.1) f.part.1 in
-                elim (argument_placed bounds fair starts info (below_28 m info f.part.0 (λ k. omega (arith, b.1, k))) a.0.1 e f.fits w.1) [
+                let says = says_chunk t m info b.0 f.part.1 f.part.0 in
+                let split : bs ≡ (first_byte m info ∷ []) ++ a.0.1 = f.split ∙ ap (λ u. u ++ a.0.1) f.part.2 in
+                elim (argument_placed bounds fair starts info (below_28 m info says (λ k. omega (arith, b.1, k))) a.0.1 e f.fits w.1) [
                   | inl at ↦ inl (omega (arith, ap length split, at))
                   | inr (long, c) ↦ inr (behind_a (Opens (Admitted bounds info)) (Opens (LengthIs t bounds)) (first_byte m info ∷ []) a.0.1 bs e.left split
-                      (λ front o. (o.0, o.1, (first_of_chunk t m info o.0 (front ++ o.1) f.part.0 b.0 b.1 o.2.0, o.2.1))) c)
+                      (λ front o. (o.0, o.1, (first_of_chunk t m info o.0 (front ++ o.1) says b.0 b.1 o.2.0, o.2.1))) c)
                 ]
           ]
     ]

@@ -15,14 +15,14 @@ use Rattle.content_cbor.specs.declared.heads.Major.TheVariants as major
 use Rattle.content_cbor.specs.declared.stop.Refusal.{Refusal}
 use Rattle.content_cbor.specs.Inner.Steps.{◌>>=◌}
 use Rattle.content_cbor.specs.Inner.Numbers.{between, digits_at, leading, unbounded}
-use Rattle.content_cbor.specs.Inner.Reading.{at_break, chunk_bounds, digits_behind, digits_of, digits_until, first_at, greatest, head_behind, length_at, magnitude_at, magnitude_behind, room, tag_at}
+use Rattle.content_cbor.specs.Inner.Reading.{at_break, chunk_bounds, digits_behind, digits_of, digits_until, first_at, greatest, head_behind, is_reserved, length_at, magnitude_at, magnitude_behind, room, tag_at}
 use Rattle.content_cbor.proofs.Read.Steps.{ok_is, bind_err, bind_ok, chosen, same_left}
 use Rattle.content_cbor.proofs.Read.Took.{IsBytes, Took, Sound, Complete, regrouped}
 use Rattle.content_cbor.proofs.Read.Begun.{Before, Opens, PlacedBehind, at_start, behind_a, instead, opens_behind}
 use Rattle.content_cbor.proofs.Read.Parts.{Ends, broken, fits_behind}
 use Rattle.content_cbor.proofs.Read.Numbers.{Fair, IsAny, IsByte, all_any, between_fair, digits_complete, digits_placed, digits_sound, in_range_from, in_range_is, leading_falls, leading_none, leads_back, some_digits, unbounded_fair, up_to_fair}
 use Rattle.content_cbor.proofs.Read.Shrinks.{no_longer, shorter, shrinks_digits, shrinks_length}
-use Rattle.content_cbor.proofs.Read.Heads.{HeadIn, HeadOf, Says, Starts, behind_sound, first_again, first_placed, first_sound, head_apart, head_behind_placed, head_is, numbered, up_to_starts}
+use Rattle.content_cbor.proofs.Read.Heads.{HeadIn, HeadOf, Says, Starts, behind_sound, first_again, first_placed, first_sound, head_apart, head_behind_placed, head_is, numbered, says_plain, unreserved, up_to_starts}
 use Rattle.content_cbor.proofs.Read.Strings.{LengthIs, StringBody, chunk_begins, length_admitted, length_complete, length_placed, length_sound, open_starts, string_apart, string_whole}
 
 -- ---- what has room
@@ -121,7 +121,7 @@ chunk_fits negative n bs l rest fits is =
 lengths_fair : (negative : Bool) (n : ℕ) → Fair IsByte (chunk_bounds negative n)
 lengths_fair negative n = chunk_fair (eqb n 0) (digits_behind 15 (greatest negative) n)
 
-lengths_start : (negative : Bool) (n : ℕ) → Starts (chunk_bounds negative n)
+pub lengths_start : (negative : Bool) (n : ℕ) → Starts (chunk_bounds negative n)
 lengths_start negative n = chunk_starts (eqb n 0) (digits_behind 15 (greatest negative) n)
 
 -- ---- digits in chunks
@@ -240,9 +240,10 @@ written_complete negative None n body rest is =
     ap (digits_until negative 0 (length (body ++ rest))) whole
     ∙ until_again negative is.1.0 0 n parts rest (length (body ++ rest)) is.1.2.1 leads is.3 enough
 
-behind_is : (negative : Bool) (from : List ℕ) (m : Major) (info : ℕ) (bs : List ℕ) (n : ℕ) (rest : List ℕ) → IsBytes bs → Says m info
+behind_is : (negative : Bool) (from : List ℕ) (m : Major) (info : ℕ) (bs : List ℕ) (n : ℕ) (rest : List ℕ) → IsBytes bs → info < 32 → is_reserved m info ≡ false
     → magnitude_behind negative from m info bs ≡ Ok (n, rest) → Took (λ body. TaggedBody negative n (first_byte m info ∷ body)) bs rest
-behind_is negative from major.Bytes info bs n rest fits says e =
+behind_is negative from major.Bytes info bs n rest fits lt plain e =
+    let says = says_plain major.Bytes info refl lt plain in
     let first : First = record { «major» = major.Bytes; info = info } in
     let a = bind_ok (head_behind unbounded first bs) (λ h. digits_of negative h.0.number h.1) (n, rest) e in
     let h = behind_sound unbounded open_starts first says bs a.0.0 a.0.1 fits a.1 in
@@ -257,13 +258,13 @@ behind_is negative from major.Bytes info bs n rest fits says e =
       split = regrouped bs h.front a.0.1 w.front rest h.split w.split;
       fits = w.fits;
     }
-behind_is negative from major.Unsigned info bs n rest fits says e = absurd cc
-behind_is negative from major.Negative info bs n rest fits says e = absurd cc
-behind_is negative from major.Text info bs n rest fits says e = absurd cc
-behind_is negative from major.Array info bs n rest fits says e = absurd cc
-behind_is negative from major.Map info bs n rest fits says e = absurd cc
-behind_is negative from major.Tag info bs n rest fits says e = absurd cc
-behind_is negative from major.Simple info bs n rest fits says e = absurd cc
+behind_is negative from major.Unsigned info bs n rest fits lt plain e = absurd cc
+behind_is negative from major.Negative info bs n rest fits lt plain e = absurd cc
+behind_is negative from major.Text info bs n rest fits lt plain e = absurd cc
+behind_is negative from major.Array info bs n rest fits lt plain e = absurd cc
+behind_is negative from major.Map info bs n rest fits lt plain e = absurd cc
+behind_is negative from major.Tag info bs n rest fits lt plain e = absurd cc
+behind_is negative from major.Simple info bs n rest fits lt plain e = absurd cc
 
 magnitude_sound : (negative : Bool) → Sound (TaggedBody negative) (magnitude_at negative)
 unfolding magnitude_at
@@ -272,11 +273,11 @@ magnitude_sound negative bs n rest fits e =
     let f = first_sound bs a.0.0 a.0.1 fits a.1 in
     let m = a.0.0.«major» in
     let info = a.0.0.info in
-    let b = behind_is negative bs m info a.0.1 n rest f.fits f.part.0 a.2 in
+    let b = behind_is negative bs m info a.0.1 n rest f.fits f.part.1 f.part.0 a.2 in
     record {
       front = first_byte m info ∷ b.front;
       part = b.part;
-      split = regrouped bs f.front a.0.1 b.front rest f.split b.split ∙ ap (λ t. (t ++ b.front) ++ rest) f.part.1;
+      split = regrouped bs f.front a.0.1 b.front rest f.split b.split ∙ ap (λ t. (t ++ b.front) ++ rest) f.part.2;
       fits = b.fits;
     }
 
@@ -284,6 +285,16 @@ magnitude_sound negative bs n rest fits e =
 any_head : (m : Major) (o : Option ℕ) (bs : List ℕ) → HeadOf m o bs → HeadIn unbounded m o bs
 any_head m None bs is = is
 any_head m (Some n) bs is = (is, refl)
+
+says_below : (m : Major) (info : ℕ) → Says m info → info < 32
+says_below m info (inl low) = omega (arith, low)
+says_below m info (inr (inl is)) = omega (arith, is)
+says_below m info (inr (inr says)) = omega (arith, says.2)
+
+bytes_unreserved : (info : ℕ) → Says major.Bytes info → is_reserved major.Bytes info ≡ false
+bytes_unreserved info (inl low) = unreserved major.Bytes info (omega (arith, low))
+bytes_unreserved info (inr (inl is)) = rw is refl
+bytes_unreserved info (inr (inr says)) = unreserved major.Bytes info says.2
 
 magnitude_complete : (negative : Bool) → Complete (TaggedBody negative) (magnitude_at negative)
 unfolding magnitude_at
@@ -295,7 +306,7 @@ magnitude_complete negative n front rest is =
     let split : front ++ rest ≡ first_byte major.Bytes a.info ∷ (a.back ++ (body ++ rest)) =
     ap (λ t. t ++ rest) p.3 ∙ append_assoc p.1 body rest ∙ ap (λ t. t ++ (body ++ rest)) a.split in
     ap (magnitude_at negative) split
-    ∙ rw (first_again major.Bytes a.info (a.back ++ (body ++ rest)) a.says, a.read (body ++ rest)) (written_complete negative o n body rest (is.0, p.5, is.2, is.3))
+    ∙ rw (first_again major.Bytes a.info (a.back ++ (body ++ rest)) (bytes_unreserved a.info a.says) (says_below major.Bytes a.info a.says), a.read (body ++ rest)) (written_complete negative o n body rest (is.0, p.5, is.2, is.3))
 
 -- a number whose bytes these are
 abbrev pub IsNumber : Number → List ℕ → Type 0
@@ -445,10 +456,11 @@ zeros_tagged : (negative : Bool) (n : ℕ) (head : List ℕ) → IsHead major.By
 zeros_tagged negative n head is =
     (static_name (zeros n), inl (refl, (head, subst (λ k. IsHead major.Bytes k head) (sym (so_many n)) is, tt, refl)), zero_is n, none_fits negative)
 
-behind_placed : (negative : Bool) (from : List ℕ) (m : Major) (info : ℕ) (bs : List ℕ) (e : Refusal) → IsBytes bs → Says m info → length from ≡ suc (length bs)
+behind_placed : (negative : Bool) (from : List ℕ) (m : Major) (info : ℕ) (bs : List ℕ) (e : Refusal) → IsBytes bs → info < 32 → is_reserved m info ≡ false → length from ≡ suc (length bs)
     → magnitude_behind negative from m info bs ≡ Err e
     → (length from ≡ e.left) ⊎ Before (Opens (λ n body. TaggedBody negative n (first_byte m info ∷ body))) bs e.left
-behind_placed negative from major.Bytes info bs e fits says long is =
+behind_placed negative from major.Bytes info bs e fits lt plain long is =
+    let says = says_plain major.Bytes info refl lt plain in
     let first : First = record { «major» = major.Bytes; info = info } in
     let byte = first_byte major.Bytes info in
     elim (bind_err (head_behind unbounded first bs) (λ h. digits_of negative h.0.number h.1) e is) [
@@ -467,13 +479,14 @@ behind_placed negative from major.Bytes info bs e fits says long is =
           opens_behind (λ n body. TaggedBody negative n (byte ∷ body)) h.front front o.1 o.0 (p.0, string_whole false a.0.0.number p.0 head (front ++ o.1) is_head p.1, p.2, p.3))
           (digits_of_placed negative a.0.0.number a.0.1 e h.fits a.2))
     ]
-behind_placed negative from major.Unsigned info bs e fits says long is = inl (same_left {A = ℕ × List ℕ} (record { «fault» = fault.WrongKind; left = length from }) e is)
-behind_placed negative from major.Negative info bs e fits says long is = inl (same_left {A = ℕ × List ℕ} (record { «fault» = fault.WrongKind; left = length from }) e is)
-behind_placed negative from major.Text info bs e fits says long is = inl (same_left {A = ℕ × List ℕ} (record { «fault» = fault.WrongKind; left = length from }) e is)
-behind_placed negative from major.Array info bs e fits says long is = inl (same_left {A = ℕ × List ℕ} (record { «fault» = fault.WrongKind; left = length from }) e is)
-behind_placed negative from major.Map info bs e fits says long is = inl (same_left {A = ℕ × List ℕ} (record { «fault» = fault.WrongKind; left = length from }) e is)
-behind_placed negative from major.Tag info bs e fits says long is = inl (same_left {A = ℕ × List ℕ} (record { «fault» = fault.WrongKind; left = length from }) e is)
-behind_placed negative from major.Simple info bs e fits says long is = inl (same_left {A = ℕ × List ℕ} (record { «fault» = fault.WrongKind; left = length from }) e is)
+behind_placed negative from major.Unsigned info bs e fits lt plain long is = inl (same_left {A = ℕ × List ℕ} (record { «fault» = fault.WrongKind; left = length from }) e is)
+behind_placed negative from major.Negative info bs e fits lt plain long is = inl (same_left {A = ℕ × List ℕ} (record { «fault» = fault.WrongKind; left = length from }) e is)
+behind_placed negative from major.Text info bs e fits lt plain long is = inl (same_left {A = ℕ × List ℕ} (record { «fault» = fault.WrongKind; left = length from }) e is)
+behind_placed negative from major.Array info bs e fits lt plain long is = inl (same_left {A = ℕ × List ℕ} (record { «fault» = fault.WrongKind; left = length from }) e is)
+behind_placed negative from major.Map info bs e fits lt plain long is = inl (same_left {A = ℕ × List ℕ} (record { «fault» = fault.WrongKind; left = length from }) e is)
+behind_placed negative from major.Tag info bs e fits lt plain long is = inl (same_left {A = ℕ × List ℕ} (record { «fault» = fault.WrongKind; left = length from }) e is)
+behind_placed negative from major.Simple info bs e fits lt plain long is =
+    inl (same_left {A = ℕ × List ℕ} (record { «fault» = cond (eqb info 31) fault.Break fault.WrongKind; left = length from }) e is)
 
 magnitude_placed : (negative : Bool) → PlacedBehind (TaggedBody negative) (magnitude_at negative)
 unfolding magnitude_at
@@ -483,8 +496,8 @@ magnitude_placed negative bs e fits is =
       | inr a ↦
           let f = first_sound bs a.0.0 a.0.1 fits a.1 in
           let byte = first_byte a.0.0.«major» a.0.0.info in
-          let split : bs ≡ (byte ∷ []) ++ a.0.1 = f.split ∙ ap (λ t. t ++ a.0.1) f.part.1 in
-          elim (behind_placed negative bs a.0.0.«major» a.0.0.info a.0.1 e f.fits f.part.0 (ap length split) a.2) [
+          let split : bs ≡ (byte ∷ []) ++ a.0.1 = f.split ∙ ap (λ t. t ++ a.0.1) f.part.2 in
+          elim (behind_placed negative bs a.0.0.«major» a.0.0.info a.0.1 e f.fits f.part.1 f.part.0 (ap length split) a.2) [
             | inl at ↦ at_start (Opens (TaggedBody negative)) bs e.left (nothing_tagged negative) at
             | inr b ↦ behind_a (Opens (λ n body. TaggedBody negative n (byte ∷ body))) (Opens (TaggedBody negative)) (byte ∷ []) a.0.1 bs e.left split (λ front o. o) b
           ]

@@ -17,7 +17,7 @@ use Rattle.content_cbor.specs.Inner.Reading.{at_break, bounds_of, inside_at, is_
 use Rattle.content_cbor.proofs.Read.Steps.{ok_is, bind_ok, failed}
 use Rattle.content_cbor.proofs.Read.Took.{IsBytes, Complete}
 use Rattle.content_cbor.proofs.Read.Parts.{Begins, each_complete, until_complete}
-use Rattle.content_cbor.proofs.Read.Heads.{HeadIn, HeadOf, head_complete, of_head}
+use Rattle.content_cbor.proofs.Read.Heads.{HeadIn, HeadOf, Stands, head_complete, of_head}
 use Rattle.content_cbor.proofs.Read.Strings.{string_complete, string_apart, string_begins, head_begins, opening_begins}
 use Rattle.content_cbor.proofs.Read.Tags.{unsigned_again, negative_again}
 use Rattle.content_cbor.proofs.Read.Items.{PartsBody, item_sound, pair_complete, pair_begins}
@@ -114,33 +114,51 @@ map_admits zero (p ∷ ps) (Some n) head body is parts = absurd (pair_room zero 
 -- ---- items
 
 -- behind its head, what stands there is read
-behind : (limit : ℕ) (m : Major) (o : Option ℕ) (bs head body rest : List ℕ) → bs ≡ head ++ body → HeadIn (bounds_of limit m) m o head
+behind : (limit : ℕ) (m : Major) (o : Option ℕ) (bs head body rest : List ℕ) → bs ≡ head ++ body → HeadIn (bounds_of limit m) m o head → Stands m o
     → item_at (suc limit) (bs ++ rest) ≡ inside_at (item_at limit) m o (body ++ rest)
 unfolding item_at
-behind limit m o bs head body rest split is =
+behind limit m o bs head body rest split is stands =
     ap (item_at (suc limit)) (ap (λ f. f ++ rest) split ∙ append_assoc head body rest)
-    ∙ rw (head_complete limit (record { «major» = m; number = o }) head (body ++ rest) is) refl
+    ∙ rw (head_complete limit (record { «major» = m; number = o }) head (body ++ rest) is stands) refl
 
 -- with nothing behind the head
-alone : (limit : ℕ) (m : Major) (o : Option ℕ) (head rest : List ℕ) → HeadIn (bounds_of limit m) m o head → item_at (suc limit) (head ++ rest) ≡ inside_at (item_at limit) m o rest
-alone limit m o head rest is = behind limit m o head head [] rest (sym (append-nil head)) is
+alone : (limit : ℕ) (m : Major) (o : Option ℕ) (head rest : List ℕ) → HeadIn (bounds_of limit m) m o head → Stands m o
+    → item_at (suc limit) (head ++ rest) ≡ inside_at (item_at limit) m o rest
+alone limit m o head rest is stands = behind limit m o head head [] rest (sym (append-nil head)) is stands
 
 integer_again : (limit : ℕ) (z : ℤ) (bs rest : List ℕ) → IsInteger z bs → item_at (suc limit) (bs ++ rest) ≡ Ok (tree.number (number_of z), rest)
 unfolding leaf_at
-integer_again limit (pos n) bs rest (inl w) = alone limit major.Unsigned (Some n) bs rest (of_head major.Unsigned refl n bs w, refl)
-integer_again limit (negsuc n) bs rest (inl w) = alone limit major.Negative (Some n) bs rest (of_head major.Negative refl n bs w, refl)
+integer_again limit (pos n) bs rest (inl w) = alone limit major.Unsigned (Some n) bs rest (of_head major.Unsigned refl n bs w, refl) tt
+integer_again limit (negsuc n) bs rest (inl w) = alone limit major.Negative (Some n) bs rest (of_head major.Negative refl n bs w, refl) tt
 integer_again limit (pos n) bs rest (inr w) =
     let u = w.1 in
-    behind limit major.Tag (Some 2) bs u.0 u.1 rest u.6 (of_head major.Tag refl 2 u.0 u.3, refl)
+    behind limit major.Tag (Some 2) bs u.0 u.1 rest u.6 (of_head major.Tag refl 2 u.0 u.3, refl) tt
     ∙ rw (unsigned_again n u.1 rest u.2 w.0 u.4 u.5) refl
 integer_again limit (negsuc n) bs rest (inr w) =
     let u = w.1 in
-    behind limit major.Tag (Some 3) bs u.0 u.1 rest u.6 (of_head major.Tag refl 3 u.0 u.3, refl)
+    behind limit major.Tag (Some 3) bs u.0 u.1 rest u.6 (of_head major.Tag refl 3 u.0 u.3, refl) tt
     ∙ rw (negative_again n u.1 rest u.2 w.0 u.4 u.5) refl
 
-simple_item : (limit n : ℕ) (t : Tree) (bs rest : List ℕ) → n < 24 → bs ≡ first_byte major.Simple n ∷ [] → leaf_at major.Simple (Some n) rest ≡ Ok (t, rest)
+simple_item : (limit n : ℕ) (t : Tree) (bs rest : List ℕ) → Stands major.Simple (Some n) → bs ≡ first_byte major.Simple n ∷ [] → leaf_at major.Simple (Some n) rest ≡ Ok (t, rest)
     → item_at (suc limit) (bs ++ rest) ≡ Ok (t, rest)
-simple_item limit n t bs rest lt is leaf = alone limit major.Simple (Some n) bs rest (inl (lt, is), refl) ∙ leaf
+simple_item limit n t bs rest stands is leaf = alone limit major.Simple (Some n) bs rest (inl (omega (arith, stands.1), is), refl) stands ∙ leaf
+
+-- heads of texts, bytes, arrays and maps stand with a number and without
+text_stands : (o : Option ℕ) → Stands major.Text o
+text_stands (Some n) = tt
+text_stands None = tt
+
+bytes_stand : (o : Option ℕ) → Stands major.Bytes o
+bytes_stand (Some n) = tt
+bytes_stand None = tt
+
+array_stands : (o : Option ℕ) → Stands major.Array o
+array_stands (Some n) = tt
+array_stands None = tt
+
+map_stands : (o : Option ℕ) → Stands major.Map o
+map_stands (Some n) = tt
+map_stands None = tt
 
 any_text : (limit : ℕ) (o : Option ℕ) (head : List ℕ) → HeadOf major.Text o head → HeadIn (bounds_of limit major.Text) major.Text o head
 any_text limit None head is = is
@@ -153,23 +171,23 @@ any_bytes limit (Some n) head is = (is, refl)
 pub item_complete : (limit : ℕ) → Complete (Codes limit) (item_at limit)
 unfolding leaf_at
 item_complete zero t bs rest is = absurd is
-item_complete (suc limit) tree.absent bs rest is = simple_item limit 22 tree.absent bs rest (omega arith) is refl
-item_complete (suc limit) (tree.boolean true) bs rest is = simple_item limit 21 (tree.boolean true) bs rest (omega arith) is refl
-item_complete (suc limit) (tree.boolean false) bs rest is = simple_item limit 20 (tree.boolean false) bs rest (omega arith) is refl
+item_complete (suc limit) tree.absent bs rest is = simple_item limit 22 tree.absent bs rest (omega arith, omega arith) is refl
+item_complete (suc limit) (tree.boolean true) bs rest is = simple_item limit 21 (tree.boolean true) bs rest (omega arith, omega arith) is refl
+item_complete (suc limit) (tree.boolean false) bs rest is = simple_item limit 20 (tree.boolean false) bs rest (omega arith, omega arith) is refl
 item_complete (suc limit) (tree.number n) bs rest is = integer_again limit is.0 bs rest is.2 ∙ ap (λ k. Ok (tree.number k, rest)) (sym is.1)
 item_complete (suc limit) (tree.text x) bs rest is =
     let p = string_apart true x bs is in
-    behind limit major.Text p.0 bs p.1 p.2 rest p.3 (any_text limit p.0 p.1 p.4) ∙ rw (string_complete true p.0 x p.2 rest p.5) refl
+    behind limit major.Text p.0 bs p.1 p.2 rest p.3 (any_text limit p.0 p.1 p.4) (text_stands p.0) ∙ rw (string_complete true p.0 x p.2 rest p.5) refl
 item_complete (suc limit) (tree.octets x) bs rest is =
     let p = string_apart false x bs is in
-    behind limit major.Bytes p.0 bs p.1 p.2 rest p.3 (any_bytes limit p.0 p.1 p.4) ∙ rw (string_complete false p.0 x p.2 rest p.5) refl
+    behind limit major.Bytes p.0 bs p.1 p.2 rest p.3 (any_bytes limit p.0 p.1 p.4) (bytes_stand p.0) ∙ rw (string_complete false p.0 x p.2 rest p.5) refl
 item_complete (suc limit) (tree.seq ts) bs rest is =
     let p = parts_apart (Codes limit) major.Array refl is.0 bs is.2 in
-    behind limit major.Array p.0 bs p.1 p.2 rest p.3 (array_admits limit is.0 p.0 p.1 p.2 p.4 p.5)
+    behind limit major.Array p.0 bs p.1 p.2 rest p.3 (array_admits limit is.0 p.0 p.1 p.2 p.4 p.5) (array_stands p.0)
     ∙ rw (parts_again (Codes limit) (item_at limit) (item_complete limit) (item_begins limit) p.0 is.0 p.2 rest p.5) (ap (λ u. Ok (tree.seq u, rest)) (sym is.1))
 item_complete (suc limit) (tree.map ps) bs rest is =
     let p = parts_apart (IsPair (Codes limit)) major.Map refl is.0 bs is.2 in
-    behind limit major.Map p.0 bs p.1 p.2 rest p.3 (map_admits limit is.0 p.0 p.1 p.2 p.4 p.5)
+    behind limit major.Map p.0 bs p.1 p.2 rest p.3 (map_admits limit is.0 p.0 p.1 p.2 p.4 p.5) (map_stands p.0)
     ∙ rw (parts_again (IsPair (Codes limit)) (pair_at (item_at limit)) (pair_complete (Codes limit) (item_at limit) (item_complete limit)) (pair_begins (Codes limit) (item_begins limit)) p.0 is.0 p.2 rest p.5)
     (ap (λ u. Ok (tree.map u, rest)) (sym is.1))
 item_complete (suc limit) tree.unit bs rest is = absurd is

@@ -1,5 +1,6 @@
 -- Reading from the left, up to the first fault.
 use Rattle.std.specs.Prelude.{ℕ, suc, zero, ◌-◌, ◌/◌, ◌%◌, ◌^◌, Bool, true, false, pos, negsuc, List, [], ◌∷◌, length}
+use Rattle.std.specs.Int.{is_in_range}
 use Rattle.std.specs.List.{concat}
 use Rattle.std.specs.Prelude.{take, drop, Option, Some, None, Result, Ok, nat_lt, nat_le, nat_eq, if◌then◌else◌}
 use Rattle.content_tree.specs.Values.Text.{Text, owned_text, static_name}
@@ -8,13 +9,14 @@ use Rattle.content_tree.specs.Values.Tree.{Tree}
 use Rattle.content_tree.specs.Values.Value.{trees_of, pairs_of}
 use Rattle.content_tree.specs.declared.number.Number.{Number}
 use Rattle.content_cbor.specs.Codes.{number_of}
+use Rattle.content_cbor.specs.declared.decode_error.Fault.{Fault}
 use Rattle.content_cbor.specs.declared.decode_error.Fault.TheVariants as fault
 use Rattle.content_cbor.specs.declared.heads.First.{First}
 use Rattle.content_cbor.specs.declared.heads.Head.{Head}
 use Rattle.content_cbor.specs.declared.heads.Major.{Major}
 use Rattle.content_cbor.specs.declared.heads.Major.TheVariants as major
 use Rattle.content_cbor.specs.declared.stop.Refusal.{Refusal}
-use Rattle.content_cbor.specs.Inner.Steps.{◌>>=◌, Reader, refused, refused_before}
+use Rattle.content_cbor.specs.Inner.Steps.{◌>>=◌, Reader, refused, refused_before, unless}
 use Rattle.content_cbor.specs.Inner.Numbers.{Bounds, argument_at, between, digits_at, leading, unbounded}
 use Rattle.content_cbor.specs.Inner.Texts.{tail, text_at}
 
@@ -34,16 +36,34 @@ abbrev pub is_simple : Major → Bool
 is_simple major.Simple = true
 is_simple m = false
 
+-- whether RFC 8949 gives a first byte no meaning
+abbrev pub is_reserved : Major → ℕ → Bool
+is_reserved major.Unsigned info = nat_lt 27 info
+is_reserved major.Negative info = nat_lt 27 info
+is_reserved major.Tag info = nat_lt 27 info
+is_reserved m info = is_in_range 28 30 info
+
 -- the first byte of a head
 unfoldable pub first_at : Reader First
 first_at [] = refused fault.Ended []
 first_at (b ∷ bs) =
-    if nat_lt (b % 32) 24 then Ok (record { major = major_of (b / 32); info = b % 32 }, bs)
-    else if nat_eq (b % 32) 31 then Ok (record { major = major_of (b / 32); info = b % 32 }, bs)
-    else if nat_lt 27 (b % 32) then refused fault.Reserved (b ∷ bs)
-    else if is_simple (major_of (b / 32)) then
-    (if nat_eq (b % 32) 24 then refused fault.Simple (b ∷ bs) else refused fault.Float (b ∷ bs))
+    if is_reserved (major_of (b / 32)) (b % 32) then refused fault.Reserved (b ∷ bs)
     else Ok (record { major = major_of (b / 32); info = b % 32 }, bs)
+
+-- what is wrong with an item that begins so, whatever the limit
+abbrev pub item_fault : Major → ℕ → Option Fault
+item_fault major.Simple info =
+    if nat_eq info 31 then Some fault.Break
+    else if is_in_range 25 27 info then Some fault.Float
+    else if is_in_range 20 22 info then None
+    else Some fault.Simple
+item_fault major.Tag info =
+    if nat_lt 23 info then None else if is_in_range 2 3 info then None else Some fault.Tag
+item_fault m info = None
+
+-- the first byte of an item, whatever the limit
+unfoldable pub kind_at : Reader First
+kind_at bs = first_at bs >>= λ h. unless (item_fault h.0.«major» h.0.info) bs h
 
 -- what the number of a head must be where items may stand so deep in it
 abbrev pub bounds_of : ℕ → Major → Bounds
@@ -61,7 +81,7 @@ head_behind bounds first bs =
 
 -- the head of an item
 unfoldable pub head_at : ℕ → Reader Head
-head_at limit bs = first_at bs >>= λ h. head_behind (bounds_of limit h.0.«major») h.0 h.1
+head_at limit bs = kind_at bs >>= λ h. head_behind (bounds_of limit h.0.«major») h.0 h.1
 
 -- so many bytes
 abbrev pub bytes_at : ℕ → Reader (List ℕ)
@@ -87,7 +107,7 @@ begins_chunk is_text m info = false
 unfoldable pub length_at : Bool → Bounds → Reader ℕ
 length_at is_text bounds bs = first_at bs >>= λ h.
     if begins_chunk is_text h.0.«major» h.0.info then argument_at bounds h.0.info h.1
-    else refused fault.WrongKind bs
+    else refused fault.WrongChunk bs
 
 -- a chunk of a text or of bytes
 unfoldable pub chunk_at : Bool → Reader (List ℕ)
@@ -157,6 +177,8 @@ abbrev pub magnitude_behind : Bool → List ℕ → Major → ℕ → Reader ℕ
 magnitude_behind is_negative from major.Bytes info bs =
     head_behind unbounded (record { major = major.Bytes; info = info }) bs >>= λ h.
     digits_of is_negative h.0.number h.1
+magnitude_behind is_negative from major.Simple info bs =
+    refused (if nat_eq info 31 then fault.Break else fault.WrongKind) from
 magnitude_behind is_negative from m info bs = refused fault.WrongKind from
 
 -- the number under tag 2 or 3, from its bytes
@@ -208,8 +230,7 @@ inside_at part m number bs = leaf_at m number bs
 
 -- an item within a limit
 unfoldable pub item_at : ℕ → Reader Tree
-item_at zero [] = refused fault.Ended []
-item_at zero (b ∷ bs) = refused fault.TooDeep (b ∷ bs)
+item_at zero bs = kind_at bs >>= λ h. refused fault.TooDeep bs
 item_at (suc limit) bs = head_at limit bs >>= λ h.
     inside_at (item_at limit) h.0.«major» h.0.number h.1
 

@@ -44,6 +44,11 @@ refused f left = Err (record { «fault» = f; left = length left })
 abbrev pub refused_before : {A : Type 0} → Fault → List ℕ → Result A Refusal
 refused_before f behind = Err (record { «fault» = f; left = suc (length behind) })
 
+-- a step, unless something is wrong
+abbrev pub unless : {A : Type 0} → Option Fault → List ℕ → A → Result A Refusal
+unless None left x = Ok x
+unless (Some f) left x = refused f left
+
 -- what is there, or refused
 abbrev pub or_refused : {A : Type 0} → Fault → List ℕ → Option A → Result A Refusal
 or_refused f left None = refused f left
