@@ -2,10 +2,16 @@
 //! line's bytes are 32 to 126, its words separated by one space.
 //!
 //! ```rust
-//! match read_line(line.as_bytes()) {
-//!     Some(said) => Ok(Some(said.into_call(alloc)?)),
-//!     None => Ok(None),
+//! let (line, after) = cut_line(text);
+//! match read_line(line) {
+//!     Some(said) => calls.push(said.into_call(alloc)?)?,
+//!     None => {
+//!         write_trees(alloc, &mut out, calls.as_slice())?;
+//!         calls.clear();
+//!         write_answer(alloc, &mut out, line)?;
+//!     }
 //! }
+//! text = after;
 //! ```
 //!
 //! | To | Use |
