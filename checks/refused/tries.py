@@ -17,8 +17,10 @@ PROGRAMS = ("content_cli", "check_memory", "check_rows", "cbor_cli")
 READS = (b"access", b"ask", b"enum", b"into", b"order", b"read", b"round_trip")
 AGREES = (b"1 rows agree, 0 differ\n", 0)
 OUT_OF_MEMORY = (b"out of memory\n", 3)
-READ_FAILED = {"content_cli": (b"read failed\n", 4)}
-# what the other programs answer to a read that failed
+# the programs that read and write by content_lines
+BY_LINES = ("content_cli", "cbor_cli")
+READ_FAILED = (b"read failed\n", 4)
+# what the other programs answer to a read or a write that failed
 PORT_FAILED = (b"a read or a write failed\n", 4)
 # of how many items an input is on which the bytes asked for are held against a bound
 COUNTS = (1, 30, 1000)
@@ -115,7 +117,8 @@ def tried(case):
         # with no memory at all there is no answer
         tries.append(({"REFUSE_ALLOCATIONS": at}, [wanted, OUT_OF_MEMORY][at == 1 :]))
     for at in range(1, ample.reads + 1):
-        tries.append(({"FAIL_READ": at}, [READ_FAILED.get(program, PORT_FAILED)]))
+        failed = READ_FAILED if program in BY_LINES else PORT_FAILED
+        tries.append(({"FAIL_READ": at}, [failed]))
     for refused, answers in tries:
         how = " ".join(f"{name}={at}" for name, at in refused.items())
         wrong += faults(how, run(program, text, **refused), *answers)
@@ -124,7 +127,7 @@ def tried(case):
     for failed in failures:
         ran = run(program, text, **failed)
         # nothing is said of what went out
-        answer = ran.answer[0], 5 if program == "content_cli" else 4
+        answer = ran.answer[0], 5 if program in BY_LINES else 4
         wrong += faults(" ".join(f"{name}={at}" for name, at in failed.items()), ran, answer)
     return case, 1 + len(tries) + len(failures), wrong
 

@@ -1,35 +1,62 @@
-//! What is answered to a line that is no call.
+//! What is answered to a value, and to a line that is no call.
 
-use crate::digits::{read_digits, write_digits};
+ghost use Rattle.std.specs.Prelude.{◌≡◌, ◌≢◌, ◌++◌, OnOk};
+ghost use Rattle.std.specs.String.{string_bytes};
+ghost use Rattle.serde_content.specs.Names.Words.{tree_of};
+ghost use Rattle.content_cbor.specs.PrintedFault.{error_text};
+ghost use Rattle.content_cbor.specs.declared.decode_error.DecodeError.TheVariants.{OutOfMemory};
+ghost use Rattle.cbor_cli.specs.Answers.{Adds, AnswersBytes, AnswersOther, ended, written};
+
 use content_cbor::{DecodeError, decode, encode};
+use content_lines::{read_hex, write_hex};
 use content_tree::Value;
 use std::alloc::{AllocError, Global};
 
 /// How deep items may nest.
 const DEPTH_LIMIT: usize = 128;
 
-/// The value as it prints and, after a tab, the bytes that are written of it.
-pub fn written(alloc: Global, value: &Value<'_>) -> Result<String, AllocError> {
-    let mut text = format!(in alloc; "{}\t", value.display())?;
+/// Adds a value as it prints and, after a tab, the bytes that are written of it.
+pub fn write_value(alloc: Global, out: &mut String, value: &Value<'_>) -> Result<(), AllocError>
+    ensures { OnOk result (string_bytes out.new ≡ string_bytes out.old
+        ++ ended (written (tree_of value.now))) }
+{
     // Encoding fails only when memory runs out.
     let bytes = encode(alloc, value).ok().ok_or(AllocError)?;
-    write_digits(&mut text, bytes.as_slice())?;
-    Ok(text)
+    write!(out, "{}\t", value.display())?;
+    write_hex(out, bytes.as_slice())?;
+    out.push('\n')
 }
 
-/// The value that the bytes code, or why they are refused.
-fn decoded(alloc: Global, bytes: &[u8]) -> Result<String, AllocError> {
-    match decode(alloc, bytes, DEPTH_LIMIT) {
-        Ok(value) => written(alloc, &value),
-        Err(DecodeError::OutOfMemory) => Err(AllocError),
-        Err(refusal) => format!(in alloc; "{refusal}"),
+/// Adds where and why bytes are refused, unless memory is the cause.
+fn write_fault(out: &mut String, refusal: DecodeError) -> Result<(), AllocError>
+    ensures cause { OnOk result (refusal ≢ OutOfMemory) }
+    ensures line { OnOk result (string_bytes out.new ≡ string_bytes out.old
+        ++ ended (error_text refusal)) }
+{
+    match refusal {
+        DecodeError::OutOfMemory => Err(AllocError),
+        _ => write!(out, "{refusal}\n"),
     }
 }
 
-/// The same of a line of digits, or that it is none and no call.
-pub fn answer(alloc: Global, line: &str) -> Result<String, AllocError> {
-    match read_digits(alloc, line)? {
-        Some(bytes) => decoded(alloc, bytes.as_slice()),
-        None => String::from_str(alloc, "neither hexadecimal digits nor a call"),
+/// Adds the value that the bytes code, or why they are refused.
+fn write_decoded(alloc: Global, out: &mut String, bytes: &[u8]) -> Result<(), AllocError>
+    ensures { OnOk result (Adds (AnswersBytes bytes.now) (string_bytes out.old)
+        (string_bytes out.new)) }
+{
+    match decode(alloc, bytes, DEPTH_LIMIT) {
+        Ok(value) => write_value(alloc, out, &value),
+        Err(refusal) => write_fault(out, refusal),
+    }
+}
+
+/// The same of a line that is no call, if it is digits; or that it is neither.
+pub fn write_answer(alloc: Global, out: &mut String, line: &[u8]) -> Result<(), AllocError>
+    ensures { OnOk result (Adds (AnswersOther line.now) (string_bytes out.old)
+        (string_bytes out.new)) }
+{
+    match read_hex(alloc, line)? {
+        Some(bytes) => write_decoded(alloc, out, bytes.as_slice()),
+        None => out.push_str("neither hexadecimal digits nor a call\n"),
     }
 }

@@ -1,40 +1,71 @@
-//! Every line of the input, one after another.
+//! The whole program, over any reader and writer.
 
-use crate::answer::answer;
-use crate::calls::{call_of, print_trees};
-use std::io;
+ghost use Rattle.std.specs.Prelude.{◌≡◌, ◌≢◌, ◌≤◌, ◌⊎◌, ◌↔◌, true, false, codes, IfSome, IfOk};
+ghost use Rattle.std.specs.Prelude.{OnOk, Err};
+ghost use Rattle.std.specs.Io.KnownBytes.{Appends, IsAtEnd};
+ghost use Rattle.std.specs.String.{string_bytes};
+ghost use Rattle.cbor_cli.specs.Answers.{Earns, Tells};
+ghost use Rattle.content_lines.specs.declared.failure.Failure.TheVariants.{ReadFailed};
 
-/// Prints the answers to calls that come together, and that to each other line.
-fn answer_lines<R: Input + Print + AllocGlobal>(rt: &R) -> io::Result<()> {
-    let alloc = rt.alloc();
-    let input = io::read_to_string(alloc, rt.reader())?;
-    let mut calls = Vec::new(alloc);
-    for line in input.as_str().lines() {
-        match call_of(alloc, line)? {
-            Some(call) => calls.push(call)?,
-            None => {
-                print_trees(rt, calls.as_slice())?;
-                calls.clear();
-                let answer = answer(alloc, line)?;
-                println!(rt; "{answer}")?;
-            }
-        }
-    }
-    print_trees(rt, calls.as_slice())
+use crate::lines::answer_lines;
+use content_lines::{Answer, Failure, Input, Output, read_all, tell};
+use std::alloc::Global;
+
+/// Reads all input, and makes the answers that its lines earn.
+fn answer_input<R: Input>(alloc: Global, reader: &mut R) -> Result<Answer, Failure>
+    ensures value { IfOk result (λ a. IfSome (R.left reader.old)
+        (λ input. Earns input (string_bytes a.text))) }
+    ensures status { IfOk result (λ a. a.status ≡ 0) }
+    ensures whole { OnOk result (IsAtEnd (R.left reader.new)) }
+    ensures fault { result ≡ Err ReadFailed → R.has_failed reader.new ≡ true }
+    ensures kept { (result ≢ Err ReadFailed) → R.has_failed reader.new ≡ R.has_failed reader.old }
+{
+    let input = read_all(alloc, reader)?;
+    Ok(Answer {
+        text: answer_lines(alloc, input.as_slice())?,
+        status: 0,
+    })
 }
 
-/// Prints the answers to the standard input. The status: 0, or 3 where an allocation failed, 4
-/// where a read or a write failed.
-pub fn run<R: Input + Print + AllocGlobal>(rt: &R) -> u8 {
-    match answer_lines(rt) {
-        Ok(()) => 0,
-        Err(error) if matches!(error.kind(), io::ErrorKind::OutOfMemory) => {
-            let _ = rt.println("out of memory");
-            3
-        }
-        Err(_) => {
-            let _ = rt.println("a read or a write failed");
-            4
-        }
-    }
+/// Reads all input, and writes what its lines earn, each answer as a line.
+///
+/// Calls that come together, as `content_cli` reads them, are answered once a line comes that is no
+/// call, or the end: each tree that they spell, one after another, up to one that is refused. Any
+/// other line is answered by itself, and in the order of the lines: the value that its bytes code,
+/// or why they are refused.
+///
+/// | Status | Text | When |
+/// |---|---|---|
+/// | 0 | the answers | in any case but those below |
+/// | 3 | `out of memory` | an allocation failed before the answers were made |
+/// | 4 | `read failed` | the reader answered a fault |
+/// | 5 | any part of a text | the writer answered a fault |
+///
+/// Neither the reader nor the writer may have failed before. The answers are made whole before any
+/// of them is written. A reader that never ends brings the run to out of memory.
+///
+/// ```rust
+/// let mut input = Port::new(rt.stdin());
+/// let mut output = Port::new(rt.stdout());
+/// let status = run(rt.alloc(), &mut input, &mut output);
+/// ```
+pub fn run<R: Input, W: Output>(alloc: Global, reader: &mut R, writer: &mut W) -> u8
+    requires reader_works { R.has_failed reader.old ≡ false }
+    requires writer_works { W.has_failed writer.old ≡ false }
+    // the answers, where memory is there and no port failed
+    ensures told { result ≡ 0 → IfSome (R.left reader.old)
+        (λ input. Tells input (W.written writer.old) (W.written writer.new)) }
+    ensures whole { result ≡ 0 → IsAtEnd (R.left reader.new) }
+    // out of memory, and failures
+    ensures memory { result ≡ 3 → Appends (W.written writer.old) (W.written writer.new)
+        (codes "out of memory\n") }
+    ensures fault { result ≡ 4 → Appends (W.written writer.old) (W.written writer.new)
+        (codes "read failed\n") }
+    ensures only_failed { result ≡ 4 → R.has_failed reader.new ≡ true }
+    ensures read_failed { R.has_failed reader.new ≡ true → (result ≡ 4) ⊎ (result ≡ 5) }
+    ensures write_failed { (W.has_failed writer.new ≡ true) ↔ (result ≡ 5) }
+    ensures range { (result ≡ 0) ⊎ ((3 ≤ result) × (result ≤ 5)) }
+{
+    let answer = answer_input(alloc, reader);
+    tell(writer, answer)
 }

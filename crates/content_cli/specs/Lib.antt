@@ -1,3 +1,2 @@
-pub mod Port
 pub mod Verdicts
 pub mod Answers

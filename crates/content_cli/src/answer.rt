@@ -12,41 +12,32 @@ ghost use Rattle.content_lines.specs.Lines.{limit_of, body_of, first_bad, calls_
 ghost use Rattle.content_cli.specs.Verdicts.{IsVerdict};
 
 use crate::calls::{Verdict, read_calls};
-use content_lines::split_limit;
+use content_lines::{Answer, split_limit};
 use serde_content::ser::{Builder, CallsError};
 use serde_content::{ErrorKind, Value};
 use std::alloc::{AllocError, Global};
 
-/// The line to be written, and the status.
-#[derive(Debug, Drop)]
-pub struct Answer {
-    /// The line, with its line feed.
-    pub line: String,
-    /// The status, 2 at most.
-    pub status: u8,
-}
-
 /// The line that names a bad line, whose place is counted from 0 and named from 1.
 fn bad_line(alloc: Global, place: usize) -> Result<Answer, AllocError>
-    ensures line { IfOk result (λ a. string_bytes a.line ≡ codes "bad line " ++
+    ensures line { IfOk result (λ a. string_bytes a.text ≡ codes "bad line " ++
         (decimal (place + 1) ++ codes "\n")) }
     ensures status { IfOk result (λ a. a.status ≡ 2) }
 {
     let number = place as u128 + 1;
     Ok(Answer {
-        line: format!(in alloc; "bad line {number}\n")?,
+        text: format!(in alloc; "bad line {number}\n")?,
         status: 2,
     })
 }
 
 /// The line that prints the image of a value.
 fn taken(alloc: Global, value: Value<'_>) -> Result<Answer, AllocError>
-    ensures line { IfOk result (λ a. string_bytes a.line ≡ codes "ok " ++
+    ensures line { IfOk result (λ a. string_bytes a.text ≡ codes "ok " ++
         (printed (image (tree_of value.entry)) ++ codes "\n")) }
     ensures status { IfOk result (λ a. a.status ≡ 0) }
 {
     Ok(Answer {
-        line: format!(in alloc; "ok {}\n", value.display())?,
+        text: format!(in alloc; "ok {}\n", value.display())?,
         status: 0,
     })
 }
@@ -54,7 +45,7 @@ fn taken(alloc: Global, value: Value<'_>) -> Result<Answer, AllocError>
 /// The line that names the place and the cause of a refusal, unless memory is the cause.
 fn refused(alloc: Global, refusal: &CallsError) -> Result<Answer, AllocError>
     ensures cause { OnOk result (kind_of refusal.now.error ≢ OutOfMemory) }
-    ensures line { IfOk result (λ a. string_bytes a.line ≡ codes "refused at " ++
+    ensures line { IfOk result (λ a. string_bytes a.text ≡ codes "refused at " ++
         (decimal refusal.now.at ++ (codes ": " ++ (error_text refusal.now.error ++ codes "\n")))) }
     ensures status { IfOk result (λ a. a.status ≡ 1) }
 {
@@ -63,7 +54,7 @@ fn refused(alloc: Global, refusal: &CallsError) -> Result<Answer, AllocError>
         return Err(AllocError);
     }
     Ok(Answer {
-        line: format!(in alloc; "refused at {at}: {error}\n")?,
+        text: format!(in alloc; "refused at {at}: {error}\n")?,
         status: 1,
     })
 }
@@ -81,7 +72,7 @@ fn finished(alloc: Global, builder: Builder<'_>, count: usize) -> Result<Answer,
     ensures { (input : List ℕ) → first_bad (body_of input) ≡ None
         → HasTaken (limit_of input) (calls_of (body_of input)) (seen_of builder.entry)
         → count ≡ length (calls_of (body_of input))
-        → IfOk result (λ a. Earns input (string_bytes a.line) a.status) }
+        → IfOk result (λ a. Earns input (string_bytes a.text) a.status) }
 {
     match builder.finish() {
         Ok(value) => taken(alloc, value),
@@ -92,7 +83,7 @@ fn finished(alloc: Global, builder: Builder<'_>, count: usize) -> Result<Answer,
 /// The line and the status that the input earns, or an error where an allocation fails. The input
 /// is freed before the tree is made.
 pub fn make_answer(alloc: Global, input: Vec<u8>) -> Result<Answer, AllocError>
-    ensures value { IfOk result (λ a. Earns input.items (string_bytes a.line) a.status) }
+    ensures value { IfOk result (λ a. Earns input.items (string_bytes a.text) a.status) }
     ensures fits { IfOk result (λ a. EarnsStatus input.items a.status) }
     ensures low { IfOk result (λ a. a.status ≤ 2) }
 {

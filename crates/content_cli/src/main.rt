@@ -4,13 +4,9 @@
 
 mod answer;
 mod calls;
-mod gather;
-mod port;
-mod ports;
 mod run;
-mod write;
 
-use port::Port;
+use content_lines::Port;
 use run::run;
 use std::process::ExitCode;
 

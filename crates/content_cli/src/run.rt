@@ -1,26 +1,29 @@
 //! The whole program, over any reader and writer.
 
-ghost use Rattle.std.specs.Prelude.{◌≡◌, ◌<◌, ◌≤◌, ◌⊎◌, ◌↔◌, true, false, codes, IfSome};
+ghost use Rattle.std.specs.Prelude.{◌≡◌, ◌≢◌, ◌<◌, ◌≤◌, ◌⊎◌, ◌↔◌, true, false, codes, IfSome, IfOk};
+ghost use Rattle.std.specs.Prelude.{OnOk, Err};
 ghost use Rattle.std.specs.Io.KnownBytes.{Appends, IsAtEnd};
-ghost use Rattle.content_cli.specs.Answers.{Tells, EarnsStatus};
+ghost use Rattle.std.specs.String.{string_bytes};
+ghost use Rattle.content_cli.specs.Answers.{Earns, Tells, EarnsStatus};
+ghost use Rattle.content_lines.specs.declared.failure.Failure.TheVariants.{ReadFailed};
 
 use crate::answer::make_answer;
-use crate::gather::{NoInput, gather};
-use crate::ports::{Input, Output};
-use crate::write::write_out;
+use content_lines::{Answer, Failure, Input, Output, read_all, tell};
 use std::alloc::Global;
 
-/// Writes the line, and answers the status, or 5 where the writer failed.
-fn finish<W: Output>(writer: &mut W, line: &[u8], status: u8) -> u8
-    requires { W.has_failed writer.old ≡ false }
-    ensures failed { W.has_failed writer.new ≡ true → result ≡ 5 }
-    ensures told { W.has_failed writer.new ≡ false → (result ≡ status) × Appends
-        (W.written writer.old) (W.written writer.new) line.now }
+/// Reads all input, and makes the answer that it earns.
+fn answer_input<R: Input>(alloc: Global, reader: &mut R) -> Result<Answer, Failure>
+    ensures value { IfOk result (λ a. IfSome (R.left reader.old)
+        (λ input. Earns input (string_bytes a.text) a.status)) }
+    ensures fits { IfOk result (λ a. IfSome (R.left reader.old)
+        (λ input. EarnsStatus input a.status)) }
+    ensures low { IfOk result (λ a. a.status ≤ 2) }
+    ensures whole { OnOk result (IsAtEnd (R.left reader.new)) }
+    ensures fault { result ≡ Err ReadFailed → R.has_failed reader.new ≡ true }
+    ensures kept { (result ≢ Err ReadFailed) → R.has_failed reader.new ≡ R.has_failed reader.old }
 {
-    match write_out(writer, line) {
-        Ok(()) => status,
-        Err(_) => 5,
-    }
+    let input = read_all(alloc, reader)?;
+    Ok(make_answer(alloc, input)?)
 }
 
 /// Reads all input, makes the call of each line, builds a tree of the calls and writes one line. A
@@ -63,12 +66,6 @@ pub fn run<R: Input, W: Output>(alloc: Global, reader: &mut R, writer: &mut W) -
     ensures write_failed { (W.has_failed writer.new ≡ true) ↔ (result ≡ 5) }
     ensures range { result ≤ 5 }
 {
-    match gather(alloc, reader) {
-        Err(NoInput::ReadFailed) => finish(writer, b"read failed\n", 4),
-        Err(NoInput::OutOfMemory) => finish(writer, b"out of memory\n", 3),
-        Ok(input) => match make_answer(alloc, input) {
-            Ok(answer) => finish(writer, answer.line.as_bytes(), answer.status),
-            Err(_) => finish(writer, b"out of memory\n", 3),
-        },
-    }
+    let answer = answer_input(alloc, reader);
+    tell(writer, answer)
 }

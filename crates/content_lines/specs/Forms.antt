@@ -6,7 +6,7 @@ use Rattle.std.specs.Option.{option_map, option_and_then}
 use Rattle.std.specs.List.{before_first, after_first, position_or_len}
 use Rattle.serde_content.specs.Names.Event as event
 use Rattle.serde_content.specs.Names.Words.{Event}
-use Rattle.content_lines.specs.Numerals.{natural_of, is_hex, unhex}
+use Rattle.content_lines.specs.Numerals.{natural_of, is_lower_hex, unhex}
 
 -- a byte that a line may hold: 32 to 126
 abbrev pub is_printable : ℕ → Bool
@@ -25,9 +25,9 @@ abbrev pub character_of : List ℕ → Option Event
 character_of (c ∷ []) = cond (is_printable c) (Some (event.character c)) None
 character_of _ = None
 
--- pairs of digits
+-- pairs of lower-case digits
 abbrev pub octets_of : List ℕ → Option Event
-octets_of t = cond (is_hex t) (Some (event.octets (unhex t))) None
+octets_of t = cond (is_lower_hex t) (Some (event.octets (unhex t))) None
 
 -- the names that a line may cite
 abbrev pub is_name : List ℕ → Bool

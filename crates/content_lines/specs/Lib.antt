@@ -3,3 +3,5 @@ pub mod Forms
 pub mod Words
 pub mod Lines
 pub mod Views
+pub mod Port
+pub mod Told

@@ -1,5 +1,5 @@
 -- The limit, the calls and the first bad line of an input.
-use Rattle.std.specs.Prelude.{ℕ, ◌==◌, Bool, cond, ◌&&◌, not, List, length, drop, Option, is_none}
+use Rattle.std.specs.Prelude.{ℕ, ◌==◌, Bool, cond, ◌&&◌, not, List, [], ◌∷◌, length, drop, Option, is_none}
 use Rattle.std.specs.Option.{option_to_list}
 use Rattle.std.specs.List.{slice_split, position, position_or_len, flat_map, before_first}
 use Rattle.serde_content.specs.Names.Words.{Event}
@@ -41,3 +41,13 @@ first_bad body = position is_bad (lines_of body)
 -- the calls of the lines, in order; a blank line spells none
 abbrev pub calls_of : List ℕ → List Event
 calls_of body = flat_map (λ line. option_to_list (event_in line)) (lines_of body)
+
+-- lines without the last, if that is empty
+abbrev pub without_last_blank : List (List ℕ) → List (List ℕ)
+without_last_blank [] = []
+without_last_blank (line ∷ []) = cond (is_blank line) [] (line ∷ [])
+without_last_blank (line ∷ next ∷ lines) = line ∷ without_last_blank (next ∷ lines)
+
+-- the lines of a text: a line feed ends each, but need not end the last
+abbrev pub each_line : List ℕ → List (List ℕ)
+each_line text = without_last_blank (lines_of text)

@@ -1,5 +1,5 @@
 -- Numbers and bytes as a line writes them.
-use Rattle.std.specs.Prelude.{ℕ, ◌+◌, ◌-◌, ◌*◌, ◌^◌, ◌%◌, ◌==◌, Bool, cond, ◌&&◌, ◌||◌, not, nat_le}
+use Rattle.std.specs.Prelude.{ℕ, ◌+◌, ◌-◌, ◌*◌, ◌^◌, ◌/◌, ◌%◌, ◌==◌, Bool, cond, ◌&&◌, ◌||◌, not, nat_le}
 use Rattle.std.specs.Prelude.{nat_lt, List, [], ◌∷◌, length, Option, None, Some, ℤ, pos, neg_ℤ}
 use Rattle.std.specs.Prelude.{drop, slice_index}
 use Rattle.std.specs.Str.{all_ascii_digits}
@@ -31,15 +31,27 @@ is_low_digit b = nat_le 48 b && nat_lt b 58
 abbrev pub is_high_digit : ℕ → Bool
 is_high_digit b = nat_le 97 b && nat_lt b 103
 
+-- `A` to `F`
+abbrev pub is_capital_digit : ℕ → Bool
+is_capital_digit b = nat_le 65 b && nat_lt b 71
+
 -- a lower-case hexadecimal digit
+abbrev pub is_lower_hex_digit : ℕ → Bool
+is_lower_hex_digit b = is_low_digit b || is_high_digit b
+
+-- a hexadecimal digit of either case
 abbrev pub is_hex_digit : ℕ → Bool
-is_hex_digit b = is_low_digit b || is_high_digit b
+is_hex_digit b = is_lower_hex_digit b || is_capital_digit b
 
 -- its value
 abbrev pub hex_value : ℕ → ℕ
-hex_value b = cond (is_low_digit b) (b - 48) (cond (is_high_digit b) (b - 87) 0)
+hex_value b = cond (is_low_digit b) (b - 48) (cond (is_high_digit b) (b - 87) (cond (is_capital_digit b) (b - 55) 0))
 
--- pairs of hexadecimal digits
+-- pairs of lower-case hexadecimal digits
+abbrev pub is_lower_hex : List ℕ → Bool
+is_lower_hex t = (length t % 2 == 0) && list_all is_lower_hex_digit t
+
+-- pairs of hexadecimal digits of either case
 abbrev pub is_hex : List ℕ → Bool
 is_hex t = (length t % 2 == 0) && list_all is_hex_digit t
 
@@ -48,3 +60,12 @@ abbrev pub unhex : List ℕ → List ℕ
 unhex [] = []
 unhex (high ∷ []) = []
 unhex (high ∷ low ∷ rest) = (16 * hex_value high + hex_value low) ∷ unhex rest
+
+-- the lower-case digit of a number below 16
+abbrev pub hex_digit : ℕ → ℕ
+hex_digit n = cond (nat_lt n 10) (48 + n) (87 + n)
+
+-- the lower-case digits of bytes, two of each
+abbrev pub hex_of : List ℕ → List ℕ
+hex_of [] = []
+hex_of (b ∷ bs) = hex_digit (b / 16) ∷ hex_digit (b % 16) ∷ hex_of bs

@@ -39,7 +39,7 @@ pub fn read_bytes(text: &str) -> Option<&[u8]>
     ensures { MatchOption result (octets_of text.now ≡ None)
         (λ digits. octets_of text.now ≡ Some (event.octets (unhex digits.now))) }
 {
-    if hex::is_paired(text.as_bytes()) {
+    if hex::is_lower_paired(text.as_bytes()) {
         Some(text.as_bytes())
     } else {
         None

@@ -1,9 +1,9 @@
 //! The line that sets a limit on how deep trees nest.
 
-ghost use Rattle.std.specs.Prelude.{◌≡◌, drop};
+ghost use Rattle.std.specs.Prelude.{◌≡◌, ◌<◌, ◌∷◌, length, drop};
 ghost use Rattle.std.specs.List.{before_first, position_or_len};
 ghost use Rattle.serde_content.specs.Names.Words.{IsLimit};
-ghost use Rattle.content_lines.specs.Lines.{body_of, is_line_feed, limit_of};
+ghost use Rattle.content_lines.specs.Lines.{body_of, each_line, is_line_feed, limit_of};
 ghost use Rattle.content_lines.specs.Words.{limit_in, limit_of_parts, positive_of};
 ghost use Rattle.content_lines.specs.Words.{rest_of, word_of};
 
@@ -47,6 +47,24 @@ fn split_first_line(input: &[u8]) -> (&[u8], &[u8])
     match first_line_feed(input) {
         Some(end) => input.split_at(end),
         None => input.split_at(input.len()),
+    }
+}
+
+/// Cuts the first line off a text that isn't empty: the line, without its line feed, and what comes
+/// after it. It takes no memory.
+///
+/// ```rust
+/// let (line, rest) = cut_line(b"00\nf6\n");
+/// assert!(rt; line == b"00".as_slice() && rest == b"f6\n".as_slice());
+/// ```
+pub fn cut_line(text: &[u8]) -> (&[u8], &[u8])
+    ensures lines { 0 < length text.now
+        → each_line text.now ≡ result.0.now ∷ each_line result.1.now }
+    ensures shorter { 0 < length text.now → length result.1.now < length text.now }
+{
+    match first_line_feed(text) {
+        Some(end) => (&text[..end], &text[end + 1..]),
+        None => (text, &[]),
     }
 }
 

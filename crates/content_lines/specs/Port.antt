@@ -1,6 +1,6 @@
 -- What contracts see of a `Port`.
 use Rattle.std.specs.Prelude.{Bool}
-use Rattle.content_cli.specs.declared.port.Port.{Port}
+use Rattle.content_lines.specs.declared.port.Port.{Port}
 
 -- the reader or the writer inside
 abbrev pub inner_of : {T : Type 0} → Port T → T

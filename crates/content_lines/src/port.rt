@@ -1,7 +1,7 @@
 //! A reader or a writer of the standard library, as a port.
 
 ghost use Rattle.std.specs.Prelude.{◌≡◌, false};
-ghost use Rattle.content_cli.specs.Port.{inner_of, is_failed};
+ghost use Rattle.content_lines.specs.Port.{inner_of, is_failed};
 
 use crate::ports::{Fault, Input, Output};
 use std::io::{Read, Write};

@@ -1,6 +1,6 @@
 use Rattle.std.proofs.Common.{◌≡◌, ◌++◌, List, ℕ, length}
 use Rattle.std.specs.Io.KnownBytes.{Appends}
-use Rattle.content_cli.proofs.write.write_out.Given as goal
+use Rattle.content_lines.proofs.answer.write_out.Given as goal
 
 abbrev pub invariant-writes : goal.invariant-writes
 invariant-writes g l =
