@@ -129,7 +129,8 @@ struct A(u8); // ein Größter Kommentar 😀
 #[derive(Serialize, Deserialize, PartialEq, Eq)]
 enum Data {
     Record(i8),
-    Open { data: i8, open: u8, module: u8, record: u8, elim: u8, ruleset: u8, axiom: u8, data_field: u8 },
+    Open { data: i8, open: u8, module: u8, data_field: u8 },
+    Closed { record: u8, elim: u8, ruleset: u8, axiom: u8, infix: u8 },
 }
 #[derive(Serialize, Deserialize, PartialEq, Eq)]
 enum TheData { Type(i8) }

@@ -9,6 +9,7 @@ from .types import READ, TRIP, in_term, nest, snake
 
 
 LONGEST_ROW = 8  # types of longer rows take the checker's memory
+LONGEST_HELD = 4  # proofs of reading an enum look into all its variants at once
 LONGEST_SENT = 20  # longer rows of one type are refused by the checker
 
 
@@ -78,9 +79,13 @@ class Holder:
         self.list = f"FieldsOf{self.owner}"
         self.names_known = [f.wire for f in data.fields]
         self.before: List[str] = []
-        self.big = self.many and self.count > LONGEST_ROW
+        self.big = self.many and self.count > self.room()
         self.head = "" if self.of_variant else " " + self.names
         self.name = "" if self.of_variant else written[0]
+
+    def room(self) -> int:
+        """How many values are read with no struct of them all."""
+        return LONGEST_HELD if self.of_variant else LONGEST_ROW
 
     def names_list(self) -> List[str]:
         """The type that stands for the names of its fields."""
@@ -104,7 +109,7 @@ class Holder:
         return f"From{start + 1}Of{self.owner}"
 
     def starts(self) -> range:
-        """The places at which such structs begin, where a row has no room for all values."""
+        """The places at which such structs begin, where there are any."""
         return range(0, self.count * self.big, LONGEST_ROW)
 
     def row_types(self) -> List[str]:
@@ -170,7 +175,7 @@ class Holder:
         return self.taken(trait, source, self.data.places())
 
     def read_places(self) -> List[str]:
-        """What code calls the values that were read: the struct of all, where a row has no room for them."""
+        """What code calls the values that were read: the struct of them all, where there is one."""
         return ["row"] if self.big else self.data.places()
 
     def maker_name(self) -> str:

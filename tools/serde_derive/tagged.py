@@ -6,7 +6,7 @@ from typing import List, Optional
 from .cases import pascal
 from .declarations import Data, Field, Item, Refused, Variant
 from .enums import EnumWriter
-from .holder import Holder
+from .holder import LONGEST_HELD, Holder
 from .literals import list_impl, name_call, name_method, name_term, opened
 from .text import DESERIALIZE, elim, function, ghost, together
 from .types import DEFAULTS, nest
@@ -24,6 +24,9 @@ class TaggedHolder(Holder):
         self.tag, self.variant = tag, v.wire
         self.call = f"Call::Struct({name_call(name)}, {self.count + 1})"
         self.before = [f"SendTag({self.list}, NamesOf{pascal(item.owner)}, {item.variants.index(v)}, row)"]
+
+    def room(self) -> int:
+        return LONGEST_HELD
 
     def script(self, values: List[str], members: Optional[List[str]] = None) -> str:
         members = members or [f.type.member("Serialize", "script") for f in self.fields]

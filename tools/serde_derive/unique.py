@@ -4,7 +4,7 @@ from typing import Callable, List, Set
 
 from .cases import pascal
 from .declarations import Item
-from .holder import LONGEST_ROW
+from .holder import LONGEST_HELD
 from .text import alias
 from .types import snake
 from .words import USES, WORDS
@@ -48,7 +48,7 @@ def name_cases(items: List[Item], others: List[str]) -> None:
     declared = [item.name for item in items] + others
     taken = set(declared) | {f"{snake(name)}_{kind}" for name in declared for kind in KINDS}
     for item in items:
-        places = {place for v in item.variants if v.signed() or len(v.data.fields) > LONGEST_ROW for place in v.data.places()}
+        places = {place for v in item.variants if v.signed() or len(v.data.fields) > LONGEST_HELD for place in v.data.places()}
         item.cases = alias(item.name)
         while item.cases in taken or item.cases in places:
             item.cases = f"the_{item.cases}"
