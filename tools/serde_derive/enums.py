@@ -68,8 +68,8 @@ class EnumWriter:
                 + "{\n" + "\n".join(self.send_values(v, holder)) + "\n}\n"]
 
     def is_apart(self, v: Variant, holder: Holder) -> bool:
-        """Whether a variant is sent by a function of its own."""
-        return holder.count > holder.most
+        """Whether a variant is sent by a function of its own: for many values, or for wide ones."""
+        return holder.count > holder.most or (holder.many and any(f.type.width() > 3 for f in holder.fields))
 
     def send_values(self, v: Variant, holder: Holder) -> List[str]:
         """The statements that send its values."""

@@ -102,6 +102,10 @@ class Type:
     def laws(self) -> Laws:
         return OWN if self.home else {**LEAVES, **HOLDERS}[self.name]
 
+    def width(self) -> int:
+        """How many types without arguments it is made of."""
+        return sum(one.width() for one in self.arguments) or 1
+
     def rust(self) -> str:
         """The type as Rust writes it."""
         inside = ", ".join(a.rust() for a in self.arguments)
