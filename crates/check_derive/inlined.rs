@@ -1,4 +1,4 @@
-//! Structs whose fields stand among those of what holds them.
+//! Structs whose fields are sent among those of what holds them.
 
 use serde::{Deserialize, Serialize};
 
