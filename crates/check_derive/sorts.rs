@@ -1,4 +1,4 @@
-//! The other sorts of structs, a key of one's own, and a tag next to a field for what a variant holds.
+//! Other sorts of structs, a key of one's own, and a tag next to a field for what a variant holds.
 
 use crate::types::Place;
 use serde::{Deserialize, Serialize};

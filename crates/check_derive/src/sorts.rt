@@ -1,4 +1,4 @@
-//! The other sorts of structs, a key of one's own, and a tag next to a field for what a variant holds.
+//! Other sorts of structs, a key of one's own, and a tag next to a field for what a variant holds.
 //!
 //! Written by `tools/derive` from `sorts.rs`: change that file, and write this one anew.
 
