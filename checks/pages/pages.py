@@ -40,7 +40,7 @@ CRATES = re.findall(r"^(\w+):", read(f"{TOP}/crates.txt"), re.M)
 # The most words of each page, as `wc -w` counts them; a page that isn't here has at most OTHER_PAGE.
 MOST_WORDS = {
     "README.md": 900,
-    "CHANGELOG.md": 250,
+    "CHANGELOG.md": 270,
     "CONTRIBUTING.md": 600,
     "bench/README.md": 730,
     "crates/check_rows/README.md": 1130,
