@@ -139,12 +139,39 @@ def types() -> Dict[str, str]:
     return made
 
 
+def attributes() -> Dict[str, str]:
+    """Fields that are left out where they are empty, or are read as a default; structs that are sent as their one field."""
+    made = {}
+    empty = [(name, f'#[serde(default, skip_serializing_if = "{name.split("<")[0]}::is_empty")] ')
+             for name in ("Vec<u8>", "String", "BTreeMap<String, u8>")]
+    kinds = [("Option<String>", '#[serde(skip_serializing_if = "Option::is_none")] '), *empty, ("i32", ""), ("u8", "")]
+    for count in (1, 2, 4, 6, 9, 12, 24):
+        public, inner = (", ".join(f"{attribute}{visible}f{i}: {one}" for i, (one, attribute) in enumerate(islice(cycle(kinds), count)))
+                         for visible in ("pub ", ""))
+        made[f"skipped_{count}"] = f"{ALL}\npub struct Tried {{ {public} }}"
+        made[f"skipped_closed_{count}"] = f"{BOTH}\n#[serde(deny_unknown_fields)]\npub struct Tried {{ {public} }}"
+        made[f"skipped_in_variant_{count}"] = f"{ALL}\npub enum Tried {{ A {{ {inner} }}, B(u8) }}"
+        made[f"skipped_beside_tag_{count}"] = f'{ALL}\n#[serde(tag = "kind")]\npub enum Tried {{ A {{ {inner} }}, B }}'
+    made["skipped_lost"] = f'{ALL}\npub struct Tried {{ pub x: u8, #[serde(skip_serializing_if = "Vec::is_empty")] pub y: Vec<u8> }}'
+    default = ALL.replace("derive(", "derive(Default, ")
+    inside = f"{default}\npub struct Inside {{ pub x: u8, pub y: Option<i32> }}\n\n{default}\npub enum Level {{ #[default] Low, High(u8) }}\n\n"
+    kinds = ["u8", "String", "Inside", "Level", "Vec<u8>", "i32", "BTreeMap<String, u8>", "Option<bool>"]
+    for count in (1, 3, 4, 8, 12):
+        made[f"default_whole_{count}"] = (f"{inside}{default}\n#[serde(default)]\npub struct Tried"
+                                          f" {named(list(islice(cycle(kinds), count)))}")
+    made["default_own"] = f"{inside}{ALL}\npub struct Tried {{ #[serde(default)] pub a: Inside, #[serde(default)] pub b: Level }}"
+    for place, one in enumerate(["u64", "String", "Option<i32>", "Vec<String>", "(u8, String)", "BTreeMap<String, u8>", "Own"]):
+        made[f"transparent_{place}"] = f"{ALL}\n#[serde(transparent)]\npub struct Tried(pub {one});"
+    made["transparent_named"] = f"{ALL}\n#[serde(transparent)]\npub struct Tried {{ pub only: Box<Own> }}"
+    return made
+
+
 HEAD = "//! {}.\n\nuse serde::{{Deserialize, Serialize}};\nuse std::collections::BTreeMap;\n\n"
 
 
 def bodies() -> Dict[str, str]:
     """The declaration of each type, by name."""
-    return {**structs(), **enums(), **names(), **types()}
+    return {**structs(), **enums(), **names(), **types(), **attributes()}
 
 
 def matrix() -> Dict[str, str]:

@@ -22,9 +22,45 @@ union A {
     x: u8,
 }
 
-// 3: A.x: serde's `skip_serializing_if` on a field is not covered: what is left out is not always read as what it was
+// 4: A.x: serde's `skip_serializing_if` so is not covered: Option::is_none, String::is_empty, Vec::is_empty, BTreeMap::is_empty are, each on a field of its type
 #[derive(Serialize)]
 struct A {
+    #[serde(skip_serializing_if = "is_zero")]
+    x: u8,
+}
+
+// 4: A.x: serde's `skip_serializing_if` so is not covered: Option::is_none, String::is_empty, Vec::is_empty, BTreeMap::is_empty are, each on a field of its type
+#[derive(Serialize)]
+struct A {
+    #[serde(skip_serializing_if = "Vec::is_empty")]
+    x: Option<Vec<u8>>,
+}
+
+// 2: A.0: serde's `skip_serializing_if` is covered in fields with names: give them names
+#[derive(Serialize)]
+struct A(#[serde(skip_serializing_if = "Option::is_none")] Option<u8>);
+
+// 2: A: serde's `skip_serializing_if` is not covered beside `flatten`: name the fields
+#[derive(Serialize)]
+struct A {
+    #[serde(flatten)]
+    b: B,
+    #[serde(skip_serializing_if = "Option::is_none")]
+    x: Option<u8>,
+}
+#[derive(Serialize)]
+struct B {
+    y: u8,
+}
+
+// 4: A.b: what is flattened is not covered where `skip_serializing_if` leaves out some of it: name the fields
+#[derive(Serialize)]
+struct A {
+    #[serde(flatten)]
+    b: B,
+}
+#[derive(Serialize)]
+struct B {
     #[serde(skip_serializing_if = "Option::is_none")]
     x: Option<u8>,
 }
@@ -147,7 +183,7 @@ struct A(HashMap<u8, u8>);
 #[derive(Serialize)]
 struct A {}
 
-// 4: A.x: its default is not covered: those of numbers, bool, String, Option, Vec and BTreeMap are, in fields with names
+// 4: A.x: its default is not covered: those of numbers, bool, String, Option, Vec, BTreeMap and of your own types that derive Default are
 #[derive(Serialize)]
 struct A {
     #[serde(default)]
@@ -352,10 +388,10 @@ struct A(u8);
 #[cfg(feature = "x")]
 struct B(u8);
 
-// 2: A: serde's `transparent` on a container is not covered
+// 2: A: serde's `remote` on a container is not covered
 // 3: A: serde's `bound` on a container is not covered
 #[derive(Serialize)]
-#[serde(transparent)]
+#[serde(remote = "B")]
 #[serde(bound = "x")]
 struct A(u8);
 
@@ -495,3 +531,44 @@ struct A(std::vec::Vec, std::list::Vec<u8>, core::u8, Option);
 struct Ord { x: u8 }
 #[derive(Serialize)]
 enum PartialEq { X }
+
+// 3: A: serde's `default` on a container is covered where it derives Default: derive that, or write `default` on each field
+#[derive(Deserialize)]
+#[serde(default)]
+struct A { x: u8 }
+
+// 3: A: serde's `default` on a container is covered on structs with named fields
+#[derive(Default, Deserialize)]
+#[serde(default)]
+struct A(u8, u8);
+
+// 2: A.b: its default is not covered: `B` derives no Default, or holds what has none here
+// 6: C.x: its default is not covered: those of numbers, bool, String, Option, Vec, BTreeMap and of your own types that derive Default are
+#[derive(Deserialize)]
+struct A { #[serde(default)] b: B }
+#[derive(Deserialize)]
+struct B { x: u8 }
+#[derive(Deserialize)]
+struct C { #[serde(default)] x: (u8, u8) }
+
+// 3: A: such attributes don't go together: `transparent` and `rename`
+#[derive(Serialize)]
+#[serde(transparent, rename = "B")]
+struct A(u8);
+
+// 3: A: serde's `transparent` is covered on structs of one field
+#[derive(Serialize)]
+#[serde(transparent)]
+struct A(u8, u8);
+
+// 3: A: serde's `default` on a field is not covered where its struct is `transparent`: delete it
+#[derive(Serialize)]
+#[serde(transparent)]
+struct A { #[serde(default)] x: u8 }
+
+// 5: A.b: what is flattened is covered where it is a struct of this file with named fields and without `deny_unknown_fields`
+#[derive(Serialize)]
+#[serde(transparent)]
+struct B { x: u8 }
+#[derive(Serialize)]
+struct A { #[serde(flatten)] b: B }

@@ -277,3 +277,39 @@ struct A(u8);
 #[unsafe(no_mangle)] fn f() {}
 #[derive(Serialize)]
 struct A(std::primitive::u8, core::primitive::u8, std::collections::btree_map::BTreeMap<u8, u8>);
+
+// 2: no RoundTrip is written for `A`: `x` may be left out, and is not read where it is missing: give it `default` too
+// + SendFieldUnless(FieldsOfA, 0, &self.x, row)
+// - RoundTrip
+#[derive(PartialEq, Eq, Serialize, Deserialize)]
+struct A {
+    #[serde(skip_serializing_if = "std::vec::Vec::is_empty")]
+    x: Vec<u8>,
+}
+
+// + fields_less (⟦<String as Skip>⟧.is_empty p.x) 1
+// + RoundTrip
+#[derive(PartialEq, Eq, Serialize, Deserialize)]
+struct A {
+    #[serde(default, skip_serializing_if = "str::is_empty")]
+    x: String,
+}
+
+// 3: written as `Absent`: `derive(Default)` on `A`, whose value takes an allocator
+// + impl Absent for A
+// + impl Absent for B
+// + impl Absent for C
+// - Default, PartialEq, Eq)] struct A
+#[derive(Default, PartialEq, Eq, Serialize, Deserialize)]
+#[serde(default)]
+struct A { x: String, b: B, c: C }
+#[derive(Default, PartialEq, Eq, Serialize, Deserialize)]
+struct B { x: u8, #[serde(default)] c: C }
+#[derive(Default, PartialEq, Eq, Serialize, Deserialize)]
+enum C { X(u8), #[default] Y }
+
+// + impl Serialize for A
+// - struct_script
+#[derive(PartialEq, Eq, Serialize, Deserialize)]
+#[serde(transparent)]
+struct A { x: Vec<u8> }

@@ -9,14 +9,13 @@ from .tokens import Cursor, text_of
 
 COVERED = {
     "a container": {"rename", "rename_all", "rename_all_fields", "deny_unknown_fields", "untagged",
-                    "tag", "content"},
+                    "tag", "content", "transparent", "default"},
     "a variant": {"rename", "rename_all"},
-    "a field": {"rename", "default", "flatten"},
+    "a field": {"rename", "default", "flatten", "skip_serializing_if"},
 }
 NOT_COVERED = {
     "f32": "floats are not covered", "f64": "floats are not covered",
     "HashMap": "a HashMap is not covered: a BTreeMap is",
-    "skip_serializing_if": "what is left out is not always read as what it was",
     "skip": "what is left out would not come back",
     "skip_serializing": "what is left out would not come back",
     "skip_deserializing": "what is left unread would not come back",
@@ -153,7 +152,7 @@ class Attributes(Cursor):
         if self.next.text == "(":
             raise Refused(line, f"serde's `{key}` by direction is not covered: one name goes both ways")
         valued = self.eat("=")
-        if valued != (key in ("tag", "content") or key.startswith("rename")):
+        if valued != (key in ("tag", "content", "skip_serializing_if") or key.startswith("rename")):
             why = NOT_COVERED["with"] if valued else "it lacks a value"
             raise Refused(line, f"serde's `{key}` so is not covered: {why}")
         if key in into:

@@ -51,9 +51,23 @@ def check_attributes(item: Item) -> Iterator[Refused]:
         reasons.append("serde's `flatten` is covered in structs with named fields and without `deny_unknown_fields`")
     if any("flatten" in f.serde and len(f.serde) > 1 for f in item.fields()):
         reasons.append("such attributes don't go together: `flatten` stands alone")
+    if item.flattens() and any("skip_serializing_if" in f.serde for f in item.fields()):
+        reasons.append("serde's `skip_serializing_if` is not covered beside `flatten`: name the fields")
     if item.sort == "struct":
         reasons += [f"serde's `{key}` is for enums: delete it"
                     for key in sorted({"rename_all_fields", "untagged", "tag", "content"} & set(item.serde))]
+    if "default" in item.serde and (item.sort != "struct" or not item.data.named):
+        reasons.append("serde's `default` on a container is covered on structs with named fields")
+    elif "default" in item.serde and not item.defaults:
+        reasons.append("serde's `default` on a container is covered where it derives Default: derive that, or write"
+                       " `default` on each field")
+    if item.transparent():
+        others = sorted(set(item.serde) - {"transparent"})
+        reasons += [f"such attributes don't go together: `transparent` and `{key}`" for key in others]
+        if item.sort != "struct" or len(item.data.fields) != 1:
+            reasons.append("serde's `transparent` is covered on structs of one field")
+        reasons += [f"serde's `{key}` on a field is not covered where its struct is `transparent`: delete it"
+                    for f in item.data.fields for key in sorted(f.serde)]
     if ("content" in item.serde) > ("tag" in item.serde) or {"tag", "untagged"} <= set(item.serde):
         reasons.append("such attributes don't go together: write `tag`, `tag` and `content`, or `untagged`")
     yield from (Refused(item.line, reason, item.name) for reason in reasons)

@@ -65,17 +65,22 @@ class Named:
 @dataclass
 class Field(Named):
     """A field; one by place has its place as its name. Where it may be missing, `missing` is what
-    code takes for it and what contracts say of that. Where it is flattened, `inside` is what its
-    type holds."""
+    contracts say of what is read then. It `skips` where it isn't sent if it is empty.
+    Where it is flattened, `inside` is what its type holds."""
 
     type: Type = Type("()")
     visible: str = ""
-    missing: Optional[Tuple[str, str]] = None
+    missing: str = ""
+    skips: bool = False
     inside: Optional["Data"] = None
+
+    def skipped(self, value: str) -> str:
+        """Whether it is left out where it has this value."""
+        return f"({self.type.member('Skip', 'is_empty')} {value})"
 
     def absent(self) -> str:
         """What may be given where it is missing, after a blank."""
-        return f" (λ (x : {self.type.seen()}). {self.missing[1]})" if self.missing else ""
+        return f" (λ (x : {self.type.seen()}). {self.missing})" if self.missing else ""
 
 
 @dataclass
@@ -166,7 +171,8 @@ class Variant(Named):
 class Item(Named):
     """A struct or an enum, with the traits that it derives. Its functions are called after its
     `owner`, and contracts know an enum's variants by `cases`. `levels` is how deep what is flattened
-    stands; what is not `covered` is not written."""
+    stands; what is not `covered` is not written. It `defaults` where its declaration derives Default,
+    and `absent` says that Absent is written, for a field that is read as that value where it is missing."""
 
     sort: str = "struct"
     visible: str = ""
@@ -177,6 +183,8 @@ class Item(Named):
     levels: int = 1
     owner: str = ""
     cases: str = ""
+    defaults: bool = False
+    absent: bool = False
 
     def parts(self) -> List[Data]:
         """The data of the struct, or of each variant."""
@@ -194,6 +202,10 @@ class Item(Named):
     def flattens(self) -> bool:
         return any("flatten" in f.serde for f in self.fields())
 
+    def transparent(self) -> bool:
+        """Whether it is sent and read as its one field is."""
+        return "transparent" in self.serde
+
     def asked(self) -> bool:
         return any(data.asked() for data in self.parts())
 
@@ -201,11 +213,19 @@ class Item(Named):
         """Whether it derives all that RoundTrip stands on."""
         return {"Serialize", "Deserialize", "PartialEq", "Eq"} <= set(self.derives)
 
+    def sent_fields(self) -> List[Field]:
+        """The fields that are sent and read by name: its own, and those of what is beside a tag."""
+        return [f for v in self.variants if v.beside for f in v.beside.data.leaves()] + self.fields()
+
+    def lost(self) -> List[Field]:
+        """The fields that aren't read where they are left out."""
+        return [f for f in self.sent_fields() if f.skips and not f.missing]
+
     def comes_back(self) -> bool:
         """Whether RoundTrip is written. A value of an untagged enum may be read as another variant's,
         where two take trees of one class, and not each of a length of its own."""
         held = [v.held() for v in self.variants] if "untagged" in self.serde else []
-        return self.derives_all() and all(one.takes() for one in held) and all(
+        return self.derives_all() and not self.lost() and all(one.takes() for one in held) and all(
             one.is_apart(other) for one, other in combinations(held, 2))
 
     def comes_back_from_cbor(self) -> bool:
@@ -213,11 +233,13 @@ class Item(Named):
         it does what they hold."""
         held = [f for v in self.variants if v.beside for f in v.beside.data.leaves()]
         held += [f for v in self.variants if not v.beside for f in v.data.leaves()] + self.data.leaves()
-        return self.comes_back() and bool(self.variants or held) and all(f.type.comes_back_from_cbor() for f in held)
+        return self.comes_back() and bool(self.variants or held) and all(
+            f.type.comes_back_from_cbor() and not f.skips for f in held)
 
     def may_be_null(self) -> bool:
         """Whether it may be read of null, where CBOR keeps its values."""
-        return self.data.style == "Newtype" and self.data.fields[0].type.may_be_null()
+        alone = self.data.style == "Newtype" or self.transparent()
+        return alone and self.data.fields[0].type.may_be_null()
 
     def declared(self) -> str:
         """The declaration."""

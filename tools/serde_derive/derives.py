@@ -6,7 +6,7 @@ from .declarations import Item, Refused
 from .files import File
 from .homes import placed
 from .tokens import ROOTS
-from .types import Type
+from .types import DEFAULTS, Type
 
 NEEDS = {"Copy": ["Clone"], "Eq": ["PartialEq"], "PartialOrd": ["PartialEq"], "Ord": ["Eq", "PartialOrd"], "Hash": ["Eq"]}
 IN_MEMORY = {"String", "Vec", "Box", "BTreeMap"}
@@ -27,6 +27,46 @@ def lacking(t: Type, trait: str, items: Dict[str, Item], file: File) -> Iterator
     elif trait != "Default" or t.name != "Option":
         for argument in t.arguments:
             yield from lacking(argument, trait, items, file)
+
+
+def has_absent(t: Type, items: Dict[str, Item]) -> bool:
+    """Whether a value of the type is read where a field is missing: the one of its Default."""
+    mine = items.get(t.name)
+    return t.name in DEFAULTS or bool(mine and mine.defaults and (
+        mine.variants or all(has_absent(f.type, items) for f in mine.data.fields)))
+
+
+def takes_memory(t: Type, items: Dict[str, Item]) -> bool:
+    """Whether the value of its Default takes an allocator."""
+    if t.name in items:
+        mine = items[t.name]
+        return not mine.variants and any(takes_memory(f.type, items) for f in mine.data.fields)
+    return t.name in IN_MEMORY or (t.name != "Option" and any(takes_memory(a, items) for a in t.arguments))
+
+
+def settle_default(item: Item, items: Dict[str, Item], file: File) -> None:
+    """Settles whether Absent is written, and whether in place of a Default that would take an allocator."""
+    own = Type(item.name)
+    item.absent = item.defaults and has_absent(own, items)
+    if item.absent and takes_memory(own, items):
+        item.derives.remove("Default")
+        file.notes.append((item.line, f"written as `Absent`: `derive(Default)` on `{item.name}`, whose value takes an allocator"))
+    else:
+        item.absent &= "Deserialize" in item.derives
+
+
+def check_missing(item: Item, items: Dict[str, Item]) -> None:
+    """Refuses a field that may be missing where there is no value for it."""
+    for where, f in placed(item):
+        mine = items.get(f.type.name)
+        if "default" not in f.serde or f.type.name in DEFAULTS:
+            continue
+        if not f.type.home:
+            raise Refused(f.line, "its default is not covered: those of numbers, bool, String, Option, Vec, BTreeMap and of"
+                          " your own types that derive Default are", f.name)
+        if mine and mine.covered and not mine.absent:
+            raise Refused(f.line, f"its default is not covered: `{f.type.name}` derives no Default, or holds what has none"
+                          " here", f.name)
 
 
 def check_default(item: Item) -> Iterator[Refused]:

@@ -1,11 +1,12 @@
 """The impls of an enum that is tagged externally, and what those of others share with them."""
 from typing import Callable, List
 
+from .attributes import DEFAULT
 from .cases import pascal
 from .declarations import Data, Item, Variant
 from .holder import Holder
 from .literals import ROWS_OPENED, list_impl, name_method, name_term, opened
-from .text import DESERIALIZE, KNOWN, SERIALIZE, all_hold, arm, bracketed, clause, elim
+from .text import ABSENT, DESERIALIZE, KNOWN, REFUSES_NULL, SERIALIZE, all_hold, arm, bracketed, clause, elim
 from .text import facts, function, ghost, together
 from .types import in_term
 
@@ -120,6 +121,12 @@ class EnumWriter:
     def match(self, arms: List[str]) -> List[str]:
         return ["match self {"] + arms + ["}"]
 
+    def absent(self) -> List[str]:
+        """What is read where a field of this type is missing."""
+        marked = next(v for v in self.item.variants if DEFAULT in v.head)
+        return [ghost("is_absent", f"λ x. x ≡ {self.cases}.{in_term(marked.name)}"),
+                function(ABSENT.format(self.item.name), f"{self.item.name}::{marked.name}")]
+
     def serialize(self) -> List[str]:
         sent = [arm(self.made(v, v.data.places()), self.send_variant(v, h)) for v, h in self.variants]
         return [ghost("script", self.each(lambda v, holder, x: holder.script(x))),
@@ -207,6 +214,9 @@ class EnumWriter:
         law = f"{holder.word}_back{holder.back(values, self.sees(holder))}"
         return (f"λ real f. variant_back Self.refusal Self.gives {bracketed(law)}\nf ({opened('λ d. refl')})\n"
                 f"({opened('λ d only. ' + elim([self.read(v, w) for w in self.item.variants]))})")
+
+    def not_null(self) -> List[str]:
+        return [REFUSES_NULL]
 
     def cbor_round_trip(self) -> List[str]:
         return [ghost("kept", f"record {{\nof_value = {self.each(self.kept)};\n}}")]

@@ -1,11 +1,11 @@
 """What is written of what a struct or a variant holds."""
-from typing import Callable, List, NamedTuple, Optional, Tuple
+from typing import Callable, Dict, List, NamedTuple, Optional, Tuple
 
 from .cases import pascal
 from .declarations import Data, Field
 from .literals import list_impl, list_term, name_call, name_method, name_term
 from .text import clause, fields_reader, function, ghost, together
-from .types import READ, TRIP, in_term, nest, snake
+from .types import ALIKE, READ, TRIP, in_term, nest, snake
 
 
 LONGEST_ROW = 8  # types of longer rows take the checker's memory
@@ -58,6 +58,14 @@ FLATTENED = BY_NAME._replace(
     kept=("flattened_named{or_}_kept {name}{missing} {inner} {see}", "(flattened_end_kept {known})"))
 
 
+# what stands for a field that isn't sent where it is empty, where that differs
+UNLESS = {"script": "field_unless {skipped} {name} {inner}",
+          "lawful": "field_unless_fits {skipped} {inner}",
+          "back": "keyed_unless_back {name}{missing} {skipped} {inner}\n{alike} {apart} {see}"}
+# beside such a field a law says which names are sent
+KEYED = BY_NAME._replace(back=("keyed{or_}_back {name}{missing} {inner} {see}", "(keyed_{end}_back {known})"))
+
+
 class Holder:
     """All that is written of what a struct or a variant holds. Its values are given by place, as
     contracts or code name them."""
@@ -80,6 +88,7 @@ class Holder:
         self.names_known = [f.wire for f in data.fields]
         self.before: List[str] = []
         self.big = self.many and self.count > self.room()
+        self.skips = any(f.skips for f in data.fields)
         self.head = "" if self.of_variant else " " + self.names
         self.name = "" if self.of_variant else written[0]
 
@@ -194,25 +203,53 @@ class Holder:
         return [f"/// Its contract tells proofs what is made of the values.\nfn {self.maker_name()}(row: {self.run(0)}) -> {result}\n"
                 + clause("ensures", f"result ≡ {term(seen)}") + f"{{\n{body}\n}}\n"]
 
-    def parts(self, member: str, inners: List[str], sees: Optional[List[str]] = None) -> List[str]:
+    def words(self, member: str) -> Tuple[str, str]:
+        """What stands for one of its values in a member of the impls, and for the end."""
+        return getattr(BY_PLACE if not self.data.named else KEYED if self.skips else self.by_key, member)
+
+    def parts(self, member: str, inners: List[str], sees: Optional[List[str]] = None,
+              values: Optional[List[str]] = None) -> List[str]:
         """What stands for each of its values in a member of the impls."""
-        part = getattr(self.by_key if self.data.named else BY_PLACE, member)[0]
-        return [part.format(
+        return [(UNLESS.get(member) if f.skips and member in UNLESS else self.words(member)[0]).format(
             inner=inner, see=see, place=place, count=self.count, name=name_term(f.wire),
-            or_="_or" * bool(f.missing), Or="Or" * bool(f.missing), missing=f.absent())
-            for place, (f, inner, see) in enumerate(zip(self.fields, inners, sees or inners))]
+            or_="_or" * bool(f.missing), Or="Or" * bool(f.missing), missing=f.absent(),
+            **self.unless(place, value) if f.skips else {})
+            for place, (f, inner, see, value) in enumerate(zip(self.fields, inners, sees or inners, values or inners))]
+
+    def unless(self, place: int, value: str) -> Dict[str, str]:
+        """Of a field that isn't sent where it is empty: whether it is, that what is read in its place equals it, and
+        that those after it have other names."""
+        f = self.fields[place]
+        others = "".join("refl, " for _ in self.fields[place + 1:])
+        return {"skipped": f.skipped(value), "alike": f"(λ e y a. {ALIKE[f.type.name].format(x=value)})",
+                "apart": f"(unfold name in ({others}tt))"}
 
     def end(self, member: str) -> str:
         """What stands after them."""
         words = ("no_others", "closed") if self.data.closed else ("others_left", "skipped")
-        return getattr(self.by_key if self.data.named else BY_PLACE, member)[1].format(
+        return self.words(member)[1].format(
             known=list_term(self.names_known), left=words[0], end=words[1], count=self.count)
 
-    def row(self, member: str, inners: List[str], sees: Optional[List[str]] = None, start: int = 0) -> str:
+    def row(self, member: str, inners: List[str], sees: Optional[List[str]] = None, start: int = 0,
+            values: Optional[List[str]] = None) -> str:
         """All its values from a place on in a member of the impls, or the one, after a blank or a line's end."""
         if not self.many:
             return "".join(f" {inner}" for inner in inners)
-        return nest(self.parts(member, inners, sees)[start:], self.end(member))
+        return nest(self.parts(member, inners, sees, values)[start:], self.end(member))
+
+    def length(self, values: List[str], more: int = 0) -> str:
+        """How many fields are sent, as contracts see it."""
+        term = str(self.count + more)
+        for f, value in zip(self.fields, values):
+            term = f"(fields_less {f.skipped(value)} {term})" if f.skips else term
+        return term
+
+    def opening(self, values: List[str]) -> str:
+        """The call that opens it, of these values."""
+        head, _, count = self.call[:-1].rpartition(", ")
+        for f, value in zip(self.fields, values):
+            count = f"count_unless({value}, {count})" if f.skips else count
+        return f"{head}, {count})" if self.skips else self.call
 
     def by_name(self, word: str, row: str) -> str:
         """A row of fields, which is read by name."""
@@ -222,18 +259,19 @@ class Holder:
         """The calls that are made, by the scripts of its fields' types."""
         members = members or [f.type.member("Serialize", "script") for f in self.fields]
         inner = [f"({member} {value})" for member, value in zip(members, values)]
-        return f"{self.word}_script {self.names}{f' {self.count}' * self.many}{self.row('script', inner)}"
+        length = f" {self.length(values)}" if self.many else ""
+        return f"{self.word}_script {self.names}{length}{self.row('script', inner, values=values)}"
 
     def lawful(self, values: List[str]) -> str:
         """That they spell one tree."""
         laws = [f"({f.type.lawful(v)})" for f, v in zip(self.fields, values)]
-        return f"{self.word}_lawful{self.row('lawful', laws)}"
+        return f"{self.word}_lawful{self.row('lawful', laws, values=values)}"
 
     def send(self, values: List[str]) -> List[str]:
         """The statements that make them."""
         if not self.many:
             return [f"{self.call}.around({values[0]}, alloc, serializer)" if values else f"{self.call}.send(serializer)"]
-        return sending(self.call, self.before + self.sent_row(values, 0), self.sent_last(values, 0))
+        return sending(self.opening(values), self.before + self.sent_row(values, 0), self.sent_last(values, 0))
 
     def sent_row(self, values: List[str], start: int) -> List[str]:
         """The values from a place on as a row has them, as many as it has room for."""
@@ -255,8 +293,9 @@ class Holder:
     def run_sent(self, start: int) -> str:
         """The struct of references to the values from a place on, and how it is sent."""
         whole, left = self.sent_run(start), range(self.count - start)
-        script = self.row("script", [f"({f.type.member('Serialize', 'script')} row.{place - start}.now)"
-                                     for place, f in enumerate(self.fields)], start=start)
+        seen = [f"row.{place - start}.now" for place in range(self.count)]
+        script = self.row("script", [f"({f.type.member('Serialize', 'script')} {value})"
+                                     for f, value in zip(self.fields, seen)], start=start, values=seen)
         values = [""] * start + [f"self.{place}" for place in left]
         send = function("fn send<S: Serializer>(&self, alloc: Global, serializer: &mut S, error: &mut serde_content::Error)"
                         " -> serde_content::ser::Sent",
@@ -269,7 +308,8 @@ class Holder:
 
     def sent(self, f: Field, value: str) -> str:
         """A value as a row has it, before those after it."""
-        return f"SendField({self.list}, {self.index(f)}, {value}, row)" if self.data.named else f"SendPart({value}, row)"
+        unless = "Unless" * f.skips
+        return f"SendField{unless}({self.list}, {self.index(f)}, {value}, row)" if self.data.named else f"SendPart({value}, row)"
 
     def refusal_row(self) -> str:
         if self.big:
@@ -347,10 +387,11 @@ class Holder:
         for f, law, value in zip(self.fields, laws, values):
             real = "tt" if f.type.plain else "real" if len(asked) == 1 else f"real.{asked.index(f)}"
             inner.append(f"{law} {value} {real}")
-        return self.row(member, inner, sees)
+        return self.row(member, inner, sees, values=values)
 
     def back_row(self, values: List[str], sees: List[str]) -> str:
-        return self.trip_row("back", [f.type.typed_back() for f in self.fields], values, sees)
+        row = self.trip_row("back", [f.type.typed_back() for f in self.fields], values, sees)
+        return f" (keyed_named{row})" if self.skips else row
 
     def kept_row(self, values: List[str], sees: List[str]) -> str:
         return self.trip_row("kept", [f.type.typed_kept() for f in self.fields], values, sees)

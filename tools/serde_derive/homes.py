@@ -173,9 +173,11 @@ class Homes:
     def inlined(self, f: Field, what: str) -> Item:
         """The struct in a field, whose own fields are sent and read in its place."""
         part = self.items.get(f.type.name)
-        if not part or not part.data.named or part.data.closed or (part.flattens() and "flatten" not in f.serde):
+        if not part or not part.data.named or part.data.closed or part.transparent() or (part.flattens() and "flatten" not in f.serde):
             raise Refused(f.line, f"{what} is covered where it is a struct of this file with named fields and without"
                           f" `deny_unknown_fields`{'' if 'flatten' in f.serde else ' and `flatten`'}")
+        if "flatten" in f.serde and any(inside.skips for inside in part.data.leaves()):
+            raise Refused(f.line, f"{what} is not covered where `skip_serializing_if` leaves out some of it: name the fields")
         if part.levels > DEEPEST_FLATTENED:
             raise Refused(f.line, f"{what} in more than {DEEPEST_FLATTENED} levels is not covered: name the fields")
         return part
@@ -221,7 +223,7 @@ class Homes:
         law = ("records", "map_takes" if part.flattens() else "struct_takes")
         self.known(name, self.here, name)
         return Type(name, home=self.here, declared=name, plain=not part.asked(), lost=not part.comes_back_from_cbor(),
-                    null=part.may_be_null(), record=law if part.data.named else None)
+                    null=part.may_be_null(), record=law if part.data.named and not part.transparent() else None)
 
     def own(self, name: str) -> Type:
         """An own type of another file."""

@@ -5,22 +5,20 @@ from typing import Dict, Iterator, List, Optional, Set, Tuple, Union
 from .attributes import doc_line
 from .checks import check, check_work
 from .declarations import Item, Refusals, Refused
-from .derives import check_derives
+from .derives import check_derives, check_missing, settle_default
 from .enums import EnumWriter
 from .files import File, Reader
 from .homes import Homes
 from .literals import with_names
 from .names import name_item
-from .structs import StructWriter
+from .structs import StructWriter, TransparentWriter
 from .tagged import TaggedWriter
-from .text import ghost
 from .types import CBOR, NOT_NULL, READ, TRIP, snake
 from .unique import KINDS, name_cases, name_functions
 from .untagged import UntaggedWriter
 from .words import ALIASES, METHODS, SEEN, USES, WORDS, words_in, words_of
 
 Writer = Union[StructWriter, EnumWriter]
-REFUSES_NULL = ghost("refuses_null", "record { of_null = λ b e. absurd (cc e) }")
 TRAITS = dict(zip(KINDS, ("Serialize", "RoundTrip", "CborRoundTrip", "NotNull", "Ord")))
 
 
@@ -43,7 +41,7 @@ def impl(item: Item, trait: str, members: List[str], lifetime: str = "") -> str:
 
 def writer_of(item: Item) -> Writer:
     if not item.variants:
-        return StructWriter(item)
+        return TransparentWriter(item) if item.transparent() else StructWriter(item)
     sort = UntaggedWriter if "untagged" in item.serde else TaggedWriter if "tag" in item.serde else EnumWriter
     return sort(item)
 
@@ -51,6 +49,8 @@ def writer_of(item: Item) -> Writer:
 def impls(item: Item, writer: Writer, cbor: bool) -> Iterator[str]:
     """The impls of the traits that an item derives, and for CBOR."""
     yield from writer.functions()
+    if item.absent:
+        yield impl(item, "Absent", writer.absent())
     if "Serialize" in item.derives:
         yield impl(item, "Serialize", writer.serialize())
     if "Deserialize" in item.derives:
@@ -62,7 +62,7 @@ def impls(item: Item, writer: Writer, cbor: bool) -> Iterator[str]:
     if cbor and item.comes_back_from_cbor():
         yield impl(item, CBOR, writer.cbor_round_trip(), "<'de>")
         if not item.may_be_null():
-            yield impl(item, NOT_NULL, [REFUSES_NULL], "<'de>")
+            yield impl(item, NOT_NULL, writer.not_null(), "<'de>")
 
 
 def read(source: str) -> File:
@@ -94,6 +94,10 @@ def settled(file: File, homes: Homes) -> Dict[str, Writer]:
     for item in file.items:
         tried(item, refused, name_item)
     homes.settle()
+    for item in file.items:
+        settle_default(item, homes.items, file)
+    for item in file.items:
+        tried(item, refused, lambda item: check_missing(item, homes.items))
     for item in file.items:
         refused += check_derives(item, homes.items, file) if item.covered else []
     refused += check_work([item for item in file.items if item.covered])
@@ -153,8 +157,13 @@ def module(source: str, name: str, crate: str, place: str, cbor: bool = False,
         raise Refusals([refused]) from None
     if notes is not None:
         notes += sorted(file.notes)
+    file.notes = []
     homes = Homes(crate, place, file)
     writers = settled(file, homes)
+    if notes is not None:
+        notes += file.notes + [(item.line, f"no RoundTrip is written for `{item.name}`: `{f.name}` may be left out, and is not read"
+                   " where it is missing: give it `default` too") for item in file.items if item.derives_all()
+                  for f in item.lost()[:1]]
     texts = [text for item in file.items for text in texts_of(item, writers[item.name], cbor)]
     body = with_names("\n".join(texts), [item.name for item in file.items])
     docs = file.docs or ["//! Types that are sent and read."]

@@ -3,14 +3,17 @@ import re
 from typing import Callable, List, Optional
 
 from .cases import CASES, same
-from .declarations import Data, Item, Named, Refused
+from .declarations import Data, Field, Item, Named, Refused
 from .tokens import LONGEST
-from .types import DEFAULTS
+from .types import DEFAULTS, SKIPS
 
 
 def name_item(item: Item) -> None:
     """Gives an item, its variants and its fields the names that are sent."""
     case = item.serde.get("rename_all")
+    if "default" in item.serde:
+        for f in item.data.fields:
+            f.serde.setdefault("default", "")
     for data in item.parts():
         data.closed = "deny_unknown_fields" in item.serde
     for key in ("tag", "content"):
@@ -29,12 +32,25 @@ def name_item(item: Item) -> None:
 def name_fields(data: Data, case: Optional[str]) -> None:
     """Names the fields, and gives those that may be missing what stands for them."""
     for f in data.fields:
+        if "default" in f.serde and not data.named:
+            raise Refused(f.line, "its default is not covered: it is in fields with names", f.name)
         if "default" in f.serde or (data.named and f.type.name == "Option"):
-            if not data.named or f.type.name not in DEFAULTS:
-                raise Refused(f.line, "its default is not covered: those of numbers, bool, String, Option, Vec and BTreeMap"
-                              " are, in fields with names", f.name)
-            f.missing = DEFAULTS[f.type.name]
+            f.missing = DEFAULTS.get(f.type.name, f"⟦<{f.type.rust()} as Absent>⟧.is_absent x")
+        if "skip_serializing_if" in f.serde:
+            check_skipped(f, data)
+            f.skips = True
     name_each(data.fields if data.named else [], CASES[case][0] if case else same)
+
+
+def check_skipped(f: Field, data: Data) -> None:
+    """Refuses a test of what is left out that isn't the one of the field's type."""
+    test = f.serde["skip_serializing_if"].replace(" ", "")
+    known = SKIPS.get(f.type.name)
+    if not data.named:
+        raise Refused(f.line, "serde's `skip_serializing_if` is covered in fields with names: give them names", f.name)
+    if not known or not (test == known or test.endswith(f"::{known}") or (test, f.type.name) == ("str::is_empty", "String")):
+        raise Refused(f.line, f"serde's `skip_serializing_if` so is not covered: {', '.join(SKIPS.values())} are, each on a"
+                      " field of its type", f.name)
 
 
 def check_sent(name: str, line: int, where: str) -> None:

@@ -139,7 +139,8 @@ class Parser(Attributes):
     def item(self, head: Head, visible: str) -> Item:
         """A struct or an enum, from that word on."""
         line, sort = self.next.line, self.take().text
-        item = Item(self.next.text, line, head.lines, head.serde, sort=sort, visible=visible, derives=head.derives)
+        item = Item(self.next.text, line, head.lines, head.serde, sort=sort, visible=visible, derives=head.derives,
+                    defaults="Default" in head.derives)
         start = self.place
         item.covered = self.guarded(item.name, head, lambda: self.body(item))
         if not item.covered:

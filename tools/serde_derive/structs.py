@@ -3,8 +3,8 @@ from typing import Callable, Iterator, List, Optional
 
 from .declarations import Data, Field, Item
 from .holder import FLATTENED, Holder
-from .text import DESERIALIZE, KNOWN, SERIALIZE, all_hold, facts, function, ghost
-from .types import in_term
+from .text import ABSENT, DESERIALIZE, KNOWN, REFUSES_NULL, SERIALIZE, all_hold, facts, function, ghost
+from .types import READ, TRIP, in_term
 
 
 class FlattenedHolder(Holder):
@@ -66,6 +66,12 @@ class StructWriter:
             return f"{self.holder.maker_name()}({', '.join(places)})"
         return self.item.data.made(self.item.name, places)
 
+    def absent(self) -> List[str]:
+        """What is read where a field of this type is missing."""
+        facts_known = " × ".join(f"{f.type.member('Absent', 'is_absent')} {value}" for f, value in zip(self.fields, self.values))
+        made = self.item.data.made(self.item.name, ["Absent::absent(alloc)"] * len(self.fields))
+        return [ghost("is_absent", f"λ p. {facts_known or '⊤'}"), function(ABSENT.format(self.item.name), made)]
+
     def serialize(self) -> List[str]:
         return [ghost("script", f"λ p. {self.holder.script(self.values)}"),
                 ghost("lawful", f"λ p readable. {self.holder.lawful(self.values)}"),
@@ -94,9 +100,47 @@ class StructWriter:
             ghost("comes_back", f"record {{\nof_value = λ p real f. {back};\n}}"),
             ghost("keeps", keeps)]
 
+    def not_null(self) -> List[str]:
+        return [REFUSES_NULL]
+
     def cbor_round_trip(self) -> List[str]:
         holder = self.holder
         laws = f"{holder.word}_kept{holder.kept(self.values, self.sees)}"
         passes = same(self.item.data, iter(facts(holder.count, 'h'))) if holder.many else "h"
         see = "" if holder.many else " (λ q. q.0)"
         return [ghost("kept", f"record {{\nof_value = λ p real. {laws}{see}\n(λ q h. {passes});\n}}")]
+
+
+class TransparentWriter(StructWriter):
+    """The impls of a struct that is sent and read as its one field is."""
+
+    def __init__(self, item: Item):
+        super().__init__(item)
+        self.field, self.type, self.value, self.see = self.fields[0], self.fields[0].type, self.values[0], self.sees[0]
+
+    def functions(self) -> List[str]:
+        return []
+
+    def serialize(self) -> List[str]:
+        return [ghost("script", f"λ p. {self.type.member('Serialize', 'script')} {self.value}"),
+                ghost("lawful", f"λ p readable. {self.type.lawful(self.value)}"),
+                function(SERIALIZE, f"self.{self.field.name}.serialize(alloc, serializer)")]
+
+    def deserialize(self) -> List[str]:
+        place = self.holder.data.places()[0]
+        return [ghost("refusal", self.type.member(READ, "refusal")),
+                ghost("gives", f"λ s p. {self.type.member(READ, 'gives')} s {self.value}"),
+                function(DESERIALIZE.format(self.item.name), f"let {place} = Deserialize::deserialize(alloc, from)?;",
+                         f"Ok({self.item.data.made(self.item.name, [place])})")]
+
+    def round_trip(self) -> List[str]:
+        exists = [ghost("exists", f"λ p. {self.type.member(TRIP, 'exists')} {self.value}")] * (not self.type.plain)
+        return exists + [function(KNOWN, *[f"self.{self.field.name}.known();"] * (not self.type.plain)),
+                         ghost("comes_back", f"seen_back {self.see} {self.type.typed_back()}"),
+                         ghost("keeps", f"seen_keeps {self.see} {self.type.typed_keeps()}")]
+
+    def not_null(self) -> List[str]:
+        return [ghost("refuses_null", self.type.not_null())]
+
+    def cbor_round_trip(self) -> List[str]:
+        return [ghost("kept", f"seen_kept {self.see} {self.type.typed_kept()}")]

@@ -31,12 +31,13 @@ class TaggedHolder(Holder):
     def script(self, values: List[str], members: Optional[List[str]] = None) -> str:
         members = members or [f.type.member("Serialize", "script") for f in self.fields]
         inner = [f"({member} {value})" for member, value in zip(members, values)]
-        head = f"tagged_script {self.names} {self.count + 1} {name_term(self.tag)} {name_term(self.variant)}"
-        return head + self.row("script", inner)
+        head = f"tagged_script {self.names} {self.length(values, 1)} {name_term(self.tag)} {name_term(self.variant)}"
+        return head + self.row("script", inner, values=values)
 
     def lawful(self, values: List[str]) -> str:
-        laws = ["(leaf_lawful refl)"] + [f"({f.type.lawful(v)})" for f, v in zip(self.fields, values)]
-        return "struct_lawful" + nest([f"field_fits {law}" for law in laws], "struct_end_fits")
+        laws = [f"({f.type.lawful(v)})" for f, v in zip(self.fields, values)]
+        return "struct_lawful" + nest(["field_fits (leaf_lawful refl)", *self.parts("lawful", laws, values=values)],
+                                      "struct_end_fits")
 
 
 class TaggedWriter(EnumWriter):
@@ -59,7 +60,7 @@ class TaggedWriter(EnumWriter):
             raise Refused(v.line, f"variant `{v.name}`: a field is called as the tag, `{self.tag}`")
         if not self.content:
             return beside
-        return [Field("x1", f.line, [], {}, self.content, f.type, missing=DEFAULTS["Option"] if f.type.name == "Option" else None)
+        return [Field("x1", f.line, [], {}, self.content, f.type, missing=DEFAULTS["Option"] if f.type.name == "Option" else "")
                 for f in v.data.fields]
 
     def names_list(self) -> List[str]:

@@ -9,6 +9,7 @@ from .words import ALIASES, RESERVED, WORDS
 SERIALIZE = "fn serialize<S: Serializer>(&self, alloc: Global, serializer: &mut S) -> Result<()>"
 DESERIALIZE = "fn deserialize<'n: 'de>(alloc: Global, from: Deserializer<'de, 'n>) -> Result<{}>"
 KNOWN = "fn known(&self)"
+ABSENT = "fn absent(alloc: Global) -> {}"
 
 
 def codes(name: str) -> str:
@@ -31,6 +32,9 @@ def filled(line: str, width: int = 84) -> str:
 
 def ghost(name: str, term: str) -> str:
     return "\n".join(filled(line) for line in f"ghost {name} = {{ {term} }};".split("\n"))
+
+
+REFUSES_NULL = ghost("refuses_null", "record { of_null = λ b e. absurd (cc e) }")
 
 
 def clause(word: str, fact: str) -> str:

@@ -63,12 +63,15 @@ CLASSES = {
     "BTreeMap": ("records", "map_takes"),
     **{name: ("numbers", f"(number_takes kind.{name.replace('size', '64')})") for name in NUMBERS},
 }
+# what contracts say of the value that is read where a field is missing
 DEFAULTS = {
-    "bool": ("false", "x ≡ false"), "String": ("String::new(alloc)", "string_bytes x ≡ []"),
-    "Option": ("None", "x ≡ None"), "Vec": ("Vec::new(alloc)", "x.items ≡ []"),
-    "BTreeMap": ("BTreeMap::new(alloc)", "x.entries ≡ []"),
-    **{name: ("0", "x ≡ pos 0" if name in SIGNED else "x ≡ 0") for name in NUMBERS},
+    "bool": "x ≡ false", "String": "string_bytes x ≡ []", "Option": "x ≡ None", "Vec": "x.items ≡ []",
+    "BTreeMap": "x.entries ≡ []", **{name: "x ≡ pos 0" if name in SIGNED else "x ≡ 0" for name in NUMBERS},
 }
+# what `skip_serializing_if` may name, by the type of the field, and that what is read in place of an empty {x} equals it
+SKIPS = {"Option": "Option::is_none", "String": "String::is_empty", "Vec": "Vec::is_empty", "BTreeMap": "BTreeMap::is_empty"}
+ALIKE = {"Option": "none_alike _ {x} e y a", "String": "no_items_alike _ (string_bytes {x}) e (string_bytes y) a",
+         "Vec": "no_items_alike _ {x}.items e y.items a", "BTreeMap": "no_items_alike _ {x}.entries e y.entries a"}
 OWN = Laws("{own}_serialize.lawful-law {x} {h}", "{own}_round_trip.comes_back-law",
            "{own}_round_trip.keeps-law", "{declared}",
            "{own}_cbor_round_trip.kept-law", "{own}_not_null.refuses_null-law")

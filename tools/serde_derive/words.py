@@ -45,6 +45,7 @@ content_de.specs.Reads.Tagged tag_then TagThen tag_then_buffered TagThenBuffered
 content_de.specs.Reads.Own enum_refusal EnumGives
 content_de.specs.Reads.Own {' '.join(f'{s}_refusal {pascal(s)}Gives' for s in STYLES)}
 serde_content.specs.Literals name row_then row_or_then RowThen RowOrThen others_left
+serde_content.specs.Skips fields_less field_unless
 serde_content.specs.Variants index_among variants
 serde_content.specs.RoundTrip ComesBack CoercionKeeps
 serde_content.specs.Laws.Leaves heedless_keeps natural_keeps integer_keeps
@@ -57,6 +58,8 @@ serde_content.specs.Laws.Series part_keeps tuple_keeps tuple_struct_keeps parts_
 serde_content.specs.Laws.Records struct_back struct_keeps newtype_struct_back newtype_struct_keeps
 serde_content.specs.Laws.ByName by_name_back named_back named_or_back skipped_back closed_back
 serde_content.specs.Laws.ByName by_name_keeps named_keeps named_or_keeps skipped_keeps closed_keeps
+serde_content.specs.Laws.Skips field_unless_fits keyed_back keyed_or_back keyed_unless_back keyed_skipped_back
+serde_content.specs.Laws.Skips keyed_closed_back keyed_named none_alike no_items_alike
 serde_content.specs.Laws.Flattened flattened_script flattened_first flattened_fits flattened_end_fits
 serde_content.specs.Laws.Flattened flattened_lawful flattened_refusal FlattenedGives flattened_end_back
 serde_content.specs.Laws.Flattened flattened_named_back flattened_named_or_back flattened_back flattened_keeps
@@ -97,9 +100,9 @@ USES = {
     "serde_content": "CowStr Deserializer Error Result RoundTrip",
     "serde_content::de": "Deserialize FieldsByName VariantAccess attempt",
     "serde_content::derive_support":
-        f"Names {' '.join(sorted(one for _, one in CHOICES))} OthersRefused OthersSkipped PartsEnd ReadField ReadFieldOr ReadFields"
-        f" ReadPart ReadParts ReadStruct SendElement SendEnd SendEntry SendField SendOpen SendPart SendTag TaggedVariants Variants"
-        f" {' '.join(sorted(first for first, _ in CHOICES))} no_such_variant read_adjacent read_enum read_flattened read_struct read_tagged send_row"
+        f"Absent Names {' '.join(sorted(one for _, one in CHOICES))} OthersRefused OthersSkipped PartsEnd ReadField ReadFieldOr ReadFields"
+        f" ReadPart ReadParts ReadStruct SendElement SendEnd SendEntry SendField SendFieldUnless SendOpen SendPart SendTag Skip TaggedVariants Variants"
+        f" {' '.join(sorted(first for first, _ in CHOICES))} count_unless no_such_variant read_adjacent read_enum read_flattened read_struct read_tagged send_row"
         " variant_index",
     "serde_content::ser": "Call Parts Serialize Serializer",
     "std::alloc": "Global",

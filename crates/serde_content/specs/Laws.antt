@@ -10,3 +10,4 @@ pub mod Tagged
 pub mod Flattened
 pub mod Untagged
 pub mod Lookups
+pub mod Skips

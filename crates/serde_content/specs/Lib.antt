@@ -4,3 +4,4 @@ pub mod Names
 pub mod Choices
 pub mod Literals
 pub mod Variants
+pub mod Skips

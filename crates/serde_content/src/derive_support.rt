@@ -9,7 +9,9 @@ pub use crate::fields_read::{
     ReadParts, ReadStruct, read_flattened, read_struct,
 };
 pub use crate::fields_sent::{
-    SendElement, SendEnd, SendEntry, SendField, SendOpen, SendPart, SendRow, SendTag, send_row,
+    SendElement, SendEnd, SendEntry, SendField, SendFieldUnless, SendOpen, SendPart, SendRow,
+    SendTag, send_row,
 };
 pub use crate::name_lists::{Names, no_such_variant, variant_index};
+pub use crate::skips::{Skip, count_unless};
 pub use crate::variants::{TaggedVariants, Variants, read_adjacent, read_enum, read_tagged};

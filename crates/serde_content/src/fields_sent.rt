@@ -12,9 +12,11 @@ ghost use Rattle.content_ser.specs.Scripts.Own.{end_script, field_first, tuple_f
 ghost use Rattle.content_ser.specs.Scripts.Standard.{call_first, element_first, only};
 ghost use Rattle.content_ser.specs.Sending.Aside.{answer_of};
 ghost use Rattle.content_ser.specs.Serializers.Step.{Takes};
+ghost use Rattle.serde_content.specs.Skips.{field_unless};
 ghost use Rattle.serde_content.specs.Laws.Flattened.{flattened_first};
 
 use crate::name_lists::{Names, name_at};
+use crate::skips::Skip;
 use content_ser::{Aside, Call, Sent, Serialize, Serializer};
 use content_tree::{CowStr, Error, ErrorKind, Result};
 use std::alloc::Global;
@@ -69,6 +71,25 @@ impl SendRow for SendEnd {
     }
 }
 
+/// The field whose name has this index among the names `K`, and those after it.
+#[inline(always)]
+fn send_field<K: Names, T: Serialize, R: SendRow, S: Serializer>(
+    index: usize,
+    value: &T,
+    rest: &R,
+    alloc: Global,
+    serializer: &mut S,
+    error: &mut Error,
+) -> Sent
+    ensures { Sends S.step S.refuses (S.seen serializer.old)
+        (field_first (slice_index_or K.names index []) (T.script value.now) (R.script rest.now))
+        (answer_of result error.new) (S.seen serializer.new) }
+{
+    announce_field::<K, S>(index, serializer, error)?;
+    value.serialize_aside(alloc, serializer, error)?;
+    rest.send(alloc, serializer, error)
+}
+
 /// A field whose name has this index among the names `K`, and those after it.
 #[derive(Drop)]
 pub struct SendField<'a, K, T, R>(pub K, pub usize, pub &'a T, pub R);
@@ -79,9 +100,25 @@ impl<'a, K: Names, T: Serialize, R: SendRow> SendRow for SendField<'a, K, T, R> 
 
     #[inline(always)]
     fn send<S: Serializer>(&self, alloc: Global, serializer: &mut S, error: &mut Error) -> Sent {
-        announce_field::<K, S>(self.1, serializer, error)?;
-        self.2.serialize_aside(alloc, serializer, error)?;
-        self.3.send(alloc, serializer, error)
+        send_field::<K, T, R, S>(self.1, self.2, &self.3, alloc, serializer, error)
+    }
+}
+
+/// The same, unless the value is empty: it is left out then.
+#[derive(Drop)]
+pub struct SendFieldUnless<'a, K, T, R>(pub K, pub usize, pub &'a T, pub R);
+
+impl<'a, K: Names, T: Serialize + Skip, R: SendRow> SendRow for SendFieldUnless<'a, K, T, R> {
+    ghost script = { λ row. field_unless (T.is_empty row.2.now) (slice_index_or K.names row.1 [])
+        (T.script row.2.now) (R.script row.3) };
+
+    #[inline(always)]
+    fn send<S: Serializer>(&self, alloc: Global, serializer: &mut S, error: &mut Error) -> Sent {
+        if self.2.is_skipped() {
+            self.3.send(alloc, serializer, error)
+        } else {
+            send_field::<K, T, R, S>(self.1, self.2, &self.3, alloc, serializer, error)
+        }
     }
 }
 

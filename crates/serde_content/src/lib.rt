@@ -46,5 +46,6 @@ mod name_lists;
 mod round;
 pub mod samples;
 pub mod ser;
+mod skips;
 mod values;
 mod variants;

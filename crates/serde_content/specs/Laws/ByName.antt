@@ -102,7 +102,7 @@ entries_by_name place tree.no_fields = refl
 entries_by_name place (tree.field_then k t fs) = ap (λ es. (tree.text k, t) ∷ es) (entries_by_name (suc place) fs)
 
 -- such fields, seen from another place
-fields_seen : {p q : Fields → Type 0} {sc : Script} → ((fs : Fields) → p fs → q fs) → Spelled (FieldsSuch p) sc → Spelled (FieldsSuch q) sc
+pub fields_seen : {p q : Fields → Type 0} {sc : Script} → ((fs : Fields) → p fs → q fs) → Spelled (FieldsSuch p) sc → Spelled (FieldsSuch q) sc
 fields_seen see s = record { free = s.free; reads = λ rest. let there = s.reads rest in (there.0, there.1, see there.0 there.2) }
 
 -- fields by name are fields

@@ -1,6 +1,6 @@
 use Rattle.content_ser.proofs.Sending.{takes_then, takes_err, sends_then, sends_err}
 use Rattle.content_ser.proofs.Sending.{at_exit_aside}
-use Rattle.serde_content.proofs.fields_sent.SendFieldSendRow.send.Goals as goal
+use Rattle.serde_content.proofs.fields_sent.send_field.Goals as goal
 
 pub returns-in_err-announce_field : goal.returns-in_err-announce_field
 returns-in_err-announce_field g c =
