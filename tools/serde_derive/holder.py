@@ -60,8 +60,8 @@ FLATTENED = BY_NAME._replace(
 
 # what stands for a field that isn't sent where it is empty, where that differs
 UNLESS = {"script": "field_unless {skipped} {name} {inner}",
-          "lawful": "field_unless_fits {skipped} {inner}",
-          "back": "keyed_unless_back {name}{missing} {skipped} {inner}\n{alike} {apart} {see}"}
+          "lawful": "field_unless_fits _ _ _ _ {skipped} {inner}",
+          "back": "keyed_unless_back {{names = {others}}} {name}{missing} {skipped} {inner}\n{alike} {apart} {see}"}
 # beside such a field a law says which names are sent
 KEYED = BY_NAME._replace(back=("keyed{or_}_back {name}{missing} {inner} {see}", "(keyed_{end}_back {known})"))
 
@@ -219,10 +219,9 @@ class Holder:
     def unless(self, place: int, value: str) -> Dict[str, str]:
         """Of a field that isn't sent where it is empty: whether it is, that what is read in its place equals it, and
         that those after it have other names."""
-        f = self.fields[place]
-        others = "".join("refl, " for _ in self.fields[place + 1:])
+        f, others = self.fields[place], [one.wire for one in self.fields[place + 1:]]
         return {"skipped": f.skipped(value), "alike": f"(λ e y a. {ALIKE[f.type.name].format(x=value)})",
-                "apart": f"(unfold name in ({others}tt))"}
+                "others": list_term(others), "apart": f"(unfold name in {'(refl, ' * len(others)}tt{')' * len(others)})"}
 
     def end(self, member: str) -> str:
         """What stands after them."""

@@ -114,10 +114,11 @@ impl<'a, K: Names, T: Serialize + Skip, R: SendRow> SendRow for SendFieldUnless<
 
     #[inline(always)]
     fn send<S: Serializer>(&self, alloc: Global, serializer: &mut S, error: &mut Error) -> Sent {
-        if self.2.is_skipped() {
+        let value = self.2;
+        if value.is_skipped() {
             self.3.send(alloc, serializer, error)
         } else {
-            send_field::<K, T, R, S>(self.1, self.2, &self.3, alloc, serializer, error)
+            send_field::<K, T, R, S>(self.1, value, &self.3, alloc, serializer, error)
         }
     }
 }

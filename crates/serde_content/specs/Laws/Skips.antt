@@ -1,12 +1,11 @@
 -- Structs that leave out fields when they are sent come back where each field does, and what is read in place of a missing one equals what is left out.
 use Rattle.std.specs.Prelude.{◌≡◌, ℕ, Bool, true, false, List, [], ◌∷◌, Option, None, Some, refl, ⊤}
-use Rattle.std.specs.Prelude.{cond}
 use Rattle.std.specs.Map.{lookup, remove_entry}
 use Rattle.std.specs.Str.{bytes_eq}
 use Rattle.std.specs.Option.{is_none, option_eq}
 use Rattle.std.specs.List.{AllByRecursion}
 use Rattle.std.specs.Cmp.Lexicographic.{pointwise}
-use Rattle.std.proofs.Common.{ap, subst, sym}
+use Rattle.std.proofs.Common.{ap}
 use Rattle.std.proofs.lemmas.Slice.Eq.{bytes_eq-Decides}
 use Rattle.content_tree.specs.Values.Text.{static_name}
 use Rattle.content_tree.specs.Values.Tree as tree
@@ -18,10 +17,10 @@ use Rattle.content_ser.specs.Scripts.Standard.{ScriptOf}
 use Rattle.content_ser.specs.Scripts.Own.{end_script, field_first}
 use Rattle.content_ser.specs.Laws.Fits.{AFields, Fits}
 use Rattle.content_ser.specs.Laws.OwnScripts.{field_fits}
-use Rattle.content_de.specs.Sources.Origin.{Flags, tree_under}
-use Rattle.content_de.specs.Accesses.ByName.{FieldsLeft, without_field}
-use Rattle.content_de.specs.Reads.Read.{Refusal, Gives, first_of}
-use Rattle.content_de.specs.Reads.ByName.{found_refusal, FoundGives, missing_field}
+use Rattle.content_de.specs.Sources.Origin.{Flags}
+use Rattle.content_de.specs.Accesses.ByName.{FieldsLeft}
+use Rattle.content_de.specs.Reads.Read.{Refusal, Gives}
+use Rattle.content_de.specs.Reads.ByName.{missing_field}
 use Rattle.content_de.specs.Reads.ByName.{no_others, NoOthers}
 use Rattle.serde_content.specs.Literals.{row_then, row_or_then, RowThen, RowOrThen, others_left}
 use Rattle.serde_content.specs.Skips.{has_none, field_unless}
@@ -31,10 +30,10 @@ use Rattle.serde_content.specs.Laws.ByName.{NamedBack, named_entries, named_unde
 use Rattle.serde_content.specs.Laws.ByName.{entry_refusal, EntryGives, entry_first, fields_seen}
 
 -- a field, unless it is left out, and then the others
-pub field_unless_fits : {name : List ℕ} {item rest : Bool → Script} {h : Bool} → (skipped : Bool) → IsLawful (item h) → Fits AFields (rest h)
+pub field_unless_fits : (name : List ℕ) (item rest : Bool → Script) (h skipped : Bool) → IsLawful (item h) → Fits AFields (rest h)
     → Fits AFields (field_unless skipped name item rest h)
-field_unless_fits true p q = q
-field_unless_fits false p q = field_fits p q
+field_unless_fits name item rest h true p q = q
+field_unless_fits name item rest h false p q = field_fits p q
 
 -- the name is none of these
 abbrev pub Apart : List ℕ → List (List ℕ) → Type 0
@@ -65,10 +64,10 @@ keyed_closed_back known = record {
 
 -- an entry of another name
 misses_more : (name other : List ℕ) (t : Tree) (es : List (Tree × Tree)) → bytes_eq other name ≡ false → Misses name es → Misses name ((tree.text (static_name other), t) ∷ es)
-misses_more name other t es differs misses = rw differs (record {
-  unfound = misses.unfound;
-  whole = ap (λ rest. (tree.text (static_name other), t) ∷ rest) misses.whole;
-})
+misses_more name other t es differs misses = record {
+  unfound = rw differs misses.unfound;
+  whole = rw differs (ap (λ rest. (tree.text (static_name other), t) ∷ rest) misses.whole);
+}
 
 -- a field, whatever a missing one comes to, and then the others
 keyed_entry_back : {A Y : Type 0} {exists : A → Type 0} {script : ScriptOf A} {refusal : Refusal} {gives : Gives A} {eq : A → A → Bool} {rest : Bool → Script} {others : FieldsLeft → Option Cause}
