@@ -1,7 +1,7 @@
 use Rattle.std.proofs.Common.{◌≡◌, map, drop}
 use Rattle.std.specs.List.{list_any}
 use Rattle.std.specs.Str.{bytes_eq}
-use Rattle.content_de.proofs.other_fields.is_among.Given as goal
+use Rattle.content_de.proofs.field_errors.is_among.Given as goal
 
 -- none is it before
 abbrev pub invariant-loop-other : goal.invariant-loop-other
