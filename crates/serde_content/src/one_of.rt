@@ -7,10 +7,8 @@ ghost use Rattle.content_de.specs.Sources.Deserializer.{subject};
 ghost use Rattle.content_de.specs.Sources.Origin.{in_buffer};
 ghost use Rattle.content_de.specs.Reads.Attempts.{or_next};
 ghost use Rattle.content_de.specs.Reads.Read.{Reads};
-ghost use Rattle.serde_content.specs.Choices.{FirstComesBack, SecondComesBack};
 ghost use Rattle.serde_content.specs.Choices.{TwoGive, ThreeGive, FourGive};
 
-use crate::round::RoundTrip;
 use content_de::{Deserialize, Deserializer, attempt};
 use content_tree::{Error, Result};
 use std::alloc::Global;
@@ -73,14 +71,6 @@ pub fn first_of_two<'de, 'n: 'de, A: Deserialize<'de>, B: Deserialize<'de>>(
     }
     Err(Error::custom(alloc, none))
 }
-
-/// The law of two types that are tried one after another: what was sent of the first comes back as
-/// an equal value of the first, and what was sent of the second as one of the second, where the
-/// first refuses it.
-pub fn tried_in_order<'de, A: RoundTrip<'de>, B: RoundTrip<'de>>()
-    ensures first { FirstComesBack A.exists A.script A.refusal A.gives A.eq B.refusal B.gives }
-    ensures second { SecondComesBack A.refusal A.gives B.exists B.script B.refusal B.gives B.eq }
-{}
 
 /// The same of three types.
 ///

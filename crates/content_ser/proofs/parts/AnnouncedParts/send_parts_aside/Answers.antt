@@ -1,5 +1,5 @@
 use Rattle.content_ser.proofs.Beginning.{begun_exit_aside, begun_value}
-use Rattle.content_ser.proofs.own.AnnouncedParts.send_parts_aside.Goals as goal
+use Rattle.content_ser.proofs.parts.AnnouncedParts.send_parts_aside.Goals as goal
 
 pub returns-in_err-send_first : goal.returns-in_err-send_first
 returns-in_err-send_first g c = begun_exit_aside _ _ c.from_residual.ensures.1 (λ rest. c.in_err-send_first.ensures _)
