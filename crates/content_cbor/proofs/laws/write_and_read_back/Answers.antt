@@ -3,7 +3,7 @@ use Rattle.serde_content.specs.RoundTrip.{flags}
 use Rattle.content_cbor.specs.Decoded.{IsFaultOf}
 use Rattle.content_cbor.specs.Item.{item}
 use Rattle.content_cbor.proofs.Returned.{item_in, kept_in, memory_fault, none_kept, only_memory}
-use Rattle.content_cbor.proofs.coming_back.write_and_read_back.Goals as goal
+use Rattle.content_cbor.proofs.laws.write_and_read_back.Goals as goal
 
 pub returns-in_err-bytes-clause-memory : goal.returns-in_err-bytes-clause-memory
 returns-in_err-bytes-clause-memory g c = λ t spelled le.

@@ -1,4 +1,4 @@
-//! Values as bytes and back.
+//! What CBOR keeps of a value.
 
 ghost use Rattle.std.specs.Prelude.{◌≤◌, ◌<◌, IfErr, IsErr};
 ghost use Rattle.content_tree.specs.Values.Tree.{owned};
@@ -14,8 +14,8 @@ use crate::encoding::encode;
 use content_tree::{NamedValue, Value};
 use std::alloc::Global;
 
-/// What CBOR keeps of a value: it is encoded, and the bytes are decoded, with every text and byte
-/// value owned.
+/// Encodes a value and decodes the bytes: what CBOR keeps of it, with every text and byte value
+/// owned.
 ///
 /// The depth of an array or a map is one more than that of the deepest item in it, of any other
 /// item 1. Memory is taken for the bytes, for the value, and for its copy that owns all.
@@ -28,9 +28,9 @@ use std::alloc::Global;
 /// ```rust
 /// let value = Value::Tuple(vec![in alloc; Value::from(7u8), Value::Unit]?);
 /// let wanted = Value::Seq(vec![in alloc; Value::from(7u64), Value::Option(None)]?);
-/// assert!(rt; round_trip(alloc, &value, 2)? == wanted);
+/// assert!(rt; through_cbor(alloc, &value, 2)? == wanted);
 /// ```
-pub fn round_trip<'a, 'n>(
+pub fn through_cbor<'a, 'n>(
     alloc: Global,
     value: &NamedValue<'a, 'n>,
     depth_limit: usize,

@@ -1,18 +1,13 @@
 //! Typed data that come back from CBOR.
 
-ghost use Rattle.std.specs.Prelude.{◌≡◌, ◌≤◌, ◌<◌, true, false, IfOk, IfErr, IsErrAnd};
+ghost use Rattle.std.specs.Prelude.{◌≡◌, true, false, IfOk, IfErr, IsErrAnd};
 ghost use Rattle.content_tree.specs.Errors.Kind.{IsOutOfMemory};
 ghost use Rattle.content_tree.specs.Values.Tree.{Tree};
-ghost use Rattle.content_ser.specs.Grammar.Spells.{SpellsWhole};
-ghost use Rattle.content_ser.specs.Scripts.Script.{calls_of};
 ghost use Rattle.content_de.specs.Reads.Read.{Reads};
 ghost use Rattle.content_cbor.specs.Codes.{Codes};
 ghost use Rattle.content_cbor.specs.Decoded.{IsFaultOf, as_read};
-ghost use Rattle.content_cbor.specs.Form.{depth, form};
-ghost use Rattle.content_cbor.specs.Item.{item};
 ghost use Rattle.content_cbor.specs.Typed.Kept.{FormComesBack, IsKeptOf, RefusesNull};
 
-use crate::encoding::to_bytes;
 use crate::typed::from_bytes;
 use content_de::Deserialize;
 use content_tree::Result;
@@ -24,8 +19,8 @@ mod samples;
 mod standard;
 mod tuple;
 
-/// A type whose values come back from CBOR: of what [`to_bytes`] wrote of a value, [`read_back`]
-/// reads an equal one.
+/// A type whose values come back from CBOR: of what [`to_bytes`](crate::to_bytes) wrote of a value,
+/// [`read_back`] reads an equal one.
 ///
 /// It holds of booleans, `String`, whole numbers of each kind, and where it does of what they hold,
 /// of `Box`, `Vec`, `BTreeMap`, tuples, and an `Option` of what is [`NotNull`]. [`from_bytes`] says
@@ -42,8 +37,8 @@ pub trait NotNull<'de>: Deserialize<'de> {
     ghost refuses_null: { RefusesNull Self.refusal };
 }
 
-/// Typed data from bytes, as by [`from_bytes`]; of bytes that [`to_bytes`] wrote of a value of the
-/// type, an equal value.
+/// Typed data from bytes, as by [`from_bytes`]; of bytes that [`to_bytes`](crate::to_bytes) wrote
+/// of a value of the type, an equal value.
 ///
 /// # Errors
 ///
@@ -70,35 +65,4 @@ pub fn read_back<'de, T: CborRoundTrip<'de>>(
         → IsErrAnd result (λ e. IsFaultOf depth_limit bytes.now e) }
 {
     from_bytes(alloc, bytes, depth_limit)
-}
-
-/// Writes a value, reads it back, and answers an equal one. `bytes` is room for what is written,
-/// which replaces what it held.
-///
-/// # Errors
-///
-/// Where the value's item is deeper than the limit, that of `from_bytes`; out of memory.
-///
-/// ```rust
-/// let mut room = Vec::new(alloc);
-/// let list = vec![in alloc; Some(true), None]?;
-/// assert!(rt; write_and_read_back(alloc, &list, &mut room, 2)? == list);
-/// ```
-pub fn write_and_read_back<'de, T: CborRoundTrip<'de>>(
-    alloc: Global,
-    value: &T,
-    bytes: &'de mut Vec<u8>,
-    depth_limit: usize,
-) -> Result<T>
-    ensures value { (t : Tree) → SpellsWhole (calls_of (T.script value.now false)) t
-        → depth (form t) ≤ depth_limit → IfOk result (λ back. T.eq value.now back ≡ true) }
-    ensures memory { (t : Tree) → SpellsWhole (calls_of (T.script value.now false)) t
-        → depth (form t) ≤ depth_limit → IfErr result (λ e. IsOutOfMemory e) }
-    ensures refused { (t : Tree) → SpellsWhole (calls_of (T.script value.now false)) t
-        → depth_limit < depth (form t)
-        → IsErrAnd result (λ e. IsFaultOf depth_limit (item t) e) }
-{
-    value.known();
-    *bytes = to_bytes(alloc, value)?;
-    read_back(alloc, bytes, depth_limit)
 }

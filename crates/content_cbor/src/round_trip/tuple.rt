@@ -4,7 +4,7 @@ ghost use Rattle.serde_content.specs.Laws.Series.{both_hold};
 ghost use Rattle.content_cbor.specs.Typed.Series.{element_kept, parts_end_kept, tuple_kept};
 ghost use Rattle.content_cbor.specs.Typed.Series.{tuple_not_null};
 
-use crate::coming_back::{CborRoundTrip, NotNull};
+use crate::round_trip::{CborRoundTrip, NotNull};
 use content_de::Deserialize;
 
 impl<'de, A: CborRoundTrip<'de>> CborRoundTrip<'de> for (A,) {

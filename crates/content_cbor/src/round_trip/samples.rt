@@ -5,7 +5,7 @@ ghost use Rattle.serde_content.specs.Laws.Series.{both_hold};
 ghost use Rattle.content_cbor.specs.Typed.Leaves.{i32_kept};
 ghost use Rattle.content_cbor.specs.Typed.Records.{field_kept, fields_end_kept, struct_kept};
 
-use crate::coming_back::{CborRoundTrip, NotNull};
+use crate::round_trip::{CborRoundTrip, NotNull};
 use serde_content::samples::Point;
 
 impl<'de> CborRoundTrip<'de> for Point {

@@ -7,7 +7,7 @@ ghost use Rattle.content_cbor.specs.Typed.Leaves.{u8_kept, u16_kept, u32_kept, u
 ghost use Rattle.content_cbor.specs.Typed.Leaves.{i8_kept, i16_kept, i32_kept, i64_kept, i128_kept};
 ghost use Rattle.content_cbor.specs.Typed.Holders.{option_kept, seen_kept, seq_kept, seq_not_null};
 
-use crate::coming_back::{CborRoundTrip, NotNull};
+use crate::round_trip::{CborRoundTrip, NotNull};
 use content_de::Deserialize;
 
 impl<'de> CborRoundTrip<'de> for bool {

@@ -1,7 +1,7 @@
 use Rattle.std.proofs.Common.{rules, refl}
 use Rattle.serde_content.proofs.ComingBack.{read_such, read_or_memory}
 use Rattle.content_cbor.proofs.Returned.{kept_back}
-use Rattle.content_cbor.proofs.coming_back.read_back.Goals as goal
+use Rattle.content_cbor.proofs.round_trip.read_back.Goals as goal
 
 pub returns-clause-value : goal.returns-clause-value
 returns-clause-value g c x t real kept codes =

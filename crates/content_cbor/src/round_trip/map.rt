@@ -3,7 +3,7 @@
 ghost use Rattle.content_cbor.specs.Typed.Holders.{seen_kept};
 ghost use Rattle.content_cbor.specs.Typed.Maps.{map_kept, map_not_null};
 
-use crate::coming_back::{CborRoundTrip, NotNull};
+use crate::round_trip::{CborRoundTrip, NotNull};
 use content_de::Deserialize;
 use std::collections::BTreeMap;
 
