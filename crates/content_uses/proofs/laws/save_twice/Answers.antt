@@ -5,7 +5,7 @@ use Rattle.content_cbor.proofs.Kept.{none_within}
 use Rattle.content_uses.specs.Records.{records_of}
 use Rattle.content_uses.specs.Saved.{array_of}
 use Rattle.content_uses.proofs.Loaded.{no_memory}
-use Rattle.content_uses.proofs.saving.save_twice.Goals as goal
+use Rattle.content_uses.proofs.laws.save_twice.Goals as goal
 
 pub returns-in_err-loaded-clause-memory : goal.returns-in_err-loaded-clause-memory
 returns-in_err-loaded-clause-memory c = λ le.

@@ -1,7 +1,7 @@
 use Rattle.content_uses.proofs.EitherWay.{either_way, order_matters, name_matters, twice_matters}
 use Rattle.content_uses.proofs.EitherWay.{twice_between_matters}
 use Rattle.content_uses.proofs.MergingLaws.{empty_changes_nothing, keys_find, other_sort_wins}
-use Rattle.content_uses.proofs.merging.merging_laws.Goals as goal
+use Rattle.content_uses.proofs.laws.merging_laws.Goals as goal
 
 pub returns : goal.returns
 returns c = record {

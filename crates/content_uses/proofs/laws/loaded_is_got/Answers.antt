@@ -2,7 +2,7 @@ use Rattle.std.proofs.Common.{inl, inr, refl, rules}
 use Rattle.serde_content.proofs.ComingBack.{read_such, read_or_memory, returned_tree}
 use Rattle.content_cbor.specs.Decoded.{read_flags}
 use Rattle.content_cbor.proofs.Returned.{kept_back}
-use Rattle.content_uses.proofs.store.Store.get_loaded.Goals as goal
+use Rattle.content_uses.proofs.laws.loaded_is_got.Goals as goal
 
 pub returns-clause-value : goal.returns-clause-value
 returns-clause-value g c x t real at loaded =
@@ -12,7 +12,7 @@ returns-clause-value g c x t real at loaded =
     (elim loaded [
       | inl spelled ↦ returned_tree trip.comes_back x real read_flags t spelled
       | inr kept ↦ kept_back back.kept x real t kept
-    ]) refl (c.view_coerced.ensures.value t at)
+    ]) refl (c.get_coerced.ensures.value t at)
 
 pub returns-clause-memory : goal.returns-clause-memory
 returns-clause-memory g c x t real at loaded =
@@ -22,4 +22,4 @@ returns-clause-memory g c x t real at loaded =
     (elim loaded [
       | inl spelled ↦ returned_tree trip.comes_back x real read_flags t spelled
       | inr kept ↦ kept_back back.kept x real t kept
-    ]) refl (c.view_coerced.ensures.value t at)
+    ]) refl (c.get_coerced.ensures.value t at)
