@@ -105,8 +105,8 @@ pub fn fitting_trees_are_taken()
 ///
 /// # Errors
 ///
-/// Where the value's item is deeper than the limit, that of [`from_bytes`](crate::from_bytes); out of
-/// memory.
+/// Where the value's item is deeper than the limit, that of [`from_bytes`](crate::from_bytes); out
+/// of memory.
 ///
 /// ```rust
 /// let mut room = Vec::new(alloc);

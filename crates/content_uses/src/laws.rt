@@ -48,6 +48,10 @@ pub fn put_is_got<'v, 'n: 'v, T: RoundTrip<'v>>(
 
 /// Puts a value and gets it: what comes is equal to what was put, at any type whose values come
 /// back. Where it fails it may have been put.
+///
+/// # Errors
+///
+/// Out of memory.
 pub fn put_and_get<'v, 'n: 'v, T: RoundTrip<'v>>(
     alloc: Global,
     store: &mut Store<'v, 'n>,

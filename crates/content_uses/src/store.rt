@@ -24,8 +24,8 @@ use std::result::Result as StdResult;
 /// assert!(rt; point == Point { x: 1, y: 2 });
 /// ```
 ///
-/// They are saved as CBOR, which keeps no kind of a number: [`get_coerced`](Store::get_coerced) reads
-/// what was loaded. What else CBOR didn't keep is then refused, or another value.
+/// They are saved as CBOR, which keeps no kind of a number: [`get_coerced`](Store::get_coerced)
+/// reads what was loaded. What else CBOR didn't keep is then refused, or another value.
 ///
 /// ```rust
 /// let bytes = store.save(alloc)?;
@@ -80,8 +80,8 @@ impl<'v, 'n: 'v> Store<'v, 'n> {
 
     /// Reads a copy of the record of this number as a type. What the type doesn't take is refused
     /// with what was found and what was expected; names of types aren't compared. Of a record that
-    /// was put as this type it gives an equal value, if the type is [`RoundTrip`](serde_content::RoundTrip)
-    /// ([`put_is_got`](crate::laws::put_is_got)).
+    /// was put as this type it gives an equal value, if the type is
+    /// [`RoundTrip`](serde_content::RoundTrip) ([proved](crate::laws::put_is_got)).
     ///
     /// # Errors
     ///
@@ -100,7 +100,7 @@ impl<'v, 'n: 'v> Store<'v, 'n> {
     /// are in range: so records are read that were loaded, since CBOR keeps no kind of a number. Of
     /// a record that was put as this type, before the store was saved or since it was loaded, it
     /// gives an equal value, if the type is [`CborRoundTrip`](content_cbor::CborRoundTrip)
-    /// ([`loaded_is_got`](crate::laws::loaded_is_got)).
+    /// ([proved](crate::laws::loaded_is_got)).
     ///
     /// # Errors
     ///
