@@ -1,4 +1,4 @@
-//! Fields, one after another.
+//! The fields of a struct or a variant that are left.
 
 ghost use Rattle.std.specs.Prelude.{◌+◌, ◌<◌, ◌^◌, length};
 
