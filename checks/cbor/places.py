@@ -27,7 +27,7 @@ UTF8[0xF0], UTF8[0xF4] = [(0x90, 0xBF), TAIL, TAIL], [(0x80, 0x8F), TAIL, TAIL]
 
 
 ENDED = "the bytes end inside an item"
-TRAILING = "bytes behind the item"
+TRAILING = "bytes after the item"
 RESERVED = "no first byte of an item"
 BREAK = "a break out of place"
 CHUNK = "an item that is no chunk"

@@ -2,25 +2,22 @@
 
 use crate::nodes::map;
 use crate::tally::{Made, Tally};
-use content_cbor::{
-    DecodeError, decode_prefix, encode_array, from_bytes, round_trip, write_and_read_back,
-};
-use content_uses::LoadError;
-use content_uses::merging::merge;
-use content_uses::saving::{put_and_reload, save_twice};
-use content_uses::store::{Store, put_and_get};
+use content_cbor::laws::write_and_read_back;
+use content_cbor::{DecodeError, decode_prefix, encode_array, from_bytes, through_cbor};
+use content_uses::laws::{put_and_get, put_and_reload, save_twice};
+use content_uses::{LoadError, Store, merge};
 use serde_content::{Error, ErrorKind, Result, Value};
 use std::alloc::{AllocError, Global};
 
 /// Makes the calls.
 pub fn run(tally: &mut Tally, alloc: Global) -> Made<()> {
     tally.promised("write_and_read_back", unless_short(typed(alloc))?);
-    tally.promised("round_trip", unless_short(kept(alloc))?);
+    tally.promised("through_cbor", unless_short(kept(alloc))?);
     tally.promised("encode_array and from_bytes", unless_short(items(alloc))?);
     tally.promised("decode_prefix", unless_short(first_item(alloc))?);
     tally.promised("from_bytes of a float", unless_short(float(alloc))?);
     tally.promised("merge", unless_short(merged(alloc))?);
-    tally.promised("put_and_get and Store::view", unless_short(record(alloc))?);
+    tally.promised("put_and_get and Store::get", unless_short(record(alloc))?);
     tally.promised("put_and_reload", unless_short(reloaded(alloc))?);
     tally.promised("save_twice", unless_short(saved(alloc))?);
     Ok(())
@@ -50,7 +47,7 @@ fn typed(alloc: Global) -> Result<bool> {
 }
 
 fn kept(alloc: Global) -> Result<bool> {
-    match round_trip(alloc, &Value::from("ab"), 1) {
+    match through_cbor(alloc, &Value::from("ab"), 1) {
         Ok(value) => Ok(value == Value::from("ab")),
         Err(error) => short(LoadError::Decode(error)),
     }
@@ -89,7 +86,7 @@ fn merged(alloc: Global) -> Result<bool> {
 fn record(alloc: Global) -> Result<bool> {
     let mut store = Store::new(alloc);
     let back = put_and_get(alloc, &mut store, &Some(7u8))?;
-    let view: Option<u8> = store.view(alloc, 0)?;
+    let view: Option<u8> = store.get(alloc, 0)?;
     Ok(back == Some(7) && view == back)
 }
 

@@ -1,4 +1,4 @@
-//! Laws of the builder, of the recorder, and of what is compared.
+//! Laws of the builder, of the recorder and of the serialiser, and what `==` and the order mean.
 
 ghost use Rattle.std.specs.Prelude.{◌≡◌};
 ghost use Rattle.std.specs.Bool.{Decides};
@@ -6,6 +6,7 @@ ghost use Rattle.std.specs.Option.{option_cmp};
 ghost use Rattle.std.specs.Ordering.{bool_cmp, nat_cmp, ordering_then};
 ghost use Rattle.content_build.specs.Answers.{SameRefusal};
 ghost use Rattle.content_build.specs.Builder.{StepsAreExact};
+ghost use Rattle.content_build.specs.Canonical.{CanonicalBuilt, CanonicalStopped};
 ghost use Rattle.content_build.specs.Recorder.{SentIsListed};
 ghost use Rattle.content_build.specs.Serializer.{is_readable, limit_of};
 
@@ -24,6 +25,18 @@ pub fn steps_are_exact()
 /// the calls of the script, after an error the old one and then a beginning of them.
 pub fn sent_is_listed()
     ensures { SentIsListed }
+{}
+
+/// What [`Serializer::serialize`](crate::Serializer::serialize) makes of a `Value` is its canonical
+/// form, with every text and byte value owned.
+pub fn canonical_is_built()
+    ensures { CanonicalBuilt }
+{}
+
+/// Where [`Serializer::serialize`](crate::Serializer::serialize) answers an error for a `Value`,
+/// and memory was enough, the `Value` has no canonical form: its loose form has an owned field key.
+pub fn canonical_is_missing()
+    ensures { CanonicalStopped }
 {}
 
 /// What `==` of refusals answers: whether their places are the same and their errors are equal. It

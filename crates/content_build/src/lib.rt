@@ -17,7 +17,7 @@
 //! | do so from untrusted calls | [`from_calls_within`], [`Builder::with_limit`] |
 //! | make one call by call | [`Builder`] |
 //! | record calls | [`Recorder`] |
-//! | prove something of these | [`laws`], `canonical` |
+//! | prove something of these | [`laws`] |
 //!
 //! Inside, a builder keeps its partial tree as a `tape` of frames; `steps` and `settle` change it
 //! by a call, and `grow` makes the value.
@@ -27,7 +27,6 @@
 mod builder;
 mod calls;
 mod calls_error;
-mod canonical;
 mod frame;
 mod grow;
 pub mod laws;
@@ -46,7 +45,6 @@ mod token;
 pub use builder::Builder;
 pub use calls::{from_calls, from_calls_within};
 pub use calls_error::CallsError;
-pub use canonical::{canonical_is_built, canonical_is_missing};
 pub use prefix::from_calls_prefix;
 pub use recorder::Recorder;
 pub use serializer::Serializer;

@@ -9,7 +9,7 @@ use Rattle.content_cbor.specs.declared.decode_error.DecodeError.TheVariants as e
 -- what is wrong
 abbrev pub fault_text : Fault → List ℕ
 fault_text fault.Ended = codes "the bytes end inside an item"
-fault_text fault.Trailing = codes "bytes behind the item"
+fault_text fault.Trailing = codes "bytes after the item"
 fault_text fault.Reserved = codes "no first byte of an item"
 fault_text fault.Break = codes "a break out of place"
 fault_text fault.WrongChunk = codes "an item that is no chunk"

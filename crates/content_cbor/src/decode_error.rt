@@ -62,7 +62,7 @@ impl fmt::Display for Fault {
     fn fmt<W: fmt::Write>(&self, f: &mut fmt::Formatter<W>) -> fmt::Result {
         f.write_str(match self {
             Fault::Ended => "the bytes end inside an item",
-            Fault::Trailing => "bytes behind the item",
+            Fault::Trailing => "bytes after the item",
             Fault::Reserved => "no first byte of an item",
             Fault::Break => "a break out of place",
             Fault::WrongChunk => "an item that is no chunk",

@@ -22,17 +22,17 @@ use crate::strings::{read_byte_string, read_text_string};
 use content_tree::Value;
 use std::alloc::Global;
 
-/// The value that bytes of CBOR code: one data item, and nothing behind it.
+/// The value that bytes of CBOR code: one data item, and nothing after it.
 ///
 /// A number is of 64 bits where it has room there, and else of 128; null is `None`; an array is a
 /// sequence, a map a map, with every pair in order. Texts and bytes of a definite length are
 /// borrowed from the bytes, others are owned. Heads may be longer than they need be, lengths
 /// indefinite.
 ///
-/// `depth_limit` bounds how deep items stand in one another, and so the stack that is taken; the
-/// item's own depth is 1, and a limit of 0 refuses everything. Memory is taken for what holds
-/// parts, as it is read, and for texts and bytes of indefinite length; numbers under a tag take
-/// none, and a length alone reserves none.
+/// `depth_limit` bounds how deep items nest, and so the stack that is taken; the item's own depth
+/// is 1, and a limit of 0 refuses everything. Memory is taken for what holds parts, as it is read,
+/// and for texts and bytes of indefinite length; numbers under a tag take none, and a length alone
+/// reserves none.
 ///
 /// # Errors
 ///
@@ -69,8 +69,8 @@ pub fn decode<'de>(
 ///
 /// # Errors
 ///
-/// Those of `decode`, but that bytes behind the item are none. So a reader of a stream waits for
-/// more bytes at `Ended` alone, where they can make an item within a limit from 1 on.
+/// Those of `decode`, but bytes after the item are no fault. A reader of a stream waits for more
+/// bytes only at `Ended`, where they can make an item within a limit of at least 1.
 ///
 /// ```rust
 /// let (value, length) = decode_prefix(alloc, &[0x61, b'a', 0x01], 16)?;
@@ -109,7 +109,7 @@ fn error_of(stop: Stop, bytes: &[u8]) -> DecodeError
     }
 }
 
-/// One item, and nothing behind it.
+/// One item, and nothing after it.
 #[tactic(auto, unfolding(crate::specs::Inner::Reading::whole_at))]
 fn read_whole<'de>(alloc: Global, bytes: &'de [u8], limit: usize) -> Result<Value<'de>, Stop>
     ensures value { Gives tree_of result (whole_at limit bytes.now) }
@@ -124,7 +124,7 @@ fn read_whole<'de>(alloc: Global, bytes: &'de [u8], limit: usize) -> Result<Valu
     }
 }
 
-/// A simple value, behind its head.
+/// A simple value, after its head.
 fn read_simple<'de>(number: u64, bytes: &'de [u8]) -> Result<(Value<'de>, &'de [u8]), Refusal>
     ensures { Finds (λ x. (tree_of x.0, x.1.now)) result (simple_at number bytes.now) }
 {
@@ -136,7 +136,7 @@ fn read_simple<'de>(number: u64, bytes: &'de [u8]) -> Result<(Value<'de>, &'de [
     }
 }
 
-/// An item that holds no other, behind its head.
+/// An item that holds no other, after its head.
 #[tactic(auto, unfolding(crate::specs::Inner::Reading::leaf_at))]
 fn read_leaf<'de>(
     alloc: Global,
@@ -173,7 +173,7 @@ fn read_leaf<'de>(
     }
 }
 
-/// The item at the front, within a limit of depth, and the bytes behind it.
+/// The item at the front, within a limit of depth, and the bytes after it.
 #[cycle(decode)]
 #[inline(never)]
 #[tactic(auto, unfolding(crate::specs::Inner::Reading::item_at))]
@@ -204,7 +204,7 @@ fn read_item<'de>(
     }
 }
 
-/// The items of an array, behind its head.
+/// The items of an array, after its head.
 #[cycle(decode)]
 #[inline(always)]
 #[tactic(auto, unfolding(crate::specs::Inner::Reading::parts_at))]
@@ -223,7 +223,7 @@ fn read_items<'de>(
     }
 }
 
-/// The pairs of a map, behind its head.
+/// The pairs of a map, after its head.
 #[cycle(decode)]
 #[inline(always)]
 #[tactic(auto, unfolding(crate::specs::Inner::Reading::parts_at))]

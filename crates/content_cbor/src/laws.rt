@@ -1,5 +1,14 @@
-//! What holds of all data items, for those who prove something of what they encode and decode.
+//! What holds of all data items, for those who prove something of what they encode and decode, and
+//! what is written and read back.
 
+ghost use Rattle.std.specs.Prelude.{◌≡◌, ◌≤◌, ◌<◌, true, false, IfOk, IfErr, IsErrAnd};
+ghost use Rattle.content_tree.specs.Errors.Kind.{IsOutOfMemory};
+ghost use Rattle.content_tree.specs.Values.Tree.{Tree};
+ghost use Rattle.content_ser.specs.Grammar.Spells.{SpellsWhole};
+ghost use Rattle.content_ser.specs.Scripts.Script.{calls_of};
+ghost use Rattle.content_cbor.specs.Decoded.{IsFaultOf};
+ghost use Rattle.content_cbor.specs.Form.{depth, form};
+ghost use Rattle.content_cbor.specs.Item.{item};
 ghost use Rattle.content_cbor.specs.Laws.{FaultsFitBytes, FittingTreesAreTaken, FormsHaveItems};
 ghost use Rattle.content_cbor.specs.Laws.{FormsKeepLimits, FormsStay, FrontFaultsFitBytes};
 ghost use Rattle.content_cbor.specs.Laws.{HeadsAreShort, ItemsCodeForms, LimitsAreKept};
@@ -8,6 +17,11 @@ ghost use Rattle.content_cbor.specs.Laws.{MalformedFrontBeginsNothing, OneTree};
 ghost use Rattle.content_cbor.specs.Laws.{OnlyDepthIsLimited, OnlyFrontDepthIsLimited};
 ghost use Rattle.content_cbor.specs.Laws.{OtherFrontsBeginItems, OthersBeginItems};
 ghost use Rattle.content_cbor.specs.Laws.{WholeTreesAreEncoded};
+
+use crate::encoding::to_bytes;
+use crate::round_trip::{CborRoundTrip, read_back};
+use content_tree::Result;
+use std::alloc::Global;
 
 /// No bytes code two trees.
 pub fn one_tree()
@@ -85,3 +99,35 @@ pub fn whole_trees_are_encoded()
 pub fn fitting_trees_are_taken()
     ensures { FittingTreesAreTaken }
 {}
+
+/// Writes a value, reads it back, and answers an equal one. `bytes` is room for what is written,
+/// which replaces what it held.
+///
+/// # Errors
+///
+/// Where the value's item is deeper than the limit, that of [`from_bytes`](crate::from_bytes); out
+/// of memory.
+///
+/// ```rust
+/// let mut room = Vec::new(alloc);
+/// let list = vec![in alloc; Some(true), None]?;
+/// assert!(rt; write_and_read_back(alloc, &list, &mut room, 2)? == list);
+/// ```
+pub fn write_and_read_back<'de, T: CborRoundTrip<'de>>(
+    alloc: Global,
+    value: &T,
+    bytes: &'de mut Vec<u8>,
+    depth_limit: usize,
+) -> Result<T>
+    ensures value { (t : Tree) → SpellsWhole (calls_of (T.script value.now false)) t
+        → depth (form t) ≤ depth_limit → IfOk result (λ back. T.eq value.now back ≡ true) }
+    ensures memory { (t : Tree) → SpellsWhole (calls_of (T.script value.now false)) t
+        → depth (form t) ≤ depth_limit → IfErr result (λ e. IsOutOfMemory e) }
+    ensures refused { (t : Tree) → SpellsWhole (calls_of (T.script value.now false)) t
+        → depth_limit < depth (form t)
+        → IsErrAnd result (λ e. IsFaultOf depth_limit (item t) e) }
+{
+    value.known();
+    *bytes = to_bytes(alloc, value)?;
+    read_back(alloc, bytes, depth_limit)
+}

@@ -14,32 +14,32 @@
 //! | decode types whose values are proved to come back equal | [`read_back`], [`CborRoundTrip`] |
 //! | encode a value; several as one array | [`encode`]; [`encode_array`] |
 //! | decode a value; the first of several | [`decode`]; [`decode_prefix`] |
-//! | get what CBOR keeps of a value | [`round_trip`] |
+//! | get what CBOR keeps of a value | [`through_cbor`] |
 //! | handle bytes that are refused | [`DecodeError`], [`Fault`] |
-//! | prove something of these | [`laws`], [`write_and_read_back`] |
+//! | prove something of these | [`laws`] |
 
 #![tactic(auto)]
 
-mod coming_back;
 mod decode_error;
 mod decoding;
 mod digits;
 mod encoder;
 mod encoding;
 mod heads;
+mod kept;
 pub mod laws;
 mod leaves;
 mod numbers;
-mod round;
+mod round_trip;
 mod stop;
 mod strings;
 mod typed;
 mod utf8;
 
-pub use coming_back::{CborRoundTrip, NotNull, read_back, write_and_read_back};
 pub use decode_error::{DecodeError, Fault};
 pub use decoding::{decode, decode_prefix};
 pub use encoder::Encoder;
 pub use encoding::{encode, encode_array, to_bytes};
-pub use round::round_trip;
+pub use kept::through_cbor;
+pub use round_trip::{CborRoundTrip, NotNull, read_back};
 pub use typed::from_bytes;

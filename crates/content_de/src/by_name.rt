@@ -21,9 +21,9 @@ ghost use Rattle.content_de.specs.Reads.Read.{Reads};
 ghost use Rattle.content_de.specs.Reads.ByName.{first_other, no_others};
 
 use crate::deserializer::Deserializer;
+use crate::field_errors::{no_name, other_key, other_name};
+use crate::fields::Fields;
 use crate::map::{Entries, Map};
-use crate::other_fields::{no_name, other_key, other_name};
-use crate::placed::Fields;
 use crate::source::Flags;
 use content_tree::{CowStr, NamedValue, Result};
 use std::alloc::Global;
@@ -44,7 +44,7 @@ pub(crate) enum Left<'de, 'n> {
 /// let mut fields = Deserializer::new(value).deserialize_map(alloc)?.by_name();
 /// let port: u16 = named_field(alloc, &mut fields, "port")?;
 /// let host: Option<String> = field_or(alloc, &mut fields, "host", None)?;
-/// end_fields(alloc, fields, &["port", "host"])?;
+/// deny_unknown_fields(alloc, fields, &["port", "host"])?;
 /// ```
 #[derive(Drop)]
 pub struct FieldsByName<'de, 'n> {

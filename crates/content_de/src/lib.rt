@@ -12,7 +12,7 @@
 //! | go through parts | [`Seq`], [`Map`], [`EnumAccess`], [`VariantAccess`] |
 //! | read elements in order | [`next_part`], [`finish_parts`], [`end_parts`] |
 //! | read fields in order | [`next_field`] |
-//! | read fields by name | [`FieldsByName`], [`named_field`], [`field_or`], [`end_fields`] |
+//! | read fields by name | [`FieldsByName`], [`named_field`], [`field_or`], [`deny_unknown_fields`] |
 //! | read enums with a tag field, or untagged | [`tag_field`], [`internal_tag`], [`attempt`] |
 //! | read a value in plain form | [`ValueVisitor`] |
 //! | prove something of these | [`laws`] |
@@ -22,9 +22,12 @@
 mod attempts;
 mod by_name;
 mod coerce;
+mod contents;
 mod deserialize;
 mod deserializer;
 mod enum_access;
+mod field_errors;
+mod fields;
 mod fits;
 mod impls;
 mod into;
@@ -32,10 +35,7 @@ pub mod laws;
 mod map;
 mod named_fields;
 mod node;
-mod open;
-mod other_fields;
 mod parts;
-mod placed;
 mod plain;
 mod reading;
 mod refusal;
@@ -52,7 +52,9 @@ pub use deserializer::Deserializer;
 pub use enum_access::EnumAccess;
 pub use into::IntoDeserializer;
 pub use map::Map;
-pub use named_fields::{end_fields, field_or, internal_tag, named_field, skip_fields, tag_field};
+pub use named_fields::{
+    deny_unknown_fields, field_or, ignore_unknown_fields, internal_tag, named_field, tag_field,
+};
 pub use node::Node;
 pub use parts::{end_parts, finish_parts, next_field, next_part, two_parts};
 pub use plain::ValueVisitor;

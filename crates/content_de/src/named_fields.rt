@@ -14,7 +14,7 @@ ghost use Rattle.content_de.specs.Reads.ByName.{no_others, others_skipped};
 
 use crate::by_name::FieldsByName;
 use crate::deserialize::Deserialize;
-use crate::other_fields::duplicate_field;
+use crate::field_errors::duplicate_field;
 use content_tree::{CowStr, Error, ErrorKind, Result};
 use std::alloc::Global;
 
@@ -119,7 +119,11 @@ pub fn internal_tag<'de, 'n: 'de>(
 /// The first of these names that an entry has: ``duplicate field `NAME` ``; out of memory in its
 /// place.
 #[inline(always)]
-pub fn skip_fields(alloc: Global, from: FieldsByName<'_, '_>, known: &[&str]) -> Result<()>
+pub fn ignore_unknown_fields(
+    alloc: Global,
+    from: FieldsByName<'_, '_>,
+    known: &[&str],
+) -> Result<()>
     ensures value { Reads
         (others_skipped (map (λ name. name.now) known.now) (fields_left from.entry))
         (λ u. ⊤) result }
@@ -157,7 +161,7 @@ fn skip_left(alloc: Global, from: FieldsByName<'_, '_>, known: &[&str]) -> Resul
 /// That of the first key that is left: ``duplicate field `NAME` `` where it is one of `known`, else
 /// ``unknown field `NAME`, expected one of `A`, `B`, `C` ``, and what was found where it is no
 /// text; out of memory in its place.
-pub fn end_fields(alloc: Global, from: FieldsByName<'_, '_>, known: &[&str]) -> Result<()>
+pub fn deny_unknown_fields(alloc: Global, from: FieldsByName<'_, '_>, known: &[&str]) -> Result<()>
     ensures value { Reads (no_others (map (λ name. name.now) known.now) (fields_left from.entry))
         (λ u. ⊤) result }
     ensures succeeds { no_others (map (λ name. name.now) known.now) (fields_left from.entry) ≡ None

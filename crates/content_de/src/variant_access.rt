@@ -16,10 +16,12 @@ ghost use Rattle.content_de.specs.Accesses.Enum.{requested_name, unit_variant_of
 ghost use Rattle.content_de.specs.Accesses.Enum.{newtype_variant_of, tuple_variant_of};
 ghost use Rattle.content_de.specs.Accesses.Enum.{struct_variant_of};
 
+use crate::contents::{
+    Opened, is_nothing, map_pairs, seq_items, take_fields, take_value, take_values,
+};
 use crate::deserializer::Deserializer;
 use crate::enum_access::Requested;
 use crate::map::Map;
-use crate::open::{Opened, is_nothing, map_pairs, seq_items, take_fields, take_value, take_values};
 use crate::refusal::{a_variant, refusal};
 use crate::seq::Seq;
 use crate::source::Flags;

@@ -23,7 +23,7 @@
 //! | what can be sent; a type of your own | [`Serialize`]; [`Parts`] |
 //! | how values and the standard library's types are sent | `send`, `impls` |
 //! | errors that are put aside, to save stack | [`Aside`], [`Sent`] |
-//! | laws | [`laws`], `loose_form` |
+//! | laws | [`laws`] |
 
 #![tactic(auto)]
 
@@ -32,8 +32,7 @@ mod call;
 mod head;
 mod impls;
 pub mod laws;
-mod loose_form;
-mod own;
+mod parts;
 mod replaying;
 mod send;
 mod serialize;
@@ -42,8 +41,7 @@ mod serializer;
 pub use aside::{Aside, Sent};
 pub use call::Call;
 pub use head::Head;
-pub use loose_form::{canonical_once, loose_once, script_spells, static_is_canonical};
-pub use own::{Announced, Parts};
+pub use parts::{Announced, Parts};
 pub use replaying::replay;
 pub use serialize::Serialize;
 pub use serializer::Serializer;

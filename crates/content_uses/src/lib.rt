@@ -10,14 +10,17 @@
 //!
 //! | To | Use |
 //! |---|---|
-//! | keep, save and load records | [`store`], [`LoadError`] |
-//! | put one configuration over another | [`merging`] |
-//! | prove something of saved records | [`saving`] |
+//! | keep, save and load records | [`Store`], [`LoadError`] |
+//! | put one configuration over another | [`merge`] |
+//! | prove something of these | [`laws`] |
+
 #![tactic(auto)]
 
+pub mod laws;
 mod load_error;
-pub mod merging;
-pub mod saving;
-pub mod store;
+mod merging;
+mod store;
 
 pub use load_error::LoadError;
+pub use merging::merge;
+pub use store::Store;

@@ -7,9 +7,6 @@ ghost use Rattle.serde_content.specs.Names.Words.{IsOutOfMemory, Tree, tree_of, 
 ghost use Rattle.serde_content.specs.Names.Words.{pairs_view, fields_view};
 ghost use Rattle.serde_content.specs.Names.Tree as tree;
 ghost use Rattle.content_uses.specs.Merged.{parts, same_sort, merged, merged_pairs};
-ghost use Rattle.content_uses.specs.MergingLaws.{EmptyChangesNothing, OtherSortWins, KeysFind};
-ghost use Rattle.content_uses.specs.MergingLaws.{EitherWay, OrderMatters, NameMatters};
-ghost use Rattle.content_uses.specs.MergingLaws.{TwiceBetweenMatters, TwiceMatters};
 ghost use Rattle.content_uses.specs.Places.{places as places_of, value_at, with_value};
 ghost use Rattle.content_uses.specs.Places.{keyed, field_key};
 
@@ -61,12 +58,12 @@ impl<'n> Key for CowStr<'n> {
 ///
 /// ```rust
 /// let user = value!(in alloc; { "colour": true, "limits": { "size": 200u8 } })?;
-/// let merged = merge(alloc, user, common)?;
+/// let merged = merge(alloc, common, user)?;
 /// ```
 pub fn merge<'a, 'n>(
     alloc: Global,
-    over: NamedValue<'a, 'n>,
     base: NamedValue<'a, 'n>,
+    over: NamedValue<'a, 'n>,
 ) -> Result<NamedValue<'a, 'n>>
     ensures value { IfOk result (λ whole. tree_of whole ≡ merged (tree_of over.entry)
         (tree_of base.entry)) }
@@ -306,25 +303,3 @@ fn set_value<'a, 'n, K: Key>(
     let pair = &mut pairs[place];
     pair.1 = value;
 }
-
-/// The laws of merging. Two values are of one sort where both are maps, or structs of one name that
-/// have a list of fields, be it empty. What has no keys changes nothing of its sort that it is put
-/// over; what is of another sort wins whole; each key finds what its values, put over one another,
-/// come to.
-///
-/// Of three values it doesn't matter which two are merged first, under two premises: no map or
-/// struct in the two that are put over, however deep, has a key twice, and where both outer ones
-/// are of one sort along a path of keys, the middle one is too, or has nothing there. Otherwise it
-/// may matter, as an example of each shows: something that is no map between two maps; a struct of
-/// another name between two of one; a key that is there twice, in what is put over or in the
-/// middle.
-pub fn merging_laws()
-    ensures empty { EmptyChangesNothing }
-    ensures whole { OtherSortWins }
-    ensures found { KeysFind }
-    ensures either_way { EitherWay }
-    ensures order { OrderMatters }
-    ensures name { NameMatters }
-    ensures twice { TwiceMatters }
-    ensures twice_between { TwiceBetweenMatters }
-{}

@@ -1,18 +1,17 @@
-//! Records of any type, kept as values, with typed views.
+//! Records of any type, kept as values and read as types.
 
-ghost use Rattle.std.specs.Prelude.{◌≡◌, ◌≤◌, [], true, false, Some, None, length, slice_get};
+ghost use Rattle.std.specs.Prelude.{◌≡◌, ◌≤◌, [], false, Some, None, length, slice_get};
 ghost use Rattle.std.specs.Prelude.{IfOk, IfErr, OnOk, List, option_map};
 ghost use Rattle.serde_content.specs.Names.Words.{items_in, trees_of, trees_view};
-ghost use Rattle.serde_content.specs.Names.Words.{Tree, IsOutOfMemory, SpellsWhole, calls_of};
+ghost use Rattle.serde_content.specs.Names.Words.{Tree, IsOutOfMemory};
 ghost use Rattle.serde_content.specs.Names.Words.{stop_of, tree_of, Reads, no_flags, tree_under};
-ghost use Rattle.content_uses.specs.Records.{records_of, IsLast, IsPut, IsRefusalOf};
-ghost use Rattle.content_uses.specs.Records.{IsUnknown, MayBeLast};
+ghost use Rattle.content_uses.specs.Records.{records_of, IsPut, IsRefusalOf, IsUnknown};
 
-pub use crate::load_error::LoadError;
-use content_cbor::{CborRoundTrip, decode, encode_array};
+use crate::load_error::LoadError;
+use content_cbor::{decode, encode_array};
 use serde_content::de::Deserialize;
 use serde_content::ser::Serialize;
-use serde_content::{Deserializer, Error, NamedValue, Result, RoundTrip, from_value, to_value};
+use serde_content::{Deserializer, Error, NamedValue, Result, to_value};
 use std::alloc::Global;
 use std::result::Result as StdResult;
 
@@ -25,14 +24,13 @@ use std::result::Result as StdResult;
 /// assert!(rt; point == Point { x: 1, y: 2 });
 /// ```
 ///
-/// They are saved as CBOR. [`get_loaded`](Store::get_loaded) gets what was loaded, where the type's
-/// values come back from CBOR. [`view_coerced`](Store::view_coerced) views it as any type: what
-/// CBOR didn't keep is then refused, or another value.
+/// They are saved as CBOR, which keeps no kind of a number: [`get_coerced`](Store::get_coerced)
+/// reads what was loaded. What else CBOR didn't keep is then refused, or another value.
 ///
 /// ```rust
 /// let bytes = store.save(alloc)?;
 /// let loaded = Store::load(alloc, &bytes, 64)?;
-/// let point: Point = loaded.get_loaded(alloc, number)?;
+/// let point: Point = loaded.get_coerced(alloc, number)?;
 /// ```
 #[derive(Drop)]
 pub struct Store<'v, 'n> {
@@ -40,7 +38,7 @@ pub struct Store<'v, 'n> {
 }
 
 impl<'v, 'n: 'v> Store<'v, 'n> {
-    ghost use Rattle.content_uses.specs.Saved.{array_of, IsLoadedOf};
+    ghost use Rattle.content_uses.specs.Saved.{array_of};
     ghost use Rattle.content_cbor.specs.Decoded.{as_read};
     ghost use Rattle.content_cbor.specs.Form.{CodesForm, EachFits};
     ghost use Rattle.content_cbor.specs.Item.{item};
@@ -81,12 +79,14 @@ impl<'v, 'n: 'v> Store<'v, 'n> {
     }
 
     /// Reads a copy of the record of this number as a type. What the type doesn't take is refused
-    /// with what was found and what was expected; names of types aren't compared.
+    /// with what was found and what was expected; names of types aren't compared. Of a record that
+    /// was put as this type it gives an equal value, if the type is
+    /// [`RoundTrip`](serde_content::RoundTrip) ([proved](crate::laws::put_is_got)).
     ///
     /// # Errors
     ///
     /// The type's refusal; `no such record`; out of memory.
-    pub fn view<T: Deserialize<'v>>(&self, alloc: Global, number: usize) -> Result<T>
+    pub fn get<T: Deserialize<'v>>(&self, alloc: Global, number: usize) -> Result<T>
         ensures value { (t : Tree) → slice_get (records_of self.now) number ≡ Some t
             → Reads (T.refusal (tree_under no_flags t)) (T.gives (tree_under no_flags t))
             result }
@@ -96,64 +96,22 @@ impl<'v, 'n: 'v> Store<'v, 'n> {
         Deserializer::new(copy).deserialize(alloc)
     }
 
-    /// Reads the record as [`view`](Store::view) does, and takes numbers of another kind too if
-    /// they are in range: so records are read that were loaded.
+    /// Reads the record as [`get`](Store::get) does, and takes numbers of another kind too if they
+    /// are in range: so records are read that were loaded, since CBOR keeps no kind of a number. Of
+    /// a record that was put as this type, before the store was saved or since it was loaded, it
+    /// gives an equal value, if the type is [`CborRoundTrip`](content_cbor::CborRoundTrip)
+    /// ([proved](crate::laws::loaded_is_got)).
     ///
     /// # Errors
     ///
-    /// Those of [`view`](Store::view).
-    pub fn view_coerced<T: Deserialize<'v>>(&self, alloc: Global, number: usize) -> Result<T>
+    /// Those of [`get`](Store::get).
+    pub fn get_coerced<T: Deserialize<'v>>(&self, alloc: Global, number: usize) -> Result<T>
         ensures value { (t : Tree) → slice_get (records_of self.now) number ≡ Some t
             → Reads (T.refusal (as_read t)) (T.gives (as_read t)) result }
         ensures unknown { slice_get (records_of self.now) number ≡ None → IsUnknown result }
     {
         let copy = self.copy(alloc, number)?;
         Deserializer::new(copy).coerce_numbers().deserialize(alloc)
-    }
-
-    /// Gets the record of this number, which was put as this type: an equal one. Of a store that
-    /// was loaded, [`get_loaded`](Store::get_loaded).
-    ///
-    /// # Errors
-    ///
-    /// Those of [`view`](Store::view); where it was put as this type out of memory alone.
-    pub fn get<T: RoundTrip<'v>>(&self, alloc: Global, number: usize) -> Result<T>
-        ensures read { (t : Tree) → slice_get (records_of self.now) number ≡ Some t
-            → Reads (T.refusal (tree_under no_flags t)) (T.gives (tree_under no_flags t))
-            result }
-        // where it is what was put as x
-        ensures value { (x : T) (t : Tree) → T.exists x
-            → slice_get (records_of self.now) number ≡ Some t
-            → SpellsWhole (calls_of (T.script x false)) t → IfOk result (λ y. T.eq x y ≡ true) }
-        ensures memory { (x : T) (t : Tree) → T.exists x
-            → slice_get (records_of self.now) number ≡ Some t
-            → SpellsWhole (calls_of (T.script x false)) t → IfErr result (λ e. IsOutOfMemory e) }
-        ensures unknown { slice_get (records_of self.now) number ≡ None → IsUnknown result }
-    {
-        let copy = self.copy(alloc, number)?;
-        from_value(alloc, copy, false)
-    }
-
-    /// Gets the record of this number, which was put as this type, before the store was saved or
-    /// since it was loaded: an equal one.
-    ///
-    /// # Errors
-    ///
-    /// Those of [`view_coerced`](Store::view_coerced); where it was put as this type out of memory
-    /// alone.
-    pub fn get_loaded<T: CborRoundTrip<'v>>(&self, alloc: Global, number: usize) -> Result<T>
-        ensures read { (t : Tree) → slice_get (records_of self.now) number ≡ Some t
-            → Reads (T.refusal (as_read t)) (T.gives (as_read t)) result }
-        // where it is what was put as x, or what CBOR keeps of that
-        ensures value { (x : T) (t : Tree) → T.exists x
-            → slice_get (records_of self.now) number ≡ Some t
-            → IsLoadedOf (T.script x false) t → IfOk result (λ y. T.eq x y ≡ true) }
-        ensures memory { (x : T) (t : Tree) → T.exists x
-            → slice_get (records_of self.now) number ≡ Some t
-            → IsLoadedOf (T.script x false) t → IfErr result (λ e. IsOutOfMemory e) }
-        ensures unknown { slice_get (records_of self.now) number ≡ None → IsUnknown result }
-    {
-        self.view_coerced(alloc, number)
     }
 
     /// Encodes the records as one array of CBOR, in order. It takes memory for the bytes alone.
@@ -232,23 +190,4 @@ fn into_items<'v, 'n>(value: NamedValue<'v, 'n>) -> Option<Vec<NamedValue<'v, 'n
         NamedValue::Seq(items) => Some(items),
         _ => None,
     }
-}
-
-/// Puts a value and gets it: what comes is equal to what was put, at any type whose values come
-/// back. Where it fails it may have been put.
-pub fn put_and_get<'v, 'n: 'v, T: RoundTrip<'v>>(
-    alloc: Global,
-    store: &mut Store<'v, 'n>,
-    item: &T,
-) -> Result<T>
-    ensures value { IfOk result (λ back. T.eq item.now back ≡ true) }
-    ensures memory { IfErr result (λ e. IsOutOfMemory e) }
-    ensures put { IfOk result (λ back. IsLast (T.script item.now false) (records_of store.old)
-        (records_of store.new)) }
-    ensures kept { IfErr result (λ e. MayBeLast (T.script item.now false) (records_of store.old)
-        (records_of store.new)) }
-{
-    item.known();
-    let number = store.put(alloc, item)?;
-    store.get(alloc, number)
 }

@@ -6,12 +6,12 @@ use Rattle.content_de.specs.Sources.Origin.{Flags, Subject, tree_under}
 use Rattle.content_de.specs.Reads.Attempts.{IsTakenAs, or_next}
 use Rattle.content_de.specs.Reads.Read.{Refusal, Gives}
 use Rattle.serde_content.specs.RoundTrip.{GivesOnly, SpellsSuch}
-use Rattle.serde_content.specs.declared.choosing.OneOfTwo.{OneOfTwo}
-use Rattle.serde_content.specs.declared.choosing.OneOfTwo.TheVariants as of_two
-use Rattle.serde_content.specs.declared.choosing.OneOfThree.{OneOfThree}
-use Rattle.serde_content.specs.declared.choosing.OneOfThree.TheVariants as of_three
-use Rattle.serde_content.specs.declared.choosing.OneOfFour.{OneOfFour}
-use Rattle.serde_content.specs.declared.choosing.OneOfFour.TheVariants as of_four
+use Rattle.serde_content.specs.declared.one_of.OneOfTwo.{OneOfTwo}
+use Rattle.serde_content.specs.declared.one_of.OneOfTwo.TheVariants as of_two
+use Rattle.serde_content.specs.declared.one_of.OneOfThree.{OneOfThree}
+use Rattle.serde_content.specs.declared.one_of.OneOfThree.TheVariants as of_three
+use Rattle.serde_content.specs.declared.one_of.OneOfFour.{OneOfFour}
+use Rattle.serde_content.specs.declared.one_of.OneOfFour.TheVariants as of_four
 
 -- the first of two types that isn't refused gives this
 abbrev pub TwoGive : {A B : Type 0} → Refusal → Gives A → Refusal → Gives B → Subject → OneOfTwo A B → Type 0

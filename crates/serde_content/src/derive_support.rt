@@ -1,9 +1,6 @@
 //! What code calls that `tools/derive` writes. Call none of it by hand: it changes with that tool.
 
 pub use crate::absent::Absent;
-pub use crate::choosing::{
-    OneOfFour, OneOfThree, OneOfTwo, first_of_four, first_of_three, first_of_two,
-};
 pub use crate::fields_read::{
     OthersRefused, OthersSkipped, PartsEnd, ReadField, ReadFieldOr, ReadFields, ReadPart,
     ReadParts, ReadStruct, read_flattened, read_struct,
@@ -13,5 +10,8 @@ pub use crate::fields_sent::{
     SendTag, send_row,
 };
 pub use crate::name_lists::{Names, no_such_variant, variant_index};
+pub use crate::one_of::{
+    OneOfFour, OneOfThree, OneOfTwo, first_of_four, first_of_three, first_of_two,
+};
 pub use crate::skips::{Skip, count_unless};
 pub use crate::variants::{TaggedVariants, Variants, read_adjacent, read_enum, read_tagged};

@@ -20,8 +20,8 @@ ghost use Rattle.serde_content.specs.Literals.{RowOrThen, RowThen};
 use crate::absent::Absent;
 use crate::name_lists::{Names, name_at};
 use content_de::{
-    Deserialize, Deserializer, FieldsByName, Seq, end_fields, field_or, finish_parts, named_field,
-    next_part, skip_fields,
+    Deserialize, Deserializer, FieldsByName, Seq, deny_unknown_fields, field_or, finish_parts,
+    ignore_unknown_fields, named_field, next_part,
 };
 use content_tree::Result;
 use std::alloc::Global;
@@ -126,7 +126,7 @@ impl<'de, K: Names> ReadFields<'de> for OthersSkipped<K> {
     #[tactic(auto, unfolding(crate::specs::Literals::others_left))]
     #[inline(always)]
     fn read<'n: 'de>(alloc: Global, fields: FieldsByName<'de, 'n>) -> Result<Self> {
-        skip_fields(alloc, fields, K::names())?;
+        ignore_unknown_fields(alloc, fields, K::names())?;
         Ok(OthersSkipped(PhantomData))
     }
 }
@@ -142,7 +142,7 @@ impl<'de, K: Names> ReadFields<'de> for OthersRefused<K> {
 
     #[inline(always)]
     fn read<'n: 'de>(alloc: Global, fields: FieldsByName<'de, 'n>) -> Result<Self> {
-        end_fields(alloc, fields, K::names())?;
+        deny_unknown_fields(alloc, fields, K::names())?;
         Ok(OthersRefused(PhantomData))
     }
 }

@@ -5,18 +5,21 @@
 
 ghost use Rattle.content_ser.specs.Laws.Lists.{OneTree, UniqueCut};
 ghost use Rattle.content_ser.specs.Sending.Canonical.{EqualCalls};
+ghost use Rattle.serde_content.specs.Choices.{FirstComesBack, SecondComesBack};
 ghost use Rattle.serde_content.specs.Laws.Lookups.{EqualKeys, JoinedPairs, LastPair, MissingKey};
 
-pub use crate::choosing::tried_in_order;
+use crate::round::RoundTrip;
 pub use content_build::laws::{
-    compare_serializers, equal_refusals, equal_serializers, sent_is_listed, steps_are_exact,
+    canonical_is_built, canonical_is_missing, compare_serializers, equal_refusals,
+    equal_serializers, sent_is_listed, steps_are_exact,
 };
-pub use content_build::{canonical_is_built, canonical_is_missing};
 pub use content_de::laws::{
     coercion_keeps, compare_deserializers, equal_deserializers, plain_once, plain_variant,
 };
-pub use content_ser::laws::{canonical_or_stops, canonical_spelled, equal_by_contents};
-pub use content_ser::{canonical_once, loose_once, script_spells, static_is_canonical};
+pub use content_ser::laws::{
+    canonical_once, canonical_or_stops, canonical_spelled, equal_by_contents, loose_once,
+    script_spells, static_is_canonical,
+};
 pub use content_tree::laws::{
     compare_errors, compare_expected, compare_kinds, compare_numbers, compare_types, equal_bytes,
     equal_data, equal_enums, equal_errors, equal_expected, equal_found_data, equal_images,
@@ -59,4 +62,12 @@ pub fn last_pair()
 /// A key finds nothing exactly where none equals it.
 pub fn missing_key()
     ensures { MissingKey }
+{}
+
+/// The law of two types that are tried one after another: what was sent of the first comes back as
+/// an equal value of the first, and what was sent of the second as one of the second, where the
+/// first refuses it.
+pub fn tried_in_order<'de, A: RoundTrip<'de>, B: RoundTrip<'de>>()
+    ensures first { FirstComesBack A.exists A.script A.refusal A.gives A.eq B.refusal B.gives }
+    ensures second { SecondComesBack A.refusal A.gives B.exists B.script B.refusal B.gives B.eq }
 {}

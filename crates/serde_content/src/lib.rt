@@ -35,7 +35,6 @@ pub use round::{RoundTrip, round_trip};
 pub use values::{from_value, to_value};
 
 mod absent;
-mod choosing;
 pub mod de;
 pub mod derive_support;
 mod fields_read;
@@ -43,6 +42,7 @@ mod fields_sent;
 pub mod laws;
 mod literals;
 mod name_lists;
+mod one_of;
 mod round;
 pub mod samples;
 pub mod ser;

@@ -1,9 +1,10 @@
 //! What no row of `cbor_cli` says: values that come back, several as one item, what can be
 //! serialised, and characters past ASCII, whose bytes RFC 8949 gives in its appendix A.
 
+use content_cbor::laws::write_and_read_back;
 use content_cbor::{
-    DecodeError, decode, decode_prefix, encode, encode_array, from_bytes, read_back, round_trip,
-    to_bytes, write_and_read_back,
+    DecodeError, decode, decode_prefix, encode, encode_array, from_bytes, read_back, through_cbor,
+    to_bytes,
 };
 use serde_content::Value;
 use std::alloc::Global;
@@ -61,10 +62,10 @@ fn what_is_kept_of_values(rt: HostRuntime) -> Result<(), Fail> {
     let alloc = rt.alloc();
     let value = Value::Tuple(vec![in alloc; Value::from(7u8), Value::Unit]?);
     let wanted = Value::Seq(vec![in alloc; Value::from(7u64), Value::Option(None)]?);
-    assert!(rt; round_trip(alloc, &value, 2)? == wanted);
+    assert!(rt; through_cbor(alloc, &value, 2)? == wanted);
 
     // The array is deeper than its items.
-    match round_trip(alloc, &value, 1) {
+    match through_cbor(alloc, &value, 1) {
         Ok(_) => assert!(rt; false),
         Err(error) => {
             let text = format!(in alloc; "{error}")?;

@@ -1,7 +1,8 @@
 //! Fields taken by name, in any order, and what they leave.
 
 use serde_content::de::{
-    FieldsByName, attempt, end_fields, field_or, named_field, skip_fields, tag_field,
+    FieldsByName, attempt, deny_unknown_fields, field_or, ignore_unknown_fields, named_field,
+    tag_field,
 };
 use serde_content::{Deserializer, Result as Answer, Value};
 use std::alloc::Global;
@@ -44,7 +45,7 @@ fn fields_are_taken_in_any_order(rt: HostRuntime) -> Result<(), Fail> {
 #[test]
 fn what_is_not_taken_is_left(rt: HostRuntime) -> Result<(), Fail> {
     let alloc = rt.alloc();
-    skip_fields(alloc, three_fields(alloc)?, &["c"])?;
+    ignore_unknown_fields(alloc, three_fields(alloc)?, &["c"])?;
     let mut fields = three_fields(alloc)?;
     let kind = fields.take_named("kind");
     assert!(rt; kind.is_some());
@@ -62,18 +63,18 @@ fn what_is_not_taken_is_left(rt: HostRuntime) -> Result<(), Fail> {
 #[test]
 fn what_is_left_is_refused(rt: HostRuntime) -> Result<(), Fail> {
     let alloc = rt.alloc();
-    let left = end_fields(alloc, three_fields(alloc)?, &["a", "b"]);
+    let left = deny_unknown_fields(alloc, three_fields(alloc)?, &["a", "b"]);
     assert!(rt; text_of(alloc, left)?.as_str() == "duplicate field `b`");
-    let left = end_fields(alloc, three_fields(alloc)?, &[]);
+    let left = deny_unknown_fields(alloc, three_fields(alloc)?, &[]);
     assert!(rt; text_of(alloc, left)?.as_str() == "unknown field `b`, there are no fields");
-    let left = end_fields(alloc, three_fields(alloc)?, &["x"]);
+    let left = deny_unknown_fields(alloc, three_fields(alloc)?, &["x"]);
     assert!(rt; text_of(alloc, left)?.as_str() == "unknown field `b`, expected `x`");
-    let left = end_fields(alloc, three_fields(alloc)?, &["x", "y"]);
+    let left = deny_unknown_fields(alloc, three_fields(alloc)?, &["x", "y"]);
     assert!(rt; text_of(alloc, left)?.as_str() == "unknown field `b`, expected `x` or `y`");
-    let left = end_fields(alloc, three_fields(alloc)?, &["x", "y", "z"]);
+    let left = deny_unknown_fields(alloc, three_fields(alloc)?, &["x", "y", "z"]);
     let wanted = "unknown field `b`, expected one of `x`, `y`, `z`";
     assert!(rt; text_of(alloc, left)?.as_str() == wanted);
-    let left = skip_fields(alloc, three_fields(alloc)?, &["a"]);
+    let left = ignore_unknown_fields(alloc, three_fields(alloc)?, &["a"]);
     assert!(rt; text_of(alloc, left)?.as_str() == "duplicate field `a`");
     Ok(())
 }

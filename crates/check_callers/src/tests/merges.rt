@@ -1,7 +1,7 @@
 //! Values put over one another, each written as lines of calls.
 
 use content_lines::read_line;
-use content_uses::merging::merge;
+use content_uses::merge;
 use serde_content::Value;
 use serde_content::ser::{Builder, Serializer};
 use std::alloc::Global;
@@ -80,7 +80,7 @@ fn values_are_put_over_one_another(rt: HostRuntime) -> Result<(), Fail> {
         ("unit", "map 1; key; str y; value; u8 2; end", "()"),
     ];
     for (over, base, wanted) in &cases {
-        let merged = merge(alloc, spelled(alloc, over)?, spelled(alloc, base)?)?;
+        let merged = merge(alloc, spelled(alloc, base)?, spelled(alloc, over)?)?;
         let text = format!(in alloc; "{}", merged.display())?;
         assert!(rt; text.as_str() == *wanted);
     }

@@ -1,8 +1,7 @@
 //! Records and configurations: the examples of the pages, and cases that they don't show.
 
-use content_uses::merging::merge;
-use content_uses::saving::{put_and_reload, save_twice};
-use content_uses::store::{Store, put_and_get};
+use content_uses::laws::{put_and_get, put_and_reload, save_twice};
+use content_uses::{Store, merge};
 use serde_content::samples::Point;
 use serde_content::{
     CowStr, Data, Deserializer, Result as Answer, Serializer, Struct, Value, value,
@@ -23,7 +22,7 @@ fn records_are_kept(rt: HostRuntime) -> Result<(), Fail> {
     assert!(rt; number == Some(7));
 
     // What the type doesn't take is refused.
-    let other: serde_content::Result<bool> = store.view(alloc, first);
+    let other: serde_content::Result<bool> = store.get(alloc, first);
     let text = match other {
         Ok(_) => String::new(alloc),
         Err(error) => format!(in alloc; "{error}")?,
@@ -39,7 +38,7 @@ fn what_is_put_is_got(rt: HostRuntime) -> Result<(), Fail> {
     let mut store = Store::new(alloc);
     assert!(rt; put_and_get(alloc, &mut store, &'c')? == 'c');
     assert!(rt; store.len() == 1);
-    let none: Answer<bool> = store.view(alloc, 1);
+    let none: Answer<bool> = store.get(alloc, 1);
     assert!(rt; none.is_err());
     Ok(())
 }
@@ -56,9 +55,9 @@ fn records_are_saved(rt: HostRuntime) -> Result<(), Fail> {
     let wanted = [0x82, 0xa2, 0x61, b'x', 0x01, 0x61, b'y', 0x02, 0x07];
     assert!(rt; bytes.as_slice() == wanted.as_slice());
     let loaded = Store::load(alloc, &bytes, 64)?;
-    let point: Point = loaded.get_loaded(alloc, first)?;
+    let point: Point = loaded.get_coerced(alloc, first)?;
     assert!(rt; point == Point { x: 1, y: 2 });
-    let none: Answer<Point> = loaded.get_loaded(alloc, 2);
+    let none: Answer<Point> = loaded.get_coerced(alloc, 2);
     assert!(rt; none.is_err());
     Ok(())
 }
@@ -67,10 +66,10 @@ fn records_are_saved(rt: HostRuntime) -> Result<(), Fail> {
 fn loaded_records_are_read_and_joined(rt: HostRuntime) -> Result<(), Fail> {
     let alloc = rt.alloc();
     let mut loaded = Store::load(alloc, &[0x81, 0x07], 2)?;
-    let wide: Option<u64> = loaded.view_coerced(alloc, 0)?;
+    let wide: Option<u64> = loaded.get_coerced(alloc, 0)?;
     assert!(rt; wide == Some(7));
     let since = loaded.put(alloc, &Some(9u16))?;
-    let number: Option<u16> = loaded.get_loaded(alloc, since)?;
+    let number: Option<u16> = loaded.get_coerced(alloc, since)?;
     assert!(rt; number == Some(9));
 
     let (first, second) = save_twice(alloc, &loaded, 2)?;
@@ -97,7 +96,7 @@ fn what_is_put_is_reloaded(rt: HostRuntime) -> Result<(), Fail> {
 fn other_bytes_are_no_records(rt: HostRuntime) -> Result<(), Fail> {
     let alloc = rt.alloc();
     let cases = [
-        ([0x07, 0xf6], "refused at byte 1: bytes behind the item"),
+        ([0x07, 0xf6], "refused at byte 1: bytes after the item"),
         ([0x61, b'a'], "no array of records"),
         (
             [0x82, 0x07],
@@ -123,7 +122,7 @@ fn configurations_are_merged(rt: HostRuntime) -> Result<(), Fail> {
     // A user's settings over the common ones.
     let common = value!(in alloc; { "name": "serve", "limits": { "depth": 8u8, "size": 100u8 } })?;
     let user = value!(in alloc; { "colour": true, "limits": { "size": 200u8 } })?;
-    let merged = merge(alloc, user, common)?;
+    let merged = merge(alloc, common, user)?;
     let text = format!(in alloc; "{}", merged.display())?;
     let wanted =
         r#"{ "name": "serve", "limits": { "depth": 8u8, "size": 200u8 }, "colour": true }"#;
@@ -142,7 +141,7 @@ fn defaults_are_put_under_fields(rt: HostRuntime) -> Result<(), Fail> {
         name: CowStr::Borrowed("Point"),
         data: Data::Struct { fields },
     };
-    let merged = merge(alloc, Value::Struct(Box::new(alloc, user)?), defaults)?;
+    let merged = merge(alloc, defaults, Value::Struct(Box::new(alloc, user)?))?;
     let point: Point = Deserializer::new(merged).deserialize(alloc)?;
     assert!(rt; point == Point { x: 1, y: 7 });
     Ok(())
@@ -153,7 +152,7 @@ fn maps_are_put_over_plain_structs(rt: HostRuntime) -> Result<(), Fail> {
     let alloc = rt.alloc();
     let defaults = Serializer::new().serialize(alloc, &Point { x: 1, y: 2 })?;
     let defaults: Value = Deserializer::new(defaults).deserialize(alloc)?;
-    let merged = merge(alloc, value!(in alloc; { "y": 7i32 })?, defaults)?;
+    let merged = merge(alloc, defaults, value!(in alloc; { "y": 7i32 })?)?;
     let point: Point = Deserializer::new(merged).deserialize(alloc)?;
     assert!(rt; point == Point { x: 1, y: 7 });
     Ok(())

@@ -8,9 +8,9 @@ ghost use Rattle.content_de.specs.Accesses.Seq.{seq_view, seq_at, tuple_at, tupl
 ghost use Rattle.content_de.specs.Accesses.Map.{map_view, map_at, struct_at};
 ghost use Rattle.content_de.specs.Sources.Deserializer.{subject};
 
+use crate::contents::{is_nothing, take_fields, take_value, take_values};
 use crate::deserializer::Deserializer;
 use crate::map::Map;
-use crate::open::{is_nothing, take_fields, take_value, take_values};
 use crate::seq::Seq;
 use crate::source::Source;
 use content_tree::{DataType, Expected, NamedValue, Result};

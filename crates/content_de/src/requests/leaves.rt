@@ -9,8 +9,8 @@ ghost use Rattle.content_de.specs.Requests.Leaves.{bool_from, char_from, unit_fr
 ghost use Rattle.content_de.specs.Requests.Leaves.{bytes_from, name_from, held_by};
 ghost use Rattle.content_de.specs.Sources.Deserializer.{subject};
 
+use crate::contents::variant_name;
 use crate::deserializer::Deserializer;
-use crate::open::variant_name;
 use crate::source::Source;
 use content_tree::{CowBytes, CowStr, Expected, NamedValue, Result};
 use std::alloc::Global;

@@ -1,5 +1,0 @@
-use Rattle.content_build.proofs.Canonically.{canonical_built}
-use Rattle.content_build.proofs.canonical.canonical_is_built.Goals as goal
-
-pub returns : goal.returns
-returns c = canonical_built

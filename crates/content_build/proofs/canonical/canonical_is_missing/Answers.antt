@@ -1,5 +1,0 @@
-use Rattle.content_build.proofs.Canonically.{canonical_stopped}
-use Rattle.content_build.proofs.canonical.canonical_is_missing.Goals as goal
-
-pub returns : goal.returns
-returns c = canonical_stopped

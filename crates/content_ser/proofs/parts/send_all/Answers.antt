@@ -1,0 +1,8 @@
+use Rattle.content_ser.proofs.Sending.{takes_only, at_exit_aside}
+use Rattle.content_ser.proofs.parts.send_all.Goals as goal
+
+pub returns-in_err-send_parts_aside : goal.returns-in_err-send_parts_aside
+returns-in_err-send_parts_aside g c = at_exit_aside _ _ c.from_residual.ensures.1 (c.in_err-send_parts_aside.ensures _)
+
+pub returns : goal.returns
+returns g c = c.in_ok-send_parts_aside.ensures _ _ _ (takes_only c.call_aside.ensures)
