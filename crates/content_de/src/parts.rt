@@ -10,7 +10,7 @@ ghost use Rattle.content_de.specs.Reads.Tuples.{too_few, too_many, part_refusal,
 ghost use Rattle.content_de.specs.Reads.Tuples.{part_then, end_of_parts, PartThen, NoPart};
 ghost use Rattle.content_de.specs.Reads.Tuples.{PartMemoryless, MemorylessThen, MayEnd};
 ghost use Rattle.content_de.specs.Reads.Tuples.{no_more};
-ghost use Rattle.content_de.specs.Reads.Own.{field_refusal, FieldGives};
+ghost use Rattle.content_de.specs.Reads.Own.{field_refusal, FieldGives, FieldMemoryless};
 
 use crate::deserialize::Deserialize;
 use crate::map::Map;
@@ -99,8 +99,8 @@ pub fn end_parts<'de, 'n>(alloc: Global, mut from: Seq<'de, 'n>, expected: usize
 }
 
 /// Reads the next field, which must have this name, for a type of your own. The name is compared
-/// once the value is read; the entry is taken away also where it is refused. The name takes no
-/// memory.
+/// once the value is read; the entry is taken away also where it is refused. Only the type and the
+/// making of an error take memory.
 ///
 /// # Errors
 ///
@@ -113,6 +113,8 @@ pub fn next_field<'de, 'n: 'de, T: Deserialize<'de>>(
 ) -> Result<T>
     ensures value { Reads (field_refusal name.now T.refusal (first_entry (map_view from.old)))
         (FieldGives T.gives (first_entry (map_view from.old))) result }
+    ensures succeeds { FieldMemoryless name.now T.memoryless (first_entry (map_view from.old))
+        → IsOk result }
     ensures rest { map_view from.new ≡ after_entry (map_view from.old) }
 {
     if from.next_is_named(name) {
@@ -133,6 +135,8 @@ fn read_field<'de, 'n: 'de, T: Deserialize<'de>>(
 ) -> Result<T>
     ensures value { Reads (field_refusal name.now T.refusal (first_entry (map_view from.old)))
         (FieldGives T.gives (first_entry (map_view from.old))) result }
+    ensures succeeds { FieldMemoryless name.now T.memoryless (first_entry (map_view from.old))
+        → IsOk result }
     ensures rest { map_view from.new ≡ after_entry (map_view from.old) }
 {
     match from.next_entry::<CowStr<'de>, T>(alloc)? {

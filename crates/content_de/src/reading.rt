@@ -1,6 +1,7 @@
 //! Typed data out of values and their parts.
 
-ghost use Rattle.std.specs.Prelude.{◌≡◌};
+ghost use Rattle.std.specs.Prelude.{◌≡◌, IsOk};
+ghost use Rattle.content_de.specs.Outcomes.{IsTaken};
 ghost use Rattle.content_de.specs.Sources.Deserializer.{subject};
 ghost use Rattle.content_de.specs.Accesses.Seq.{seq_view, first_item, after_item};
 ghost use Rattle.content_de.specs.Accesses.Map.{map_view, first_key, first_value, first_entry};
@@ -9,6 +10,7 @@ ghost use Rattle.content_de.specs.Accesses.Enum.{enum_view, variant_view, tag_of
 ghost use Rattle.content_de.specs.Accesses.Enum.{newtype_variant_of};
 ghost use Rattle.content_de.specs.Reads.Read.{Reads};
 ghost use Rattle.content_de.specs.Reads.Access.{ReadsNext, ReadsInside, entry_refusal, EntryGives};
+ghost use Rattle.content_de.specs.Reads.Access.{NextMemoryless, EntryMemoryless, TagMemoryless};
 
 use crate::deserialize::Deserialize;
 use crate::deserializer::Deserializer;
@@ -20,7 +22,7 @@ use content_tree::Result;
 use std::alloc::Global;
 
 impl<'de, 'n> Deserializer<'de, 'n> {
-    /// Reads a value of this type.
+    /// Reads a value of this type. Only the type takes memory.
     ///
     /// # Errors
     ///
@@ -28,7 +30,9 @@ impl<'de, 'n> Deserializer<'de, 'n> {
     pub fn deserialize<T: Deserialize<'de>>(self, alloc: Global) -> Result<T>
     where
         'n: 'de,
-        ensures { Reads (T.refusal (subject self.entry)) (T.gives (subject self.entry)) result }
+        ensures value { Reads (T.refusal (subject self.entry)) (T.gives (subject self.entry))
+            result }
+        ensures succeeds { T.memoryless (subject self.entry) → IsOk result }
     {
         T::deserialize(alloc, self)
     }
@@ -36,7 +40,7 @@ impl<'de, 'n> Deserializer<'de, 'n> {
 
 impl<'de, 'n> Seq<'de, 'n> {
     /// Reads the next item as this type, or answers none at the end. The item is taken away also
-    /// where its reading is refused.
+    /// where its reading is refused. Only the type takes memory.
     ///
     /// # Errors
     ///
@@ -45,6 +49,8 @@ impl<'de, 'n> Seq<'de, 'n> {
     where
         'n: 'de,
         ensures value { ReadsNext T.refusal T.gives (first_item (seq_view self.old)) result }
+        ensures succeeds { NextMemoryless T.memoryless (first_item (seq_view self.old))
+            → IsOk result }
         ensures rest { seq_view self.new ≡ after_item (seq_view self.old) }
     {
         match self.next_deserializer() {
@@ -56,7 +62,7 @@ impl<'de, 'n> Seq<'de, 'n> {
 
 impl<'de, 'n> Map<'de, 'n> {
     /// Reads the key of the next entry as this type, or answers none at the end. The entry stays,
-    /// with the unit as its key, also where the reading is refused.
+    /// with the unit as its key, also where the reading is refused. Only the type takes memory.
     ///
     /// # Errors
     ///
@@ -65,6 +71,8 @@ impl<'de, 'n> Map<'de, 'n> {
     where
         'n: 'de,
         ensures value { ReadsNext K.refusal K.gives (first_key (map_view self.old)) result }
+        ensures succeeds { NextMemoryless K.memoryless (first_key (map_view self.old))
+            → IsOk result }
         ensures rest { map_view self.new ≡ after_key (map_view self.old) }
     {
         match self.take_key() {
@@ -74,7 +82,8 @@ impl<'de, 'n> Map<'de, 'n> {
     }
 
     /// Reads the value of the next entry as this type. The entry is taken away also where the
-    /// reading is refused, and whether or not its key was read.
+    /// reading is refused, and whether or not its key was read. Only the type and the text of an
+    /// error take memory.
     ///
     /// # Errors
     ///
@@ -84,6 +93,7 @@ impl<'de, 'n> Map<'de, 'n> {
     where
         'n: 'de,
         ensures value { ReadsInside V.refusal V.gives (first_value (map_view self.old)) result }
+        ensures succeeds { IsTaken (first_value (map_view self.old)) V.memoryless → IsOk result }
         ensures rest { map_view self.new ≡ after_entry (map_view self.old) }
     {
         let value = self.next_value_deserializer(alloc)?;
@@ -92,7 +102,7 @@ impl<'de, 'n> Map<'de, 'n> {
 
     /// Reads the key and then the value of the next entry as these types, or answers none at the
     /// end. The entry is taken away also where the reading is refused; where that of the key is,
-    /// the value isn't read.
+    /// the value isn't read. Only the types take memory.
     ///
     /// # Errors
     ///
@@ -105,6 +115,8 @@ impl<'de, 'n> Map<'de, 'n> {
         'n: 'de,
         ensures value { ReadsNext (entry_refusal K.refusal V.refusal) (EntryGives K.gives V.gives)
             (first_entry (map_view self.old)) result }
+        ensures succeeds { NextMemoryless (EntryMemoryless K.memoryless V.memoryless)
+            (first_entry (map_view self.old)) → IsOk result }
         ensures rest { map_view self.new ≡ after_entry (map_view self.old) }
     {
         let Some((key, value)) = self.take_entry() else {
@@ -117,7 +129,8 @@ impl<'de, 'n> Map<'de, 'n> {
 }
 
 impl<'de, 'n> EnumAccess<'de, 'n> {
-    /// Reads the tag as this type, and gives what the variant holds.
+    /// Reads the tag as this type, and gives what the variant holds. Only the type takes memory,
+    /// and the copy of a name that is owned.
     ///
     /// # Errors
     ///
@@ -125,9 +138,10 @@ impl<'de, 'n> EnumAccess<'de, 'n> {
     pub fn variant<T: Deserialize<'de>>(self, alloc: Global) -> Result<(T, VariantAccess<'de, 'n>)>
     where
         'n: 'de,
-        ensures { Reads (T.refusal (tag_of (enum_view self.entry)))
+        ensures value { Reads (T.refusal (tag_of (enum_view self.entry)))
             (λ p. T.gives (tag_of (enum_view self.entry)) p.0
             × (variant_view p.1 ≡ (enum_view self.entry).variant)) result }
+        ensures succeeds { TagMemoryless T.memoryless (enum_view self.entry) → IsOk result }
     {
         let (tag, variant) = self.variant_deserializer(alloc)?;
         let tag = T::deserialize(alloc, tag)?;
@@ -137,6 +151,7 @@ impl<'de, 'n> EnumAccess<'de, 'n> {
 
 impl<'de, 'n> VariantAccess<'de, 'n> {
     /// Reads the one value of a newtype variant, or whatever a map's entry holds, as this type.
+    /// Only the type and the making of an error take memory.
     ///
     /// # Errors
     ///
@@ -145,8 +160,10 @@ impl<'de, 'n> VariantAccess<'de, 'n> {
     pub fn newtype_variant<T: Deserialize<'de>>(self, alloc: Global) -> Result<T>
     where
         'n: 'de,
-        ensures { ReadsInside T.refusal T.gives (newtype_variant_of (variant_view self.entry))
-            result }
+        ensures value { ReadsInside T.refusal T.gives
+            (newtype_variant_of (variant_view self.entry)) result }
+        ensures succeeds { IsTaken (newtype_variant_of (variant_view self.entry)) T.memoryless
+            → IsOk result }
     {
         let value = self.newtype_deserializer(alloc)?;
         T::deserialize(alloc, value)

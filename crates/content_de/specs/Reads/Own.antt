@@ -11,7 +11,7 @@ use Rattle.content_de.specs.Accesses.Map.{MapLeft, first_entry, after_entry, str
 use Rattle.content_de.specs.Accesses.Enum.{VariantLeft, enum_at, tag_of, unit_variant_of}
 use Rattle.content_de.specs.Accesses.Enum.{newtype_variant_of, tuple_variant_of, struct_variant_of}
 use Rattle.content_de.specs.Reads.Names.{unknown_text}
-use Rattle.content_de.specs.Reads.Read.{Refusal, Gives, first_of}
+use Rattle.content_de.specs.Reads.Read.{Refusal, Gives, Memoryless, first_of}
 
 -- a struct that holds nothing
 abbrev pub unit_struct_refusal : List ℕ → Refusal
@@ -60,6 +60,11 @@ IsNamed name (Some e) = IsTaken (text_from e.0.origin) (λ key. IsTrue (bytes_eq
 abbrev pub FieldGives : {A : Type 0} → Gives A → Option (Subject × Subject) → A → Type 0
 FieldGives gives None a = ⊥
 FieldGives gives (Some e) a = gives e.1 a
+
+-- the field has this name, and is read without memory
+abbrev pub FieldMemoryless : List ℕ → Memoryless → Option (Subject × Subject) → Type 0
+FieldMemoryless name memoryless None = ⊥
+FieldMemoryless name memoryless (Some e) = IsNamed name (Some e) × memoryless e.1
 
 -- the field of this name, and then the others
 abbrev pub field_then : List ℕ → Refusal → (MapLeft → Option Cause) → MapLeft → Option Cause
