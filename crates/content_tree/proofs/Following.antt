@@ -1,5 +1,5 @@
 -- A path, a piece at a time.
-use Rattle.std.proofs.Common.{◌≡◌, ◌≢◌, ◌<◌, ◌≤◌, ◌+◌, ◌∙◌, ap, ap₂, sym, refl, ℕ, Bool, true, false, nat_eq, ne_eqb, arith, length, drop, get_or, List, [], ◌∷◌}
+use Rattle.std.proofs.Common.{◌≡◌, ◌≢◌, ◌<◌, ◌≤◌, ◌+◌, ◌∙◌, ap, ap₂, sym, refl, ℕ, false, nat_eq, ne_eqb, arith, length, drop, get_or, List, [], ◌∷◌}
 use Rattle.std.proofs.Common.{Option, Some, None, option_map, option_and_then, if◌then◌else◌}
 use Rattle.std.specs.List.{slice_split, onto_first}
 use Rattle.std.specs.Str.{bytes_eq}

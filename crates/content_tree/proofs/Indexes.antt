@@ -1,6 +1,6 @@
 -- Indexes in paths.
-use Rattle.std.proofs.Common.{◌≡◌, ◌≢◌, ◌<◌, ◌≤◌, ◌^◌, ◌∙◌, ap, sym, refl, arith, ℕ, Bool, true, false, nat_eq, not, ⊎_elim}
-use Rattle.std.proofs.Common.{List, [], ◌∷◌, ◌++◌, length, get_or, eqb-true, eq-eqb, ne_eqb}
+use Rattle.std.proofs.Common.{◌≡◌, ◌≢◌, ◌<◌, ◌≤◌, ◌^◌, ◌∙◌, ap, sym, refl, arith, ℕ, Bool, true, false, nat_eq, ⊎_elim}
+use Rattle.std.proofs.Common.{List, [], ◌∷◌, length, get_or, eqb-true, eq-eqb, ne_eqb}
 use Rattle.std.proofs.Common.{Option, Some, None, option_and_then, IfSome, if◌then◌else◌, Result, Ok, Err}
 use Rattle.std.specs.Option.{MatchOption}
 use Rattle.std.specs.Result.{result_ok}
@@ -9,7 +9,7 @@ use Rattle.std.specs.Str.Parse.{ParsesUnsigned, digits_value}
 use Rattle.std.proofs.lemmas.Bool.{true≢false, cases_Bool, cases_lt, and_parts, and_from}
 use Rattle.std.proofs.lemmas.Str.Parse.{IsNumeralModel, numerals_by_value, tells_all_ascii_digits, parse_plain}
 use Rattle.content_tree.proofs.Pieces.{spelled, unescape-escape}
-use Rattle.content_tree.specs.Values.Paths.{escaped, escape, unescape, is_index, index_of}
+use Rattle.content_tree.specs.Values.Paths.{escape, unescape, is_index, index_of}
 use Rattle.content_tree.specs.Values.Places.{found_item}
 use Rattle.content_tree.specs.Values.Pointers.{item_of}
 use Rattle.content_tree.specs.Values.Tree.{Trees}

@@ -1,10 +1,9 @@
 -- Laws of paths.
-use Rattle.std.proofs.Common.{◌≡◌, ◌<◌, ◌^◌, ◌↔◌, ◌∙◌, ap, sym, refl, arith, ℕ, zero, suc, Bool, true, false, nat_eq, not}
-use Rattle.std.proofs.Common.{List, [], ◌∷◌, ◌++◌, map, length, get_or, append_assoc, append-nil, eqb-true, eq-eqb, ne_eqb, ⊎_elim}
-use Rattle.std.proofs.Common.{Option, Some, None, IsSome, option_map, option_and_then, if◌then◌else◌}
+use Rattle.std.proofs.Common.{◌≡◌, ◌<◌, ◌^◌, ◌∙◌, ap, sym, refl, arith, ℕ, zero, suc, true, false, nat_eq}
+use Rattle.std.proofs.Common.{List, [], ◌∷◌, ◌++◌, map, length, get_or, append_assoc, append-nil, ⊎_elim}
+use Rattle.std.proofs.Common.{Option, Some, None, IsSome, option_map, option_and_then}
 use Rattle.std.specs.Fmt.{decimal}
 use Rattle.std.specs.List.{All, slice_split, join_with_byte}
-use Rattle.std.specs.Str.{all_ascii_digits}
 use Rattle.std.specs.Str.Parse.{digits_value}
 use Rattle.std.proofs.lemmas.Bool.{cases_Bool}
 use Rattle.std.proofs.lemmas.Fmt.{decimal_nonempty, decimal_digit, first_decimal, digits_decimal, digits_value-decimal, decimal-digits_value}
@@ -15,7 +14,7 @@ use Rattle.content_tree.proofs.Pieces.{spelled, unescape-escape, mapped}
 use Rattle.content_tree.specs.Laws.Paths.{EmptyPath, JoinedPaths, JoinedAtValues, SpelledParts, NamedIndex}
 use Rattle.content_tree.specs.Values.Paths.{escaped, escape, path_of, unescape, unescape_each, after_root}
 use Rattle.content_tree.specs.Values.Paths.{parts_of, is_index, index_of}
-use Rattle.content_tree.specs.Values.Pointers.{Place, at, inside, step, follow, leads, value_at, pointer}
+use Rattle.content_tree.specs.Values.Pointers.{Place, at, inside, step, follow, leads, value_at}
 use Rattle.content_tree.specs.Values.Tree.{Tree}
 
 pub empty_path : EmptyPath

@@ -1,10 +1,10 @@
 -- What pieces of paths spell.
-use Rattle.std.proofs.Common.{◌≡◌, ◌≢◌, ◌<◌, ◌≤◌, ◌+◌, ◌∙◌, ap, sym, refl, ℕ, Bool, true, false, nat_eq, not, ◌&&◌, ⊎_elim}
-use Rattle.std.proofs.Common.{length, get_or, drop, List, [], ◌∷◌, ◌++◌, eqb-true, eq-eqb, ne_eqb, append-nil, arith}
-use Rattle.std.proofs.Common.{Option, Some, None, option_map, option_and_then, if◌then◌else◌}
-use Rattle.std.specs.Bool.{one_answer, Decides}
+use Rattle.std.proofs.Common.{◌≡◌, ◌≢◌, ◌<◌, ◌≤◌, ◌+◌, ◌∙◌, ap, sym, refl, ℕ, true, false, nat_eq, not, ⊎_elim}
+use Rattle.std.proofs.Common.{length, get_or, drop, List, [], ◌∷◌, ◌++◌, eqb-true, eq-eqb, ne_eqb, arith}
+use Rattle.std.proofs.Common.{Option, Some, None, option_map, option_and_then}
+use Rattle.std.specs.Bool.{one_answer}
 use Rattle.std.specs.Str.{bytes_eq}
-use Rattle.std.proofs.lemmas.Bool.{cases_Bool, false_from_ne_true, and_cases, and_parts, not-false, not-true, true≢false}
+use Rattle.std.proofs.lemmas.Bool.{cases_Bool, false_from_ne_true, and_parts, not-true}
 use Rattle.std.proofs.lemmas.List.{at_drop_more, drop_all}
 use Rattle.std.proofs.lemmas.Slice.Eq.{bytes_eq-Decides}
 use Rattle.content_tree.specs.Values.Paths.{escaped, escape, is_plain, after_tilde, unescape, is_part}

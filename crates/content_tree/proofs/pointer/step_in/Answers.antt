@@ -1,4 +1,4 @@
-use Rattle.std.proofs.Common.{◌≡◌, ◌∙◌, sym, ap, option_map}
+use Rattle.std.proofs.Common.{◌∙◌, sym, ap, option_map}
 use Rattle.content_tree.proofs.Views.{tree_of-Map}
 use Rattle.content_tree.specs.Values.Paths.{unescape}
 use Rattle.content_tree.specs.Values.Places.{found_step_in}
