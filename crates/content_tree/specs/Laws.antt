@@ -2,3 +2,4 @@
 pub mod Ranked
 pub mod RankedTree
 pub mod RankedImage
+pub mod Paths

@@ -5,3 +5,6 @@ pub mod Tree
 pub mod Value
 pub mod Ranges
 pub mod Lookups
+pub mod Paths
+pub mod Pointers
+pub mod Places

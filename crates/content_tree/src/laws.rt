@@ -1,9 +1,11 @@
-//! What the comparisons mean to a caller who knows trees, images and contents.
+//! What the comparisons mean to a caller who knows trees, images and contents; laws of paths.
 
 ghost use Rattle.std.specs.Prelude.{◌≡◌};
 ghost use Rattle.std.specs.Bool.{Decides};
 ghost use Rattle.content_tree.specs.Errors.Cause.{expectation_of, cause_of};
 ghost use Rattle.content_tree.specs.Images.Found.{image_view, image_data_view};
+ghost use Rattle.content_tree.specs.Laws.Paths.{EmptyPath, JoinedPaths, JoinedAtValues, NamedIndex};
+ghost use Rattle.content_tree.specs.Laws.Paths.{SpelledParts};
 ghost use Rattle.content_tree.specs.Errors.Kind.{kind_of};
 ghost use Rattle.content_tree.specs.Orders.Trees.{number_cmp};
 ghost use Rattle.content_tree.specs.Orders.Errors.{type_cmp, expected_cmp, kind_cmp, error_cmp};
@@ -168,3 +170,26 @@ pub fn compare_errors(error: &Error, other_error: &Error) -> Ordering
 {
     error.cmp(other_error)
 }
+
+/// The empty path leads to the value itself.
+pub fn empty_path()
+    ensures { EmptyPath }
+{}
+
+/// Joined paths lead where the second leads from where the first does; so from the value that the
+/// first finds, if it finds one.
+pub fn joined_paths()
+    ensures places { JoinedPaths }
+    ensures values { JoinedAtValues }
+{}
+
+/// A path spells parts exactly if it is `/` and the part, with `~0` for `~` and `~1` for `/`, for
+/// each.
+pub fn spelled_parts()
+    ensures { SpelledParts }
+{}
+
+/// A part names an index below 2^64 exactly if it is the index in decimal.
+pub fn named_index()
+    ensures { NamedIndex }
+{}

@@ -15,6 +15,7 @@
 //! | numbers, texts, bytes in them | [`Number`], [`CowStr`], [`CowBytes`] |
 //! | values from numbers, texts and so on | `convert` |
 //! | `get`, `as_str` and so on | `lookup` |
+//! | paths | `pointer` |
 //! | `display` | [`ValueDisplay`] |
 //! | `try_clone`; `into_owned` | `copy_value`, `copy_found`, `copy_error`; `owned` |
 //! | `==` and the order | `compare`, [`laws`] |
@@ -37,6 +38,7 @@ pub mod laws;
 mod lookup;
 mod number;
 mod owned;
+mod pointer;
 mod quote;
 mod unexpected;
 mod value;

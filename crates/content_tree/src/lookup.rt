@@ -7,6 +7,7 @@ ghost use Rattle.content_tree.specs.Values.Lookups.{boolean_in, number_in, value
 ghost use Rattle.content_tree.specs.Values.Lookups.{text_in, bytes_in, items_in, pairs_in};
 ghost use Rattle.content_tree.specs.Values.Lookups.{field_in, is_text, last_field, last_value, lookup};
 ghost use Rattle.content_tree.specs.Values.Lookups.{lookup_text};
+ghost use Rattle.content_tree.specs.Values.Pointers.{item_in, item_of, lookup_index};
 ghost use Rattle.content_tree.specs.Values.Ranges.{i64, u64, i128, u128};
 ghost use Rattle.content_tree.specs.Values.Value.{tree_of, tree_data_of, trees_view, pairs_view};
 ghost use Rattle.content_tree.specs.Values.Value.{fields_view};
@@ -143,6 +144,46 @@ impl<'a, 'n> NamedValue<'a, 'n> {
             _ => None,
         }
     }
+
+    /// Finds the item of this index, counted from 0, in a sequence, a tuple, or a struct or a
+    /// variant that holds values by place.
+    pub fn get_index(&self, index: usize) -> Option<&NamedValue<'a, 'n>>
+        ensures { option_map (λ value. tree_of value.now) result
+            ≡ lookup_index index (tree_of self.now) }
+    {
+        match self {
+            NamedValue::Seq(items) => item_of(items, index),
+            NamedValue::Tuple(items) => item_of(items, index),
+            NamedValue::Struct(node) => item_in(&node.data, index),
+            NamedValue::Enum(node) => item_in(&node.data, index),
+            _ => None,
+        }
+    }
+}
+
+/// The item of this index in what a struct or a variant holds.
+fn item_in<'v, 'a, 'n>(
+    inside: &'v NamedData<'a, 'n>,
+    index: usize,
+) -> Option<&'v NamedValue<'a, 'n>>
+    ensures { option_map (λ value. tree_of value.now) result
+        ≡ item_in index (tree_data_of inside.now) }
+{
+    match inside {
+        NamedData::Tuple { values } => item_of(values, index),
+        _ => None,
+    }
+}
+
+/// The item of this index.
+pub(crate) fn item_of<'v, 'a, 'n>(
+    items: &'v [NamedValue<'a, 'n>],
+    index: usize,
+) -> Option<&'v NamedValue<'a, 'n>>
+    ensures { option_map (λ value. tree_of value.now) result
+        ≡ item_of index (trees_view items.now) }
+{
+    items.get(index)
 }
 
 /// The value of the last key that equals this one.

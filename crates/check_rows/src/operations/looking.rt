@@ -1,4 +1,4 @@
-//! What a value contains, and what is found by a key.
+//! What a value contains, and what is found by a key, a path or an index.
 
 use crate::answer::Answer;
 use crate::failure::Failure;
@@ -21,6 +21,24 @@ pub fn get_str(out: &mut Answer, pieces: &mut Pieces<'_>) {
     };
     let value = read_tree(pieces);
     write_lent(out, value.get_str(key.as_str()));
+}
+
+/// The value that a path leads to.
+pub fn pointer(out: &mut Answer, pieces: &mut Pieces<'_>) {
+    let Value::String(path) = read_tree(pieces) else {
+        return out.fail(Failure::NoRow);
+    };
+    let value = read_tree(pieces);
+    write_lent(out, value.pointer(path.as_str()));
+}
+
+/// The item of an index.
+pub fn get_index(out: &mut Answer, pieces: &mut Pieces<'_>) {
+    let Some(index) = read_tree(pieces).as_u64() else {
+        return out.fail(Failure::NoRow);
+    };
+    let value = read_tree(pieces);
+    write_lent(out, value.get_index(index as usize));
 }
 
 /// What a value contains, by the type that is named.
