@@ -1,9 +1,9 @@
 //! Tries to read a type from what is there, which stays, as Serde does from its buffer.
 
-ghost use Rattle.std.specs.Prelude.{◌≡◌, IsSome, Ok, None};
+ghost use Rattle.std.specs.Prelude.{◌≡◌, IsOk, IsSome, Ok, None};
 ghost use Rattle.content_de.specs.Sources.Deserializer.{subject};
 ghost use Rattle.content_de.specs.Sources.Origin.{in_buffer};
-ghost use Rattle.content_de.specs.Reads.Attempts.{Tries, refusal_by};
+ghost use Rattle.content_de.specs.Reads.Attempts.{SourceCopyTakesNoMemory, Tries, refusal_by};
 
 use crate::deserialize::Deserialize;
 use crate::deserializer::Deserializer;
@@ -12,7 +12,7 @@ use std::alloc::Global;
 
 /// Tries to read a type from a [buffered](Deserializer::buffered) copy of what is there: a value,
 /// or none where that is refused. It is for an untagged enum of your own, which tries one type
-/// after another.
+/// after another. Only the copy and the type take memory.
 ///
 /// # Errors
 ///
@@ -21,8 +21,10 @@ pub fn attempt<'de, 'n: 'de, T: Deserialize<'de>>(
     alloc: Global,
     from: &Deserializer<'de, 'n>,
 ) -> Result<Option<T>>
-    ensures { Tries (T.refusal (in_buffer (subject from.now)))
+    ensures value { Tries (T.refusal (in_buffer (subject from.now)))
         (T.gives (in_buffer (subject from.now))) result }
+    ensures succeeds { SourceCopyTakesNoMemory (subject from.now).origin
+        → T.memoryless (in_buffer (subject from.now)) → IsOk result }
 {
     let copy = from.try_clone(alloc)?.buffered();
     match T::deserialize(alloc, copy) {
@@ -51,6 +53,8 @@ pub fn attempt_fitting<'de, 'n: 'de, T: Deserialize<'de>>(
         → IsSome (T.refusal (in_buffer (subject from.now))) }
     ensures value { Tries (T.refusal (in_buffer (subject from.now)))
         (T.gives (in_buffer (subject from.now))) result }
+    ensures succeeds { SourceCopyTakesNoMemory (subject from.now).origin
+        → T.memoryless (in_buffer (subject from.now)) → IsOk result }
     ensures unfit { IsSome (refusal_by expected.now (in_buffer (subject from.now)))
         → result ≡ Ok None }
 {

@@ -1,6 +1,6 @@
 //! Reads a value.
 
-ghost use Rattle.std.specs.Prelude.{◌≡◌, ◌≢◌, true, IfOk, IfErr, option_map};
+ghost use Rattle.std.specs.Prelude.{◌≡◌, ◌≢◌, true, IsOk, IfOk, IfErr, option_map};
 ghost use Rattle.content_tree.specs.Errors.Cause.{expectation_of, out_of_memory};
 ghost use Rattle.content_tree.specs.Errors.Kind.{IsOutOfMemory};
 ghost use Rattle.content_tree.specs.Values.Text.{text_of};
@@ -10,6 +10,7 @@ ghost use Rattle.content_de.specs.Sources.Origin.{of_tree, of_identifier, IsIden
 ghost use Rattle.content_de.specs.Sources.Origin.{no_flags, tree_in, tree_under};
 ghost use Rattle.content_de.specs.Sources.Origin.{subject_under, in_buffer};
 ghost use Rattle.content_de.specs.Sources.Deserializer.{flags_of, subject};
+ghost use Rattle.content_de.specs.Reads.Attempts.{SourceCopyTakesNoMemory};
 
 use crate::source::{Flags, Source};
 use content_tree::{CowStr, Error, Expected, NamedValue, Result};
@@ -118,13 +119,15 @@ impl<'de, 'n> Deserializer<'de, 'n> {
     }
 
     /// Makes a copy: the same tree or name, each text and name borrowed or owned as here, and the
-    /// same flags.
+    /// same flags. What has no parts takes no memory, unless it is a text, bytes or a name that is
+    /// owned.
     ///
     /// # Errors
     ///
     /// Out of memory, where an allocation failed.
     pub fn try_clone(&self, alloc: Global) -> Result<Deserializer<'de, 'n>>
         ensures value { IfOk result (λ copy. subject copy ≡ subject self.now) }
+        ensures succeeds { SourceCopyTakesNoMemory (subject self.now).origin → IsOk result }
         ensures memory { IfErr result (λ e. IsOutOfMemory e) }
     {
         let source = match &self.source {

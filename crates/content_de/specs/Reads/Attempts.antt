@@ -1,11 +1,13 @@
 -- Types that are tried one after another on the same source: the first that isn't refused.
-use Rattle.std.specs.Prelude.{◌≡◌, Option, Some, None, IsSome, Result, Ok, Err}
+use Rattle.std.specs.Prelude.{◌≡◌, Option, Some, None, IsSome, IsTrue, Result, Ok, Err}
 use Rattle.content_tree.specs.Errors.Cause.{Cause}
 use Rattle.content_tree.specs.Errors.Kind.{IsOutOfMemory}
+use Rattle.content_tree.specs.Memory.{CopyTakesNoMemory}
 use Rattle.content_tree.specs.Values.Ranges.{i8, u8, i16, u16, i32, u32, i64, u64, i128, u128}
 use Rattle.content_tree.specs.declared.error.Error.{Error}
 use Rattle.content_tree.specs.declared.expected.Expected.{Expected}
 use Rattle.content_tree.specs.declared.expected.Expected.TheVariants as want
+use Rattle.content_de.specs.Sources.Origin.{Origin, of_tree, of_identifier}
 use Rattle.content_de.specs.Outcomes.{refusal_of}
 use Rattle.content_de.specs.Requests.Leaves.{bool_from, char_from, unit_from, text_from, bytes_from, name_from}
 use Rattle.content_de.specs.Requests.Compounds.{items_from, tuple_from, entries_from}
@@ -49,3 +51,8 @@ Tries refusal gives (Err e) = IsOutOfMemory e
 abbrev pub or_next : Option Cause → Option Cause → Option Cause
 or_next None others = None
 or_next (Some c) others = others
+
+-- a copy of what is read takes no memory
+abbrev pub SourceCopyTakesNoMemory : Origin → Type 0
+SourceCopyTakesNoMemory (of_tree t) = CopyTakesNoMemory t
+SourceCopyTakesNoMemory (of_identifier n i) = IsTrue n.borrowed
