@@ -67,6 +67,10 @@ def large() -> Iterator[Tuple[str, int, str]]:
         f"{derive}struct A{i} {{ x{i}: u8, #[serde(flatten)] y: A{i + 1} }}\n" for i in range(1000)) + (
         f"{derive}struct A1000 {{ z: u8 }}\n")
     yield "1,000 fields", 2, f"{derive}struct A {{\n{''.join(f'    x{i}: u8,{chr(10)}' for i in range(1000))}}}\n"
+    left_out = '#[serde(skip_serializing_if = "Option::is_none")] '
+    for count, status in ((64, 0), (65, 2)):
+        yield f"{count} fields that may be left out", status, derive + "struct A { %s }\n" % ", ".join(
+            f"{left_out}x{i}: Option<u8>" for i in range(count))
     yield "1,000 variants", 2, f"{derive}enum A {{\n{''.join(f'    X{i},{chr(10)}' for i in range(1000))}}}\n"
     yield "a name of 1,000 letters", 2, f"{derive}struct A{'a' * 1000};\n"
     yield "2,000 conditions", 2, f"#[{'cfg_attr(a, ' * 2000}derive(Serialize){')' * 2000}]\nstruct A;\n"
