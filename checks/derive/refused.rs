@@ -36,6 +36,13 @@ struct A {
     x: Option<Vec<u8>>,
 }
 
+// 4: A.x: serde's `skip_serializing_if` so is not covered: Option::is_none, String::is_empty, Vec::is_empty, BTreeMap::is_empty are, each on a field of its type
+#[derive(Serialize)]
+struct A {
+    #[serde(skip_serializing_if = "mine::Option::is_none")]
+    x: Option<u8>,
+}
+
 // 2: A.0: serde's `skip_serializing_if` is covered in fields with names: give them names
 #[derive(Serialize)]
 struct A(#[serde(skip_serializing_if = "Option::is_none")] Option<u8>);
