@@ -278,6 +278,12 @@ pub enum Signal {
         #[serde(default)]
         size: Size,
     },
+    Plain {
+        number: Number64,
+        perhaps: Perhaps,
+        couple: Couple,
+        choice: Choice,
+    },
     Whole(Sparse),
     Config(Config),
 }
