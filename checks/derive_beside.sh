@@ -1,6 +1,6 @@
 #!/usr/bin/env bash
-# checks/derive_beside.sh CRATE ROOM [SEED]: makes 20,000 random trees for the types of crates/check_derive,
-# checks/serde_texts/more.rs and checks/derive_beside/others.rs, whole and damaged, reads each as its type by what Serde
+# checks/derive_beside.sh CRATE ROOM [SEED]: makes 20,000 random trees for the types of crates/check_derive but its sample,
+# of checks/serde_texts/more.rs and checks/derive_beside/others.rs, whole and damaged, reads each as its type by what Serde
 # derives over the Rust crate serde-content 0.1.2, whose source is in the folder CRATE, and by what tools/derive writes,
 # and sends each value again. It prints how many answers are the same, how many differ as a line of docs/DIFFERENCES.md
 # says, for each line, and how many differ otherwise: the first ten of these, and status 1. It works in the folder ROOM,
@@ -12,7 +12,7 @@ parts=$top/checks/derive_beside
 crate=$(cd "$1" && pwd)
 mkdir -p "$2"
 room=$(cd "$2" && pwd)
-files=("$top"/crates/check_derive/*.rs "$top/checks/serde_texts/more.rs" "$parts/others.rs")
+files=("$top"/crates/check_derive/{types,choices,sorts,inlined}.rs "$top/checks/serde_texts/more.rs" "$parts/others.rs")
 cases=("$room" "${3:-1}" 20000 "${files[@]}")
 
 # shellcheck source=bench/common.sh
@@ -27,7 +27,8 @@ place_original "$crate" "$parts/driver"
 cp "$top"/checks/beside/driver/src/{cursor,trees}.rs "${files[@]}" "$room/driver/src/"
 for types in "${files[@]}"; do
     module=$(basename "$types" .rs)
-    "$top/tools/derive" --crate derive_beside --module "$module" "$types" > "$here/src/$module.rt"
+    "$top/tools/derive" --crate derive_beside --module "$module" "$types" > "$here/src/$module.rt" \
+        2> "$room/derive.log" || { cat "$room/derive.log"; exit 1; }
 done
 python3 "$parts/judge.py" programs "$room/driver/src" "$here/src" "${files[@]}"
 

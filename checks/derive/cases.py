@@ -57,11 +57,20 @@ def large() -> Iterator[Tuple[str, int, str]]:
         f"type T{i} = T{i - 1};\n" for i in range(1, 1000))
     yield "a chain of 1,000 structs", 0, "".join(
         f"{derive}struct A{i} {{\n    x: A{i + 1},\n}}\n" for i in range(1000)) + f"{derive}struct A1000;\n"
+    default = derive.replace("(", "(Default, ")
+    yield "a chain of 1,000 structs with Default", 0, "".join(
+        f"{default}#[serde(default)]\nstruct A{i} {{ x: A{i + 1} }}\n" for i in range(1000)) + f"{default}struct A1000;\n"
+    yield "40 structs with Default, each with two of the next", 0, "".join(
+        f"{default}struct A{i} {{ x: A{i + 1}, y: A{i + 1} }}\n" for i in range(40)) + f"{default}struct A40;\n"
     yield "a ring of 1,000 structs", 2, "".join(f"{derive}struct A{i}(A{(i + 1) % 1000});\n" for i in range(1000))
     yield "1,000 structs that are flattened", 2, "".join(
         f"{derive}struct A{i} {{ x{i}: u8, #[serde(flatten)] y: A{i + 1} }}\n" for i in range(1000)) + (
         f"{derive}struct A1000 {{ z: u8 }}\n")
     yield "1,000 fields", 2, f"{derive}struct A {{\n{''.join(f'    x{i}: u8,{chr(10)}' for i in range(1000))}}}\n"
+    left_out = '#[serde(skip_serializing_if = "Option::is_none")] '
+    for count, status in ((64, 0), (65, 2)):
+        yield f"{count} fields that may be left out", status, derive + "struct A { %s }\n" % ", ".join(
+            f"{left_out}x{i}: Option<u8>" for i in range(count))
     yield "1,000 variants", 2, f"{derive}enum A {{\n{''.join(f'    X{i},{chr(10)}' for i in range(1000))}}}\n"
     yield "a name of 1,000 letters", 2, f"{derive}struct A{'a' * 1000};\n"
     yield "2,000 conditions", 2, f"#[{'cfg_attr(a, ' * 2000}derive(Serialize){')' * 2000}]\nstruct A;\n"

@@ -36,6 +36,13 @@ struct A {
     x: Option<Vec<u8>>,
 }
 
+// 4: A.x: serde's `skip_serializing_if` so is not covered: Option::is_none, String::is_empty, Vec::is_empty, BTreeMap::is_empty are, each on a field of its type
+#[derive(Serialize)]
+struct A {
+    #[serde(skip_serializing_if = "mine::Option::is_none")]
+    x: Option<u8>,
+}
+
 // 2: A.0: serde's `skip_serializing_if` is covered in fields with names: give them names
 #[derive(Serialize)]
 struct A(#[serde(skip_serializing_if = "Option::is_none")] Option<u8>);
@@ -184,7 +191,7 @@ struct A(HashMap<u8, u8>);
 struct A {}
 
 // 4: A.x: its default is not covered: those of numbers, bool, String, Option, Vec, BTreeMap and of your own types that derive Default are
-#[derive(Serialize)]
+#[derive(Deserialize)]
 struct A {
     #[serde(default)]
     x: char,
@@ -572,3 +579,41 @@ struct A { #[serde(default)] x: u8 }
 struct B { x: u8 }
 #[derive(Serialize)]
 struct A { #[serde(flatten)] b: B }
+
+// 4: B.a: `A` does not come back, as `x` may be left out: give that `default` too
+#[derive(PartialEq, Eq, Serialize, Deserialize)]
+struct A { #[serde(skip_serializing_if = "Vec::is_empty")] x: Vec<u8> }
+#[derive(PartialEq, Eq, Serialize, Deserialize)]
+struct B { a: A }
+
+// 4: B.A.0: `A` does not come back, as `x` may be left out: give that `default` too
+#[derive(PartialEq, Eq, Serialize, Deserialize)]
+struct A { #[serde(skip_serializing_if = "String::is_empty")] x: String, y: u8 }
+#[derive(PartialEq, Eq, Serialize, Deserialize)]
+#[serde(tag = "t")] enum B { A(A), C }
+
+// 2: A.b: `derive(Default)` is not covered beside `B`, which takes an allocator: delete Default, and write a `new(alloc)`
+#[derive(Default, Serialize, Deserialize)]
+struct A { b: B, c: char }
+#[derive(Default, Serialize, Deserialize)]
+struct B { x: String }
+
+// 2: A.b: its default is not covered: `B` derives no Default, or holds what has none here
+#[derive(Deserialize)]
+struct A { #[serde(default)] b: B }
+#[derive(Default, Deserialize)]
+struct B { x: char, y: (u8, u8) }
+
+// 5: C.A: what stands beside a tag is covered where it is a struct of this file with named fields and without `deny_unknown_fields` and `flatten`
+#[derive(Serialize)]
+#[serde(transparent)]
+struct A { b: B }
+#[derive(Serialize)]
+#[serde(tag = "t")] enum C { A(A) }
+#[derive(Serialize)]
+struct B { x: u8 }
+
+// 3: A: serde's `transparent` is covered on structs of one field
+#[derive(Serialize)]
+#[serde(transparent)]
+enum A { B(u8) }

@@ -313,3 +313,76 @@ enum C { X(u8), #[default] Y }
 #[derive(PartialEq, Eq, Serialize, Deserialize)]
 #[serde(transparent)]
 struct A { x: Vec<u8> }
+
+// 2: no RoundTrip is written for `A`: `x` may be left out, and is not read where it is missing: give it `default` too
+// + impl<'de> Deserialize<'de> for B
+// - RoundTrip
+#[derive(PartialEq, Eq, Serialize, Deserialize)]
+struct A { #[serde(skip_serializing_if = "Vec::is_empty")] x: Vec<u8> }
+#[derive(PartialEq, Eq, Serialize, Deserialize)]
+#[serde(untagged)] enum B { A(A), C(u8) }
+#[derive(PartialEq, Eq, Serialize, Deserialize)]
+#[serde(untagged)] enum D { A(BTreeMap<String, A>), C(u8) }
+
+// + impl<'de> Deserialize<'de> for B
+// - RoundTrip
+#[derive(PartialEq, Eq, Serialize, Deserialize)]
+#[serde(untagged)] enum A { X(u8), Y(u16) }
+#[derive(PartialEq, Eq, Serialize, Deserialize)]
+#[serde(untagged)] enum B { X(Vec<A>), Y(u8) }
+
+// + impl<'de> RoundTrip<'de> for A
+// - RoundTrip<'de> for B
+// - RoundTrip<'de> for C
+// + RoundTrip<'de> for D
+#[derive(PartialEq, Eq, Serialize, Deserialize)]
+#[serde(transparent)]
+struct A(u8);
+#[derive(PartialEq, Eq, Serialize, Deserialize)]
+#[serde(untagged)] enum B { X(A), Y(u8) }
+#[derive(PartialEq, Eq, Serialize, Deserialize)]
+#[serde(untagged)] enum C { X(A), Y(String) }
+#[derive(PartialEq, Eq, Serialize, Deserialize)]
+#[serde(untagged)] enum D { X(Vec<A>), Y(String) }
+
+// - NotNull<'de> for A
+// + CborRoundTrip<'de> for A
+// + CborRoundTrip<'de> for B
+// - CborRoundTrip<'de> for C
+#[derive(PartialEq, Eq, Serialize, Deserialize)]
+#[serde(transparent)]
+struct A { x: Option<u8> }
+#[derive(PartialEq, Eq, Serialize, Deserialize)]
+struct B { x: A }
+#[derive(PartialEq, Eq, Serialize, Deserialize)]
+struct C { x: Option<A> }
+
+// - Absent
+#[derive(Default, Serialize)]
+#[serde(default)]
+struct A { b: B, c: char }
+#[derive(Default, Serialize)]
+struct B { x: u8 }
+
+// 3: written as `Absent`: `derive(Default)` on `A`, whose value takes an allocator
+// + impl Absent for A
+#[derive(Default, Serialize, Deserialize)]
+#[serde(default)]
+struct A { b: crate::other::Thing, c: String }
+
+// 3: written as `Absent`: `derive(Default)` on `A`, whose value takes an allocator
+// 5: written as `Absent`: `derive(Default)` on `B`, whose value takes an allocator
+// + is_absent p.b.x
+// - #[derive(Drop, Default
+#[derive(Default, PartialEq, Eq, Serialize, Deserialize)]
+#[serde(default)]
+struct A { #[serde(flatten)] b: B, y: i8 }
+#[derive(Default, PartialEq, Eq, Serialize, Deserialize)]
+struct B { x: String }
+
+// + is_absent = { λ x. x ≡ a.Y }
+#[derive(Default, PartialEq, Eq, Serialize, Deserialize)]
+#[serde(tag = "t")]
+enum A { X { q: String }, #[default] Y }
+#[derive(PartialEq, Eq, Serialize, Deserialize)]
+enum B { Z { #[serde(default)] a: A, b: i8 } }

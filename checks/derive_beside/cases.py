@@ -1,11 +1,11 @@
 """The cases: types, flags and trees, all made from a seed. A quarter of the trees are whole values of the type, as they
-are sent, or with structs as maps, entries in another order or numbers of another kind. The others are damaged in one to
+are sent, or with structs as maps, entries in another order, numbers of another kind or no field where one may be missing. The others are damaged in one to
 three places."""
 import random
 import string
 
 from shapes import own
-from trees import KINDS, NONE, UNIT, bounds, fits
+from trees import EMPTY, KINDS, NONE, UNIT, bounds, fits
 
 FLAGS = ["-", "c", "h", "hc"]
 LETTERS = string.ascii_letters + string.digits + ' "'
@@ -71,6 +71,8 @@ class Maker:
 
     def own(self, item):
         """A value of a type of one's own."""
+        if item.transparent():
+            return self.value(item.data.fields[0].type)
         if not item.variants:
             if item.flattens():
                 return "map", tuple((("str", name), value) for name, value in self.fields(item.data))
@@ -107,8 +109,13 @@ class Maker:
     def fields(self, data):
         """Fields by name, those of others in their places."""
         return tuple(entry for field in data.fields for entry in (
-            self.fields(self.shapes[field.type.name].data) if "flatten" in field.serde else
-            ((field.wire, self.value(field.type)),)))
+            self.fields(self.shapes[field.type.name].data) if "flatten" in field.serde else self.field(field)))
+
+    def field(self, field):
+        """A field with its value; none where it may be missing, or is left out, at times."""
+        value = self.value(field.type)
+        is_out = (field.missing or (field.skips and value in EMPTY)) and chance() < 0.3
+        return () if is_out else ((field.wire, value),)
 
 
 # What trees hold, as a list of trees and a way to put others in their places.

@@ -5,7 +5,7 @@ from lines import ALIKE, CLOSED, CONTENT_FIRST, NAMES, OF_TEXT, ORDER, PLACES, R
 from shapes import own
 from source import Refused, counted, one_of, seen, unexpected, visited
 from structs import Structs, place_of
-from trees import NONE, UNIT, quoted
+from trees import NONE, UNIT, quoted, tagged
 
 SORTS_OF_DATA = {"Unit": "a unit", "Newtype": "a newtype", "Tuple": "a tuple", "Struct": "an object-like"}
 
@@ -312,8 +312,3 @@ class Enums(Structs):
             except Refused:
                 pass
         raise Refused(f"data did not match any variant of untagged enum {item.name}")
-
-
-def tagged(name, variant, tag, *fields):
-    """A variant that is sent as a struct of this name, whose first field names it."""
-    return "struct", name, ("Fields", ((tag, ("str", variant.wire)), *fields))

@@ -202,3 +202,274 @@ pub struct Tail {
     pub unit: (),
     pub kind_of: Kind,
 }
+
+/// Fields that are left out where they are empty, between others.
+#[derive(Serialize, Deserialize)]
+pub struct Sparse {
+    pub id: u16,
+    #[serde(default, skip_serializing_if = "String::is_empty")]
+    pub text: String,
+    #[serde(skip_serializing_if = "Option::is_none")]
+    pub maybe: Option<char>,
+    pub flag: bool,
+    #[serde(default, skip_serializing_if = "Vec::is_empty", rename = "list of")]
+    pub list: Vec<u8>,
+    #[serde(default, skip_serializing_if = "BTreeMap::is_empty")]
+    pub map: BTreeMap<String, u8>,
+    pub last: i16,
+}
+
+/// No other field; one that is left out isn't read where it is missing.
+#[derive(Serialize, Deserialize)]
+#[serde(deny_unknown_fields, rename_all = "camelCase")]
+pub struct Lossy {
+    #[serde(skip_serializing_if = "Vec::is_empty")]
+    pub row_list: Vec<u8>,
+    #[serde(default, skip_serializing_if = "std::string::String::is_empty")]
+    pub some_text: String,
+    pub x: u8,
+    #[serde(skip_serializing_if = "Option::is_none")]
+    pub maybe: Option<Leaf>,
+}
+
+/// Nothing but fields that may be left out.
+#[derive(Serialize, Deserialize)]
+pub struct Hollow {
+    #[serde(default, skip_serializing_if = "str::is_empty")]
+    pub text: String,
+    #[serde(default, skip_serializing_if = "std::collections::BTreeMap::is_empty")]
+    pub map: BTreeMap<u8, Sparse>,
+}
+
+/// Fields that are left out in variants.
+#[derive(Serialize, Deserialize)]
+pub enum Report {
+    Nothing,
+    #[serde(rename_all = "camelCase")]
+    Told {
+        row_key: u8,
+        #[serde(skip_serializing_if = "Option::is_none")]
+        maybe: Option<u8>,
+        #[serde(default, skip_serializing_if = "String::is_empty")]
+        text: String,
+        #[serde(skip_serializing_if = "Vec::is_empty")]
+        list: Vec<u8>,
+    },
+    Only {
+        #[serde(default, skip_serializing_if = "BTreeMap::is_empty")]
+        map: BTreeMap<u8, u8>,
+    },
+    Held(Sparse),
+}
+
+/// The same next to a tag, and defaults.
+#[derive(Serialize, Deserialize)]
+#[serde(tag = "type")]
+pub enum Signal {
+    Off,
+    On {
+        level: u8,
+        #[serde(default, skip_serializing_if = "Vec::is_empty")]
+        list: Vec<u8>,
+        #[serde(skip_serializing_if = "Option::is_none", rename = "wide")]
+        maybe: Option<i128>,
+        #[serde(skip_serializing_if = "String::is_empty")]
+        text: String,
+        #[serde(default)]
+        size: Size,
+    },
+    Plain {
+        number: Number64,
+        perhaps: Perhaps,
+        couple: Couple,
+        choice: Choice,
+    },
+    Whole(Sparse),
+    Config(Config),
+}
+
+/// The same with no other fields.
+#[derive(Serialize, Deserialize)]
+#[serde(tag = "t", deny_unknown_fields)]
+pub enum Strict {
+    Off,
+    On {
+        #[serde(skip_serializing_if = "Option::is_none")]
+        maybe: Option<u8>,
+        #[serde(default, skip_serializing_if = "Vec::is_empty")]
+        list: Vec<Level>,
+    },
+}
+
+/// Read of nothing at all.
+#[derive(Default, Serialize, Deserialize)]
+#[serde(default)]
+pub struct Config {
+    pub text: String,
+    pub list: Vec<i16>,
+    pub count: u32,
+    pub level: Level,
+    pub size: Size,
+    #[serde(default, skip_serializing_if = "Option::is_none")]
+    pub maybe: Option<bool>,
+    #[serde(skip_serializing_if = "BTreeMap::is_empty")]
+    pub table: BTreeMap<String, u8>,
+    pub mode: Mode,
+    #[serde(rename = "also")]
+    pub flat: Merged,
+}
+
+/// The same with no other fields.
+#[derive(Default, Serialize, Deserialize)]
+#[serde(default, deny_unknown_fields)]
+pub struct Exact {
+    pub count: i8,
+    #[serde(default)]
+    pub config: Config,
+    pub code: Number64,
+}
+
+/// A default of fields.
+#[derive(Default, Serialize, Deserialize)]
+pub struct Size {
+    pub width: u8,
+    pub height: Option<u8>,
+    #[serde(default)]
+    pub text: String,
+}
+
+/// A default that isn't the first.
+#[derive(Default, Serialize, Deserialize)]
+pub enum Level {
+    High(u8),
+    #[default]
+    Low,
+    Named { text: String },
+}
+
+/// A default next to a tag.
+#[derive(Default, Serialize, Deserialize)]
+#[serde(tag = "mode", rename_all = "kebab-case")]
+pub enum Mode {
+    Fast { level: u8 },
+    #[default]
+    AsItIs,
+}
+
+/// A default of flattened fields, of which one has no default of its own.
+#[derive(Default, Serialize, Deserialize)]
+#[serde(default)]
+pub struct Merged {
+    pub head: u8,
+    #[serde(flatten)]
+    pub size: Size,
+}
+
+/// Fields that may be missing, of types of one's own.
+#[derive(Serialize, Deserialize)]
+pub struct Page {
+    pub title: String,
+    #[serde(default)]
+    pub size: Size,
+    #[serde(default)]
+    pub level: Level,
+    #[serde(default)]
+    pub mode: Mode,
+    #[serde(default)]
+    pub config: Config,
+    #[serde(default)]
+    pub number: Number64,
+    #[serde(default)]
+    pub both: Both,
+}
+
+/// A default of values by place.
+#[derive(Default, Serialize, Deserialize)]
+pub struct Both(pub u8, pub String);
+
+/// Sent as a number.
+#[derive(Default, PartialEq, Eq, PartialOrd, Ord, Serialize, Deserialize)]
+#[serde(transparent)]
+pub struct Number64(pub u64);
+
+/// Sent as a text.
+#[derive(PartialEq, Eq, PartialOrd, Ord, Serialize, Deserialize)]
+#[serde(transparent)]
+pub struct Label {
+    pub text: String,
+}
+
+/// Sent as an option.
+#[derive(Serialize, Deserialize)]
+#[serde(transparent)]
+pub struct Perhaps(pub Option<u8>);
+
+/// Sent as a sequence.
+#[derive(Serialize, Deserialize)]
+#[serde(transparent)]
+pub struct Rows(pub Vec<i16>);
+
+/// Sent as a struct.
+#[derive(Serialize, Deserialize)]
+#[serde(transparent)]
+pub struct Around {
+    pub leaf: Leaf,
+}
+
+/// Sent as a tuple.
+#[derive(Serialize, Deserialize)]
+#[serde(transparent)]
+pub struct Couple((u8, String));
+
+/// Sent as a variant.
+#[derive(Serialize, Deserialize)]
+#[serde(transparent)]
+pub struct Choice(pub Level);
+
+/// Sent as what is in what is sent as that.
+#[derive(Serialize, Deserialize)]
+#[serde(transparent)]
+pub struct Twice {
+    pub inside: Box<Perhaps>,
+}
+
+/// Structs that are sent as what is in them.
+#[derive(Serialize, Deserialize)]
+pub struct Wrapped {
+    pub number: Number64,
+    pub label: Label,
+    pub perhaps: Perhaps,
+    pub twice: Twice,
+    pub maybe: Option<Perhaps>,
+    pub rows: Rows,
+    pub couple: Couple,
+    pub choice: Choice,
+    pub by_label: BTreeMap<Label, Around>,
+    pub by_number: BTreeMap<Number64, u8>,
+}
+
+/// The same as variants without tags.
+#[derive(Serialize, Deserialize)]
+#[serde(untagged)]
+pub enum Bare {
+    Number(Number64),
+    Label(Label),
+    Rows(Rows),
+    Couple(Couple),
+    Around(Around),
+    Sparse(Sparse),
+    Perhaps(Perhaps),
+    Two(Number64, Label),
+}
+
+/// The same with a tag and next to it.
+#[derive(Serialize, Deserialize)]
+#[serde(tag = "type", content = "value")]
+pub enum Packed {
+    Number(Number64),
+    Perhaps(Perhaps),
+    Twice(Twice),
+    Choice(Choice),
+    Sparse(Sparse),
+    Config(Config),
+}

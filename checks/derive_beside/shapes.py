@@ -6,14 +6,21 @@ TOP = Path(__file__).parents[2]
 sys.dont_write_bytecode = True
 sys.path.insert(0, str(TOP / "tools"))
 
+from serde_derive.attributes import DEFAULT  # noqa: E402
 from serde_derive.module import read  # noqa: E402
 from serde_derive.names import name_item  # noqa: E402
 
+WHOLE = "by the struct"
+
 
 def shapes_of(files):
-    """The structs and enums of these files, by their names, with the names that are sent."""
+    """The structs and enums of these files, by their names, with the names that are sent. A field that has a default by
+    its struct's attribute has `default` there as `WHOLE`."""
     shapes = {item.name: item for file in files for item in read(Path(file).read_text(encoding="utf-8")).items}
     for item in shapes.values():
+        if "default" in item.serde:
+            for field in item.fields():
+                field.serde.setdefault("default", WHOLE)
         name_item(item)
     return shapes
 
@@ -21,3 +28,8 @@ def shapes_of(files):
 def own(kind):
     """The name of a type of one's own, without its path."""
     return kind.name.split("::")[-1]
+
+
+def default_variant(item):
+    """The index of the variant that an enum's Default is."""
+    return next(index for index, variant in enumerate(item.variants) if DEFAULT in variant.head)

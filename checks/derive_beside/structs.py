@@ -1,9 +1,9 @@
 """How structs are read."""
 from leaves import Leaves
 from lines import ALIKE, BOXED, CLOSED, FLAT, NAMES, ORDER, PLACES, TEXTS
-from shapes import own
+from shapes import WHOLE, default_variant, own
 from source import Refused, counted, one_of, seen, unexpected, visited
-from trees import KINDS, NONE, UNIT
+from trees import EMPTY, KINDS, NONE, UNIT, tagged
 
 
 class Structs(Leaves):
@@ -12,6 +12,8 @@ class Structs(Leaves):
     def struct(self, item, source):
         """A struct."""
         data = item.data
+        if item.transparent():
+            return self.read(data.fields[0].type, source)
         readers = {"Unit": self.unit_struct, "Newtype": self.newtype_struct, "Tuple": self.tuple_struct}
         if data.style in readers:
             return "struct", item.wire, readers[data.style](item, source)
@@ -68,12 +70,12 @@ class Structs(Leaves):
         for place, field in enumerate(fields):
             if place < len(items):
                 values.append((field.wire, self.read(field.type, source.of(items[place]))))
-            elif "default" in field.serde:
-                values.append((field.wire, default(field.type)))
+            elif field.serde.get("default", WHOLE) != WHOLE:
+                values.append((field.wire, self.default(field.type)))
             else:
                 raise Refused(f"invalid length {place}, expected {expecting} with {counted(len(fields))}")
         self.end(source, len(items), len(fields), too_many)
-        return tuple(values)
+        return sent(fields, values)
 
     def fields(self, fields, source, entries, closed, before=()):
         """The fields out of entries; `before` are other names that ours knows."""
@@ -86,8 +88,8 @@ class Structs(Leaves):
                 raise Refused(f"duplicate field `{name}`")
             if name is not None:
                 values[name] = self.read(kind_of(fields, name), source.of(tree))
-        return tuple((field.wire, values[field.wire] if field.wire in values else self.missing(field))
-                     for field in fields)
+        return sent(fields, [(field.wire, values[field.wire] if field.wire in values else self.missing(field))
+                             for field in fields])
 
     def field_name(self, fields, source, closed, before):
         """The field that a key names, or none that is known."""
@@ -140,7 +142,7 @@ class Structs(Leaves):
             value = self.missing(field) if place is None else self.read(field.type, source.of(left.pop(place)[2]))
             values.append((field.wire, value))
         self.check_left(names, source, left, closed, before)
-        return tuple(values)
+        return sent(fields, values)
 
     def check_left(self, names, source, left, closed, before=()):
         """Refuses what may not be left of entries, each with its name."""
@@ -153,13 +155,46 @@ class Structs(Leaves):
     def missing(self, field):
         """What is read where a field has no entry."""
         if "default" in field.serde:
-            return default(field.type)
+            return self.default(field.type)
         kind = field.type
-        while kind.name == "Box" and BOXED not in self.on:
-            kind = kind.arguments[0]
+        while BOXED not in self.on and self.around(kind):
+            kind = self.around(kind)
         if kind.name == "Option":
             return NONE
         raise Refused(f"missing field `{field.wire}`")
+
+    def around(self, kind):
+        """What a type is read as where it adds nothing: what a Box or a transparent struct holds, else none."""
+        if kind.name == "Box":
+            return kind.arguments[0]
+        item = self.shapes.get(own(kind))
+        return item.data.fields[0].type if item and item.transparent() else None
+
+    def default(self, kind):
+        """The default of a type."""
+        made = {"bool": ("bool", False), "String": ("str", ""), "Option": NONE, "Vec": ("seq", ()), "BTreeMap": ("map", ())}
+        if kind.name in KINDS:
+            return "num", kind.name, 0
+        return made[kind.name] if kind.name in made else self.own_default(self.shapes[own(kind)])
+
+    def own_default(self, item):
+        """The default of a struct or an enum."""
+        if item.variants:
+            index = default_variant(item)
+            variant = item.variants[index]
+            if "tag" in item.serde:
+                return tagged(item.wire, variant, item.serde["tag"])
+            return "enum", item.wire, index, variant.wire, ("Unit",)
+        fields = self.flat_fields(item)
+        values = [self.default(field.type) for field in fields]
+        if item.transparent():
+            return values[0]
+        entries = [(field.wire, value) for field, value in zip(fields, values)]
+        if item.flattens():
+            return "map", tuple((("str", name), value) for name, value in entries)
+        data = {"Unit": ("Unit",), "Struct": ("Fields", sent(fields, entries)), "Newtype": ("NewType", *values),
+                "Tuple": ("Tuple", tuple(values))}
+        return "struct", item.wire, data[item.data.style]
 
     # A struct with fields of others.
 
@@ -241,7 +276,6 @@ def place_of(entries, name):
     return next((place for place, (found, _, _) in enumerate(entries) if found == name), None)
 
 
-def default(kind):
-    """What is read for a field that may be missing."""
-    made = {"bool": ("bool", False), "String": ("str", ""), "Option": NONE, "Vec": ("seq", ()), "BTreeMap": ("map", ())}
-    return ("num", kind.name, 0) if kind.name in KINDS else made[kind.name]
+def sent(fields, values):
+    """The fields that are sent again: all but the empty ones that are left out."""
+    return tuple(entry for field, entry in zip(fields, values) if not (field.skips and entry[1] in EMPTY))

@@ -7,6 +7,7 @@ data), where data is ("Unit",), ("NewType", tree), ("Tuple", items) or ("Fields"
 BITS = [8, 16, 32, 64, 128]
 KINDS = [sign + str(bits) for bits in BITS for sign in "iu"]
 UNIT, NONE = ("()",), ("none",)
+EMPTY = (NONE, ("str", ""), ("seq", ()), ("map", ()))
 
 
 def bounds(kind):
@@ -19,6 +20,11 @@ def fits(n, kind):
     """Whether a number is one of this kind."""
     least, greatest = bounds(kind)
     return least <= n <= greatest
+
+
+def tagged(name, variant, tag, *fields):
+    """A variant that is sent as a struct of this name, whose first field names it."""
+    return "struct", name, ("Fields", ((tag, ("str", variant.wire)), *fields))
 
 
 def quoted(text):

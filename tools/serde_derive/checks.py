@@ -14,6 +14,7 @@ NO_VARIANTS = NO_FIELDS | {"the_row", "the_data", "TheLaws", "TheVariants"}
 NOT_TYPES = {*TAKEN, *WORDS, *SEEN, *LEAVES, *CRATES, *NO_FIELDS, "str", "f32", "f64", "tuple", "Lib", "Prim", "Self",
              "TheOwn", "TheVariants", "TheBound", "TheImpl", "TheLinks", "TheLaws"}
 MOST_WORK = 1_000_000
+MOST_SKIPPED = 64  # code counts the fields that are sent by calls in calls
 VALUES = {"alloc", "serializer", "fields", "from", "inside", "parts", "access", "variant", "tag"}
 
 
@@ -51,6 +52,8 @@ def check_attributes(item: Item) -> Iterator[Refused]:
         reasons.append("serde's `flatten` is covered in structs with named fields and without `deny_unknown_fields`")
     if any("flatten" in f.serde and len(f.serde) > 1 for f in item.fields()):
         reasons.append("such attributes don't go together: `flatten` stands alone")
+    if any(sum("skip_serializing_if" in f.serde for f in data.fields) > MOST_SKIPPED for data in item.parts()):
+        reasons.append(f"more than {MOST_SKIPPED} fields that may be left out are not covered: put some into a struct of their own")
     if item.flattens() and any("skip_serializing_if" in f.serde for f in item.fields()):
         reasons.append("serde's `skip_serializing_if` is not covered beside `flatten`: name the fields")
     if item.sort == "struct":

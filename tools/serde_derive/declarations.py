@@ -222,10 +222,11 @@ class Item(Named):
         return [f for f in self.sent_fields() if f.skips and not f.missing]
 
     def comes_back(self) -> bool:
-        """Whether RoundTrip is written. A value of an untagged enum may be read as another variant's,
-        where two take trees of one class, and not each of a length of its own."""
+        """Whether RoundTrip is written: not where what it holds doesn't come back. A value of an untagged enum may be
+        read as another variant's, where two take trees of one class, and not each of a length of its own."""
         held = [v.held() for v in self.variants] if "untagged" in self.serde else []
-        return self.derives_all() and not self.lost() and all(one.takes() for one in held) and all(
+        kept = not self.lost() and not any(own.astray for own in self.owns())
+        return self.derives_all() and kept and all(one.takes() for one in held) and all(
             one.is_apart(other) for one, other in combinations(held, 2))
 
     def comes_back_from_cbor(self) -> bool:

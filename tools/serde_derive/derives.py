@@ -1,5 +1,5 @@
 """Which derives Rattle writes for what a type holds."""
-from typing import Dict, Iterator
+from typing import Dict, Iterator, List, Set
 
 from .attributes import CRATES, DEFAULT, SERDE, no_rule
 from .declarations import Item, Refused
@@ -19,45 +19,48 @@ WHY = {
 
 def lacking(t: Type, trait: str, items: Dict[str, Item], file: File) -> Iterator[str]:
     """The types in a field's type that have no such trait."""
-    if t.name in IN_MEMORY and trait in WHY:
+    mine = items.get(t.name)
+    replaced = trait == "Default" and mine and mine.defaults and trait not in mine.derives
+    if (t.name in IN_MEMORY and trait in WHY) or replaced:
         yield f"`derive({trait})` is not covered beside `{t.rust()}`, {WHY[trait]}"
-    elif t.name in items:
-        if trait not in items[t.name].derives and (trait, t.name) not in file.impls:
+    elif mine:
+        if trait not in mine.derives and (trait, t.name) not in file.impls:
             yield f"`{t.name}` does not derive {trait}, as what holds it does: derive it there too"
     elif trait != "Default" or t.name != "Option":
         for argument in t.arguments:
             yield from lacking(argument, trait, items, file)
 
 
-def has_absent(t: Type, items: Dict[str, Item]) -> bool:
-    """Whether a value of the type is read where a field is missing: the one of its Default."""
-    mine = items.get(t.name)
-    return t.name in DEFAULTS or bool(mine and mine.defaults and (
-        mine.variants or all(has_absent(f.type, items) for f in mine.data.fields)))
+def takes_memory(t: Type, holding: Set[str]) -> bool:
+    """Whether the value of its Default takes an allocator; of this file's types those that hold such values do."""
+    return t.name in IN_MEMORY | holding or (t.name != "Option" and any(takes_memory(a, holding) for a in t.arguments))
 
 
-def takes_memory(t: Type, items: Dict[str, Item]) -> bool:
-    """Whether the value of its Default takes an allocator."""
-    if t.name in items:
-        mine = items[t.name]
-        return not mine.variants and any(takes_memory(f.type, items) for f in mine.data.fields)
-    return t.name in IN_MEMORY or (t.name != "Option" and any(takes_memory(a, items) for a in t.arguments))
+def settle_defaults(ordered: List[Item], items: Dict[str, Item], file: File) -> None:
+    """Settles of each item, after those that it holds, whether Absent is written, and whether in place of a Default that
+    would take an allocator. Where its fields are read as their defaults, a type of another file has to have Absent."""
+    valued, holding = set(DEFAULTS), set()
+    for item in ordered:
+        types = [f.type for f in item.data.fields]
+        elsewhere = {t.name for t in types if t.home and t.name not in items and "default" in item.serde}
+        if any(takes_memory(t, holding) for t in types):
+            holding.add(item.name)
+        if item.defaults and {t.name for t in types} <= valued | elsewhere:
+            valued.add(item.name)
+            settle_default(item, item.name in holding, file)
 
 
-def settle_default(item: Item, items: Dict[str, Item], file: File) -> None:
-    """Settles whether Absent is written, and whether in place of a Default that would take an allocator."""
-    own = Type(item.name)
-    item.absent = item.defaults and has_absent(own, items)
-    if item.absent and takes_memory(own, items):
+def settle_default(item: Item, takes: bool, file: File) -> None:
+    """Settles the same of an item whose Default is known, and takes an allocator or not."""
+    item.absent = takes or "Deserialize" in item.derives
+    if takes:
         item.derives.remove("Default")
         file.notes.append((item.line, f"written as `Absent`: `derive(Default)` on `{item.name}`, whose value takes an allocator"))
-    else:
-        item.absent &= "Deserialize" in item.derives
 
 
 def check_missing(item: Item, items: Dict[str, Item]) -> None:
-    """Refuses a field that may be missing where there is no value for it."""
-    for where, f in placed(item):
+    """Refuses a field that may be missing, and is read, where there is no value for it."""
+    for where, f in placed(item) if "Deserialize" in item.derives else ():
         mine = items.get(f.type.name)
         if "default" not in f.serde or f.type.name in DEFAULTS:
             continue

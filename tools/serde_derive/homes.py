@@ -216,14 +216,18 @@ class Homes:
         lacking = (needed | ({"PartialEq", "Eq"} if holder.derives_all() else set())) - set(part.derives)
         if not part.covered:
             return Type(name, home=self.here, declared=name)
-        if part.derives_all() and not part.comes_back() and holder.derives_all() and "untagged" not in holder.serde:
-            raise ValueError(f"`{name}` is untagged and does not come back, so what holds it derives no Eq")
+        astray = part.derives_all() and not part.comes_back()
+        if astray and holder.derives_all() and "untagged" not in holder.serde:
+            raise ValueError(
+                f"`{name}` does not come back, as `{part.lost()[0].name}` may be left out: give that `default` too"
+                if part.lost() else f"`{name}` is untagged and does not come back, so what holds it derives no Eq")
         if lacking:
             raise ValueError(f"`{name}` does not derive {', '.join(sorted(lacking))}, as what holds it does: derive that too")
         law = ("records", "map_takes" if part.flattens() else "struct_takes")
         self.known(name, self.here, name)
-        return Type(name, home=self.here, declared=name, plain=not part.asked(), lost=not part.comes_back_from_cbor(),
-                    null=part.may_be_null(), record=law if part.data.named and not part.transparent() else None)
+        return Type(name, home=self.here, declared=name, plain=not part.asked(), astray=astray,
+                    lost=not part.comes_back_from_cbor(), null=part.may_be_null(),
+                    record=law if part.data.named and not part.transparent() else None)
 
     def own(self, name: str) -> Type:
         """An own type of another file."""

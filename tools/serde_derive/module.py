@@ -5,7 +5,7 @@ from typing import Dict, Iterator, List, Optional, Set, Tuple, Union
 from .attributes import doc_line
 from .checks import check, check_work
 from .declarations import Item, Refusals, Refused
-from .derives import check_derives, check_missing, settle_default
+from .derives import check_derives, check_missing, settle_defaults
 from .enums import EnumWriter
 from .files import File, Reader
 from .homes import Homes
@@ -94,8 +94,7 @@ def settled(file: File, homes: Homes) -> Dict[str, Writer]:
     for item in file.items:
         tried(item, refused, name_item)
     homes.settle()
-    for item in file.items:
-        settle_default(item, homes.items, file)
+    settle_defaults(list(homes.ordered()), homes.items, file)
     for item in file.items:
         tried(item, refused, lambda item: check_missing(item, homes.items))
     for item in file.items:
@@ -161,7 +160,7 @@ def module(source: str, name: str, crate: str, place: str, cbor: bool = False,
     homes = Homes(crate, place, file)
     writers = settled(file, homes)
     if notes is not None:
-        notes += file.notes + [(item.line, f"no RoundTrip is written for `{item.name}`: `{f.name}` may be left out, and is not read"
+        notes += sorted(file.notes) + [(item.line, f"no RoundTrip is written for `{item.name}`: `{f.name}` may be left out, and is not read"
                    " where it is missing: give it `default` too") for item in file.items if item.derives_all()
                   for f in item.lost()[:1]]
     texts = [text for item in file.items for text in texts_of(item, writers[item.name], cbor)]

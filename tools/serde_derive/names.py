@@ -44,11 +44,11 @@ def name_fields(data: Data, case: Optional[str]) -> None:
 
 def check_skipped(f: Field, data: Data) -> None:
     """Refuses a test of what is left out that isn't the one of the field's type."""
-    test = f.serde["skip_serializing_if"].replace(" ", "")
+    test = re.sub(r"^(?:::)?(?:std|core|alloc)::(?:\w+::)+(?=[A-Z])", "", f.serde["skip_serializing_if"].replace(" ", ""))
     known = SKIPS.get(f.type.name)
     if not data.named:
         raise Refused(f.line, "serde's `skip_serializing_if` is covered in fields with names: give them names", f.name)
-    if not known or not (test == known or test.endswith(f"::{known}") or (test, f.type.name) == ("str::is_empty", "String")):
+    if not known or (test != known and (test, f.type.name) != ("str::is_empty", "String")):
         raise Refused(f.line, f"serde's `skip_serializing_if` so is not covered: {', '.join(SKIPS.values())} are, each on a"
                       " field of its type", f.name)
 

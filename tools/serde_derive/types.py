@@ -88,7 +88,7 @@ class Type:
 
     An own type has a `home`, the path of the specifications of the module that declares it under
     the name `declared`. It is `plain` where contracts take each of its values for one that exists,
-    and `lost` where its values don't come back from CBOR, `null` where it may be read of null.
+    `astray` where its values don't come back, `lost` where they don't from CBOR, `null` where it may be read of null.
     One of the same file that is read as a struct or a map has a `record`, the law that it takes no others.
     """
 
@@ -97,6 +97,7 @@ class Type:
     home: str = ""
     declared: str = ""
     plain: bool = False
+    astray: bool = False
     lost: bool = False
     null: bool = False
     record: Optional[Tuple[str, str]] = None
