@@ -23,7 +23,7 @@ pub struct StructByte9 { pub f0: u8, pub f1: u8, pub f2: u8, pub f3: u8, pub f4:
 
 #[derive(Serialize, Deserialize)]
 #[serde(deny_unknown_fields)]
-pub struct Closed6 { pub f0: String, pub f1: u8, pub f2: Option<u8>, pub f3: bool, pub f4: i32, pub f5: Vec<u8> }
+pub struct SkippedClosed6 { #[serde(skip_serializing_if = "Option::is_none")] pub f0: Option<String>, #[serde(default, skip_serializing_if = "Vec::is_empty")] pub f1: Vec<u8>, #[serde(default, skip_serializing_if = "String::is_empty")] pub f2: String, #[serde(default, skip_serializing_if = "BTreeMap::is_empty")] pub f3: BTreeMap<String, u8>, pub f4: i32, pub f5: u8 }
 
 #[derive(Serialize)]
 pub struct Sent20 { pub f0: String, pub f1: u8, pub f2: Option<u8>, pub f3: bool, pub f4: i32, pub f5: Vec<u8>, pub f6: char, pub f7: u64, pub f8: String, pub f9: u8, pub f10: Option<u8>, pub f11: bool, pub f12: i32, pub f13: Vec<u8>, pub f14: char, pub f15: u64, pub f16: String, pub f17: u8, pub f18: Option<u8>, pub f19: bool }
@@ -61,7 +61,28 @@ pub enum Untagged4 { V0(bool), V1(i64), V2(String), V3(Vec<u8>) }
 pub enum UntaggedPlaces { A(u8, String), B(bool, i32, u8), C(String) }
 
 #[derive(PartialEq, Eq, Serialize, Deserialize)]
-pub struct Aaabcdefghijklmnopqrstuvwxyzabcdefghijkl { pub f0: String, pub f1: u8, pub f2: Option<u8> }
+pub struct Skipped4 { #[serde(skip_serializing_if = "Option::is_none")] pub f0: Option<String>, #[serde(default, skip_serializing_if = "Vec::is_empty")] pub f1: Vec<u8>, #[serde(default, skip_serializing_if = "String::is_empty")] pub f2: String, #[serde(default, skip_serializing_if = "BTreeMap::is_empty")] pub f3: BTreeMap<String, u8> }
+
+#[derive(PartialEq, Eq, Serialize, Deserialize)]
+pub enum SkippedInVariant2 { A { #[serde(skip_serializing_if = "Option::is_none")] f0: Option<String>, #[serde(default, skip_serializing_if = "Vec::is_empty")] f1: Vec<u8> }, B(u8) }
+
+#[derive(PartialEq, Eq, Serialize, Deserialize)]
+#[serde(tag = "kind")]
+pub enum SkippedBesideTag2 { A { #[serde(skip_serializing_if = "Option::is_none")] f0: Option<String>, #[serde(default, skip_serializing_if = "Vec::is_empty")] f1: Vec<u8> }, B }
+
+#[derive(Default, PartialEq, Eq, Serialize, Deserialize)]
+pub struct Inside { pub x: u8, pub y: Option<i32> }
+
+#[derive(Default, PartialEq, Eq, Serialize, Deserialize)]
+pub enum Level { #[default] Low, High(u8) }
+
+#[derive(Default, PartialEq, Eq, Serialize, Deserialize)]
+#[serde(default)]
+pub struct DefaultWhole4 { pub f0: u8, pub f1: String, pub f2: Inside, pub f3: Level }
+
+#[derive(PartialEq, Eq, Serialize, Deserialize)]
+#[serde(transparent)]
+pub struct Transparent3(pub Vec<String>);
 
 #[derive(PartialEq, Eq, Serialize, Deserialize)]
 pub struct NamesOfFields20 { pub aaabcdefghijklmnopqr: String, pub baabcdefghijklmnopqr: u8, pub caabcdefghijklmnopqr: Option<u8>, pub daabcdefghijklmnopqr: bool, pub eaabcdefghijklmnopqr: i32, pub faabcdefghijklmnopqr: Vec<u8> }

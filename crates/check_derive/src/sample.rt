@@ -4,6 +4,8 @@
 
 ghost use Rattle.std.specs.Prelude.{◌≡◌, ◌∷◌, [], ℕ, ℤ, Bool, Option, None, Some, IsSome, codes};
 ghost use Rattle.std.specs.Prelude.{string_bytes, refl, ⊤};
+ghost use Rattle.std.specs.Cmp.Lexicographic.{texts_ties};
+ghost use Rattle.std.specs.String.{string_cmp_total};
 ghost use Rattle.content_tree.specs.Values.Text.{static_name};
 ghost use Rattle.content_tree.specs.Errors.Cause.{custom};
 ghost use Rattle.content_ser.specs.Scripts.Sends.{Sends};
@@ -14,7 +16,8 @@ ghost use Rattle.content_ser.specs.Scripts.Own.{newtype_variant_script, tuple_st
 ghost use Rattle.content_ser.specs.Scripts.Own.{tuple_variant_script, struct_script};
 ghost use Rattle.content_ser.specs.Scripts.Own.{struct_variant_script};
 ghost use Rattle.content_ser.specs.Laws.StandardScripts.{leaf_lawful, option_lawful, seq_lawful};
-ghost use Rattle.content_ser.specs.Laws.StandardScripts.{tuple_lawful, element_fits, end_fits};
+ghost use Rattle.content_ser.specs.Laws.StandardScripts.{map_lawful, tuple_lawful, element_fits};
+ghost use Rattle.content_ser.specs.Laws.StandardScripts.{end_fits};
 ghost use Rattle.content_ser.specs.Laws.OwnScripts.{field_fits, struct_end_fits, tuple_field_fits};
 ghost use Rattle.content_ser.specs.Laws.OwnScripts.{tuple_end_fits, unit_struct_lawful};
 ghost use Rattle.content_ser.specs.Laws.OwnScripts.{unit_variant_lawful, newtype_variant_lawful};
@@ -40,6 +43,7 @@ ghost use Rattle.content_de.specs.Reads.Own.{struct_refusal, StructGives, struct
 ghost use Rattle.content_de.specs.Reads.Own.{StructVariantGives};
 ghost use Rattle.serde_content.specs.Literals.{name, row_then, row_or_then, RowThen, RowOrThen};
 ghost use Rattle.serde_content.specs.Literals.{others_left};
+ghost use Rattle.serde_content.specs.Skips.{fields_less, field_unless};
 ghost use Rattle.serde_content.specs.Variants.{index_among, variants};
 ghost use Rattle.serde_content.specs.RoundTrip.{ComesBack, CoercionKeeps};
 ghost use Rattle.serde_content.specs.Laws.Leaves.{heedless_keeps, natural_keeps, integer_keeps};
@@ -47,6 +51,7 @@ ghost use Rattle.serde_content.specs.Laws.Leaves.{bool_back, char_back, text_bac
 ghost use Rattle.serde_content.specs.Laws.Leaves.{u64_back, i32_back, i64_back};
 ghost use Rattle.serde_content.specs.Laws.Holders.{seen_back, seen_keeps, option_back};
 ghost use Rattle.serde_content.specs.Laws.Holders.{option_keeps, seq_back, seq_keeps};
+ghost use Rattle.serde_content.specs.Laws.Maps.{map_back, map_keeps};
 ghost use Rattle.serde_content.specs.Laws.Spelled.{leaf_such};
 ghost use Rattle.serde_content.specs.Laws.Series.{both_hold, tuple_field_back, tuple_struct_back};
 ghost use Rattle.serde_content.specs.Laws.Series.{parts_end, part_keeps, tuple_struct_keeps};
@@ -55,6 +60,9 @@ ghost use Rattle.serde_content.specs.Laws.Records.{struct_back, struct_keeps};
 ghost use Rattle.serde_content.specs.Laws.ByName.{by_name_back, named_back, named_or_back};
 ghost use Rattle.serde_content.specs.Laws.ByName.{skipped_back, by_name_keeps, named_keeps};
 ghost use Rattle.serde_content.specs.Laws.ByName.{named_or_keeps, skipped_keeps};
+ghost use Rattle.serde_content.specs.Laws.Skips.{field_unless_fits, keyed_unless_back};
+ghost use Rattle.serde_content.specs.Laws.Skips.{keyed_skipped_back, keyed_named, none_alike};
+ghost use Rattle.serde_content.specs.Laws.Skips.{no_items_alike};
 ghost use Rattle.serde_content.specs.Laws.Flattened.{flattened_script, flattened_first};
 ghost use Rattle.serde_content.specs.Laws.Flattened.{flattened_fits, flattened_end_fits};
 ghost use Rattle.serde_content.specs.Laws.Flattened.{flattened_lawful, flattened_refusal};
@@ -73,8 +81,12 @@ ghost use Rattle.serde_content.specs.Laws.Variants.{tuple_variant_back, tuple_va
 ghost use Rattle.serde_content.specs.Laws.Variants.{struct_variant_back, struct_variant_keeps};
 ghost use Rattle.std.specs.declared.alloc.Global.{Global};
 ghost use Rattle.std.specs.declared.string.String.{String};
+ghost use Rattle.std.specs.declared.vec.Vec.{Vec};
+ghost use Rattle.std.specs.declared.collections.BTreeMap.{BTreeMap};
 ghost use Rattle.content_tree.specs.Values.Ranges as kind;
 ghost use Rattle.content_tree.specs.Values.Tree as tree;
+ghost use Rattle.check_derive.specs.declared.sample.Inside.{Inside};
+ghost use Rattle.check_derive.specs.declared.sample.Level.{Level};
 ghost use Rattle.check_derive.specs.declared.sample.Deeper.TheVariants as deeper;
 ghost use Rattle.check_derive.specs.declared.sample.ExternalMixed4.TheVariants as external_mixed4;
 ghost use Rattle.check_derive.specs.declared.sample.ExternalUnits4.TheVariants as external_units4;
@@ -83,21 +95,25 @@ ghost use Rattle.check_derive.specs.declared.sample.InternalMixed2.TheVariants a
 ghost use Rattle.check_derive.specs.declared.sample.AdjacentOne2.TheVariants as adjacent_one2;
 ghost use Rattle.check_derive.specs.declared.sample.Untagged4.TheVariants as untagged4;
 ghost use Rattle.check_derive.specs.declared.sample.UntaggedPlaces.TheVariants as untagged_places;
+ghost use Rattle.check_derive.specs.declared.sample.SkippedInVariant2.TheVariants as skipped_in_variant2;
+ghost use Rattle.check_derive.specs.declared.sample.SkippedBesideTag2.TheVariants as skipped_beside_tag2;
+ghost use Rattle.check_derive.specs.declared.sample.Level.TheVariants as level;
 ghost use Rattle.check_derive.specs.declared.sample.NamesOfVariants40.TheVariants as names_of_variants40;
 ghost use Rattle.check_derive.specs.declared.sample.NameOfTag20.TheVariants as name_of_tag20;
 ghost use Rattle.check_derive.specs.declared.sample.WordInVariantRecord.TheVariants as word_in_variant_record;
 
 use serde_content::de::{Deserialize, FieldsByName, VariantAccess};
 use serde_content::derive_support::{
-    Names, OneOfFour, OneOfThree, OthersRefused, OthersSkipped, PartsEnd, ReadField, ReadFieldOr,
-    ReadFields, ReadPart, ReadParts, ReadStruct, SendElement, SendEnd, SendEntry, SendField,
-    SendOpen, SendPart, SendTag, TaggedVariants, Variants, first_of_four, first_of_three,
-    no_such_variant, read_adjacent, read_enum, read_flattened, read_struct, read_tagged, send_row,
-    variant_index,
+    Absent, Names, OneOfFour, OneOfThree, OthersRefused, OthersSkipped, PartsEnd, ReadField,
+    ReadFieldOr, ReadFields, ReadPart, ReadParts, ReadStruct, SendElement, SendEnd, SendEntry,
+    SendField, SendFieldUnless, SendOpen, SendPart, SendTag, Skip, TaggedVariants, Variants,
+    count_unless, first_of_four, first_of_three, no_such_variant, read_adjacent, read_enum,
+    read_flattened, read_struct, read_tagged, send_row, variant_index,
 };
 use serde_content::ser::{Call, Parts, Serialize, Serializer};
 use serde_content::{Deserializer, Result, RoundTrip};
 use std::alloc::Global;
+use std::collections::BTreeMap;
 
 #[derive(Drop, PartialEq, Eq)]
 pub struct Own {
@@ -1140,20 +1156,20 @@ impl<'de> RoundTrip<'de> for StructByte9 {
 }
 
 #[derive(Drop)]
-pub struct Closed6 {
-    pub f0: String,
-    pub f1: u8,
-    pub f2: Option<u8>,
-    pub f3: bool,
+pub struct SkippedClosed6 {
+    pub f0: Option<String>,
+    pub f1: Vec<u8>,
+    pub f2: String,
+    pub f3: BTreeMap<String, u8>,
     pub f4: i32,
-    pub f5: Vec<u8>,
+    pub f5: u8,
 }
 
 /// The names of its fields.
 #[derive(Drop)]
-struct FieldsOfClosed6;
+struct FieldsOfSkippedClosed6;
 
-impl Names for FieldsOfClosed6 {
+impl Names for FieldsOfSkippedClosed6 {
     ghost names = { name "f0" ∷ name "f1" ∷ name "f2" ∷ name "f3" ∷ name "f4" ∷
         name "f5" ∷ [] };
 
@@ -1163,54 +1179,83 @@ impl Names for FieldsOfClosed6 {
     }
 }
 
-type Field1OfClosed6 = ReadField<FieldsOfClosed6, 0, String, Field2OfClosed6>;
+type Field1OfSkippedClosed6 = ReadFieldOr<
+    FieldsOfSkippedClosed6,
+    0,
+    Option<String>,
+    Field2OfSkippedClosed6,
+>;
 
-type Field2OfClosed6 = ReadField<FieldsOfClosed6, 1, u8, Field3OfClosed6>;
+type Field2OfSkippedClosed6 = ReadFieldOr<
+    FieldsOfSkippedClosed6,
+    1,
+    Vec<u8>,
+    Field3OfSkippedClosed6,
+>;
 
-type Field3OfClosed6 = ReadFieldOr<FieldsOfClosed6, 2, Option<u8>, Field4OfClosed6>;
+type Field3OfSkippedClosed6 = ReadFieldOr<
+    FieldsOfSkippedClosed6,
+    2,
+    String,
+    Field4OfSkippedClosed6,
+>;
 
-type Field4OfClosed6 = ReadField<FieldsOfClosed6, 3, bool, Field5OfClosed6>;
+type Field4OfSkippedClosed6 = ReadFieldOr<
+    FieldsOfSkippedClosed6,
+    3,
+    BTreeMap<String, u8>,
+    Field5OfSkippedClosed6,
+>;
 
-type Field5OfClosed6 = ReadField<FieldsOfClosed6, 4, i32, Field6OfClosed6>;
+type Field5OfSkippedClosed6 = ReadField<FieldsOfSkippedClosed6, 4, i32, Field6OfSkippedClosed6>;
 
-type Field6OfClosed6 = ReadField<FieldsOfClosed6, 5, Vec<u8>, OthersRefused<FieldsOfClosed6>>;
+type Field6OfSkippedClosed6 = ReadField<
+    FieldsOfSkippedClosed6,
+    5,
+    u8,
+    OthersRefused<FieldsOfSkippedClosed6>,
+>;
 
-impl<'de> ReadStruct<'de> for Closed6 {
-    ghost name = { name "Closed6" };
+impl<'de> ReadStruct<'de> for SkippedClosed6 {
+    ghost name = { name "SkippedClosed6" };
 
-    ghost refusal = { row_then (name "f0") (⟦<String as Deserialize<'de>>⟧.refusal)
-        (row_then (name "f1") (⟦<u8 as Deserialize<'de>>⟧.refusal)
-        (row_or_then (name "f2") (⟦<Option<u8> as Deserialize<'de>>⟧.refusal)
-        (row_then (name "f3") (⟦<bool as Deserialize<'de>>⟧.refusal)
+    ghost refusal = { row_or_then (name "f0")
+        (⟦<Option<String> as Deserialize<'de>>⟧.refusal)
+        (row_or_then (name "f1") (⟦<Vec<u8> as Deserialize<'de>>⟧.refusal)
+        (row_or_then (name "f2") (⟦<String as Deserialize<'de>>⟧.refusal)
+        (row_or_then (name "f3") (⟦<BTreeMap<String, u8> as Deserialize<'de>>⟧.refusal)
         (row_then (name "f4") (⟦<i32 as Deserialize<'de>>⟧.refusal)
-        (row_then (name "f5") (⟦<Vec<u8> as Deserialize<'de>>⟧.refusal)
+        (row_then (name "f5") (⟦<u8 as Deserialize<'de>>⟧.refusal)
         (no_others (name "f0" ∷ name "f1" ∷ name "f2" ∷ name "f3" ∷ name "f4" ∷ name "f5" ∷
         []))))))) };
 
     ghost gives = { λ z.
-        (RowThen (name "f0") (⟦<String as Deserialize<'de>>⟧.gives) z.f0
-        (RowThen (name "f1") (⟦<u8 as Deserialize<'de>>⟧.gives) z.f1
-        (RowOrThen (name "f2") (λ (x : (Option ℕ)). x ≡ None)
-        (⟦<Option<u8> as Deserialize<'de>>⟧.gives) z.f2
-        (RowThen (name "f3") (⟦<bool as Deserialize<'de>>⟧.gives) z.f3
+        (RowOrThen (name "f0") (λ (x : (Option (String Global))). x ≡ None)
+        (⟦<Option<String> as Deserialize<'de>>⟧.gives) z.f0
+        (RowOrThen (name "f1") (λ (x : (Vec ℕ Global)). x.items ≡ [])
+        (⟦<Vec<u8> as Deserialize<'de>>⟧.gives) z.f1
+        (RowOrThen (name "f2") (λ (x : (String Global)). string_bytes x ≡ [])
+        (⟦<String as Deserialize<'de>>⟧.gives) z.f2
+        (RowOrThen (name "f3") (λ (x : (BTreeMap (String Global) ℕ Global)). x.entries ≡ [])
+        (⟦<BTreeMap<String, u8> as Deserialize<'de>>⟧.gives) z.f3
         (RowThen (name "f4") (⟦<i32 as Deserialize<'de>>⟧.gives) z.f4
-        (RowThen (name "f5") (⟦<Vec<u8> as Deserialize<'de>>⟧.gives) z.f5
+        (RowThen (name "f5") (⟦<u8 as Deserialize<'de>>⟧.gives) z.f5
         NoOthers)))))) };
 
     #[tactic(auto, unfolding(serde_content::specs::Literals::name))]
     fn name() -> &'static str {
-        "Closed6"
+        "SkippedClosed6"
     }
 
-    fn read<'n: 'de>(alloc: Global, fields: FieldsByName<'de, 'n>) -> Result<Closed6> {
-        let row: Field1OfClosed6 = ReadFields::read(alloc, fields)?;
-        let ReadField(f0, row, _) = row;
-        let ReadField(f1, row, _) = row;
+    fn read<'n: 'de>(alloc: Global, fields: FieldsByName<'de, 'n>) -> Result<SkippedClosed6> {
+        let row: Field1OfSkippedClosed6 = ReadFields::read(alloc, fields)?;
+        let ReadFieldOr(f0, row, _) = row;
+        let ReadFieldOr(f1, row, _) = row;
         let ReadFieldOr(f2, row, _) = row;
-        let ReadField(f3, row, _) = row;
+        let ReadFieldOr(f3, row, _) = row;
         let ReadField(f4, row, _) = row;
         let ReadField(f5, _, _) = row;
-        Ok(Closed6 {
+        Ok(SkippedClosed6 {
             f0,
             f1,
             f2,
@@ -1221,61 +1266,85 @@ impl<'de> ReadStruct<'de> for Closed6 {
     }
 }
 
-impl Serialize for Closed6 {
-    ghost script = { λ p. struct_script (name "Closed6") 6
-        (field_first (name "f0") (⟦<String as Serialize>⟧.script p.f0)
-        (field_first (name "f1") (⟦<u8 as Serialize>⟧.script p.f1)
-        (field_first (name "f2") (⟦<Option<u8> as Serialize>⟧.script p.f2)
-        (field_first (name "f3") (⟦<bool as Serialize>⟧.script p.f3)
+impl Serialize for SkippedClosed6 {
+    ghost script = { λ p. struct_script (name "SkippedClosed6")
+        (fields_less (⟦<BTreeMap<String, u8> as Skip>⟧.is_empty p.f3)
+        (fields_less (⟦<String as Skip>⟧.is_empty p.f2)
+        (fields_less (⟦<Vec<u8> as Skip>⟧.is_empty p.f1)
+        (fields_less (⟦<Option<String> as Skip>⟧.is_empty p.f0) 6))))
+        (field_unless (⟦<Option<String> as Skip>⟧.is_empty p.f0) (name "f0")
+        (⟦<Option<String> as Serialize>⟧.script p.f0)
+        (field_unless (⟦<Vec<u8> as Skip>⟧.is_empty p.f1) (name "f1")
+        (⟦<Vec<u8> as Serialize>⟧.script p.f1)
+        (field_unless (⟦<String as Skip>⟧.is_empty p.f2) (name "f2")
+        (⟦<String as Serialize>⟧.script p.f2)
+        (field_unless (⟦<BTreeMap<String, u8> as Skip>⟧.is_empty p.f3) (name "f3")
+        (⟦<BTreeMap<String, u8> as Serialize>⟧.script p.f3)
         (field_first (name "f4") (⟦<i32 as Serialize>⟧.script p.f4)
-        (field_first (name "f5") (⟦<Vec<u8> as Serialize>⟧.script p.f5)
+        (field_first (name "f5") (⟦<u8 as Serialize>⟧.script p.f5)
         end_script)))))) };
 
     ghost lawful = { λ p readable. struct_lawful
+        (field_unless_fits _ _ _ _ (⟦<Option<String> as Skip>⟧.is_empty p.f0)
+        (option_lawful (λ x h. leaf_lawful refl) p.f0 readable)
+        (field_unless_fits _ _ _ _ (⟦<Vec<u8> as Skip>⟧.is_empty p.f1)
+        (seq_lawful (λ x h. leaf_lawful refl) p.f1.items readable)
+        (field_unless_fits _ _ _ _ (⟦<String as Skip>⟧.is_empty p.f2) (leaf_lawful refl)
+        (field_unless_fits _ _ _ _ (⟦<BTreeMap<String, u8> as Skip>⟧.is_empty p.f3)
+        (map_lawful (λ x h. leaf_lawful refl) (λ x h. leaf_lawful refl) p.f3.entries
+        readable)
         (field_fits (leaf_lawful refl)
         (field_fits (leaf_lawful refl)
-        (field_fits (option_lawful (λ x h. leaf_lawful refl) p.f2 readable)
-        (field_fits (leaf_lawful refl)
-        (field_fits (leaf_lawful refl)
-        (field_fits (seq_lawful (λ x h. leaf_lawful refl) p.f5.items readable)
         struct_end_fits)))))) };
 
     fn serialize<S: Serializer>(&self, alloc: Global, serializer: &mut S) -> Result<()> {
         let row = SendEnd;
-        let row = SendField(FieldsOfClosed6, 5, &self.f5, row);
-        let row = SendField(FieldsOfClosed6, 4, &self.f4, row);
-        let row = SendField(FieldsOfClosed6, 3, &self.f3, row);
-        let row = SendField(FieldsOfClosed6, 2, &self.f2, row);
-        let row = SendField(FieldsOfClosed6, 1, &self.f1, row);
-        let row = SendField(FieldsOfClosed6, 0, &self.f0, row);
-        let row = SendOpen(Call::Struct(name_closed6(), 6), row);
+        let row = SendField(FieldsOfSkippedClosed6, 5, &self.f5, row);
+        let row = SendField(FieldsOfSkippedClosed6, 4, &self.f4, row);
+        let row = SendFieldUnless(FieldsOfSkippedClosed6, 3, &self.f3, row);
+        let row = SendFieldUnless(FieldsOfSkippedClosed6, 2, &self.f2, row);
+        let row = SendFieldUnless(FieldsOfSkippedClosed6, 1, &self.f1, row);
+        let row = SendFieldUnless(FieldsOfSkippedClosed6, 0, &self.f0, row);
+        let row = SendOpen(
+            Call::Struct(
+                name_skipped_closed6(),
+                count_unless(
+                    &self.f3,
+                    count_unless(&self.f2, count_unless(&self.f1, count_unless(&self.f0, 6))),
+                ),
+            ),
+            row,
+        );
         send_row(alloc, serializer, &row)
     }
 }
 
-impl<'de> Deserialize<'de> for Closed6 {
-    ghost refusal = { struct_refusal (name "Closed6") (read_by_name
-        (row_then (name "f0") (⟦<String as Deserialize<'de>>⟧.refusal)
-        (row_then (name "f1") (⟦<u8 as Deserialize<'de>>⟧.refusal)
-        (row_or_then (name "f2") (⟦<Option<u8> as Deserialize<'de>>⟧.refusal)
-        (row_then (name "f3") (⟦<bool as Deserialize<'de>>⟧.refusal)
+impl<'de> Deserialize<'de> for SkippedClosed6 {
+    ghost refusal = { struct_refusal (name "SkippedClosed6") (read_by_name
+        (row_or_then (name "f0") (⟦<Option<String> as Deserialize<'de>>⟧.refusal)
+        (row_or_then (name "f1") (⟦<Vec<u8> as Deserialize<'de>>⟧.refusal)
+        (row_or_then (name "f2") (⟦<String as Deserialize<'de>>⟧.refusal)
+        (row_or_then (name "f3") (⟦<BTreeMap<String, u8> as Deserialize<'de>>⟧.refusal)
         (row_then (name "f4") (⟦<i32 as Deserialize<'de>>⟧.refusal)
-        (row_then (name "f5") (⟦<Vec<u8> as Deserialize<'de>>⟧.refusal)
+        (row_then (name "f5") (⟦<u8 as Deserialize<'de>>⟧.refusal)
         (no_others (name "f0" ∷ name "f1" ∷ name "f2" ∷ name "f3" ∷ name "f4" ∷ name "f5" ∷
         []))))))))) };
 
-    ghost gives = { λ s p. StructGives (name "Closed6") (ReadByName
-        (RowThen (name "f0") (⟦<String as Deserialize<'de>>⟧.gives) p.f0
-        (RowThen (name "f1") (⟦<u8 as Deserialize<'de>>⟧.gives) p.f1
-        (RowOrThen (name "f2") (λ (x : (Option ℕ)). x ≡ None)
-        (⟦<Option<u8> as Deserialize<'de>>⟧.gives) p.f2
-        (RowThen (name "f3") (⟦<bool as Deserialize<'de>>⟧.gives) p.f3
+    ghost gives = { λ s p. StructGives (name "SkippedClosed6") (ReadByName
+        (RowOrThen (name "f0") (λ (x : (Option (String Global))). x ≡ None)
+        (⟦<Option<String> as Deserialize<'de>>⟧.gives) p.f0
+        (RowOrThen (name "f1") (λ (x : (Vec ℕ Global)). x.items ≡ [])
+        (⟦<Vec<u8> as Deserialize<'de>>⟧.gives) p.f1
+        (RowOrThen (name "f2") (λ (x : (String Global)). string_bytes x ≡ [])
+        (⟦<String as Deserialize<'de>>⟧.gives) p.f2
+        (RowOrThen (name "f3") (λ (x : (BTreeMap (String Global) ℕ Global)). x.entries ≡ [])
+        (⟦<BTreeMap<String, u8> as Deserialize<'de>>⟧.gives) p.f3
         (RowThen (name "f4") (⟦<i32 as Deserialize<'de>>⟧.gives) p.f4
-        (RowThen (name "f5") (⟦<Vec<u8> as Deserialize<'de>>⟧.gives) p.f5
+        (RowThen (name "f5") (⟦<u8 as Deserialize<'de>>⟧.gives) p.f5
         NoOthers))))))) s };
 
-    fn deserialize<'n: 'de>(alloc: Global, from: Deserializer<'de, 'n>) -> Result<Closed6> {
-        read_struct::<FieldsOfClosed6, Self>(alloc, from)
+    fn deserialize<'n: 'de>(alloc: Global, from: Deserializer<'de, 'n>) -> Result<SkippedClosed6> {
+        read_struct::<FieldsOfSkippedClosed6, Self>(alloc, from)
     }
 }
 
@@ -3568,148 +3637,1232 @@ impl<'de> Deserialize<'de> for UntaggedPlaces {
 }
 
 #[derive(Drop, PartialEq, Eq)]
-pub struct Aaabcdefghijklmnopqrstuvwxyzabcdefghijkl {
-    pub f0: String,
-    pub f1: u8,
-    pub f2: Option<u8>,
+pub struct Skipped4 {
+    pub f0: Option<String>,
+    pub f1: Vec<u8>,
+    pub f2: String,
+    pub f3: BTreeMap<String, u8>,
 }
 
 /// The names of its fields.
 #[derive(Drop)]
-struct FieldsOfAaabcdefghijklmnopqrstuvwxyzabcdefghijkl;
+struct FieldsOfSkipped4;
 
-impl Names for FieldsOfAaabcdefghijklmnopqrstuvwxyzabcdefghijkl {
-    ghost names = { name "f0" ∷ name "f1" ∷ name "f2" ∷ [] };
+impl Names for FieldsOfSkipped4 {
+    ghost names = { name "f0" ∷ name "f1" ∷ name "f2" ∷ name "f3" ∷ [] };
 
     #[tactic(auto, unfolding(serde_content::specs::Literals::name))]
     fn names() -> &'static [&'static str] {
-        &["f0", "f1", "f2"]
+        &["f0", "f1", "f2", "f3"]
     }
 }
 
-type Field1OfAaabcdefghijklmnopqrstuvwxyzabcdefghijkl = ReadField<
-    FieldsOfAaabcdefghijklmnopqrstuvwxyzabcdefghijkl,
-    0,
-    String,
-    Field2OfAaabcdefghijklmnopqrstuvwxyzabcdefghijkl,
+type Field1OfSkipped4 = ReadFieldOr<FieldsOfSkipped4, 0, Option<String>, Field2OfSkipped4>;
+
+type Field2OfSkipped4 = ReadFieldOr<FieldsOfSkipped4, 1, Vec<u8>, Field3OfSkipped4>;
+
+type Field3OfSkipped4 = ReadFieldOr<FieldsOfSkipped4, 2, String, Field4OfSkipped4>;
+
+type Field4OfSkipped4 = ReadFieldOr<
+    FieldsOfSkipped4,
+    3,
+    BTreeMap<String, u8>,
+    OthersSkipped<FieldsOfSkipped4>,
 >;
 
-type Field2OfAaabcdefghijklmnopqrstuvwxyzabcdefghijkl = ReadField<
-    FieldsOfAaabcdefghijklmnopqrstuvwxyzabcdefghijkl,
-    1,
-    u8,
-    Field3OfAaabcdefghijklmnopqrstuvwxyzabcdefghijkl,
->;
+impl<'de> ReadStruct<'de> for Skipped4 {
+    ghost name = { name "Skipped4" };
 
-type Field3OfAaabcdefghijklmnopqrstuvwxyzabcdefghijkl = ReadFieldOr<
-    FieldsOfAaabcdefghijklmnopqrstuvwxyzabcdefghijkl,
-    2,
-    Option<u8>,
-    OthersSkipped<FieldsOfAaabcdefghijklmnopqrstuvwxyzabcdefghijkl>,
->;
-
-impl<'de> ReadStruct<'de> for Aaabcdefghijklmnopqrstuvwxyzabcdefghijkl {
-    ghost name = { name "Aaabcdefghijklmnopqrstuvwxyzabcdefghijkl" };
-
-    ghost refusal = { row_then (name "f0") (⟦<String as Deserialize<'de>>⟧.refusal)
-        (row_then (name "f1") (⟦<u8 as Deserialize<'de>>⟧.refusal)
-        (row_or_then (name "f2") (⟦<Option<u8> as Deserialize<'de>>⟧.refusal)
-        (others_left (name "f0" ∷ name "f1" ∷ name "f2" ∷ [])))) };
+    ghost refusal = { row_or_then (name "f0")
+        (⟦<Option<String> as Deserialize<'de>>⟧.refusal)
+        (row_or_then (name "f1") (⟦<Vec<u8> as Deserialize<'de>>⟧.refusal)
+        (row_or_then (name "f2") (⟦<String as Deserialize<'de>>⟧.refusal)
+        (row_or_then (name "f3") (⟦<BTreeMap<String, u8> as Deserialize<'de>>⟧.refusal)
+        (others_left (name "f0" ∷ name "f1" ∷ name "f2" ∷ name "f3" ∷ []))))) };
 
     ghost gives = { λ z.
-        (RowThen (name "f0") (⟦<String as Deserialize<'de>>⟧.gives) z.f0
-        (RowThen (name "f1") (⟦<u8 as Deserialize<'de>>⟧.gives) z.f1
-        (RowOrThen (name "f2") (λ (x : (Option ℕ)). x ≡ None)
-        (⟦<Option<u8> as Deserialize<'de>>⟧.gives) z.f2
-        NoOthers))) };
+        (RowOrThen (name "f0") (λ (x : (Option (String Global))). x ≡ None)
+        (⟦<Option<String> as Deserialize<'de>>⟧.gives) z.f0
+        (RowOrThen (name "f1") (λ (x : (Vec ℕ Global)). x.items ≡ [])
+        (⟦<Vec<u8> as Deserialize<'de>>⟧.gives) z.f1
+        (RowOrThen (name "f2") (λ (x : (String Global)). string_bytes x ≡ [])
+        (⟦<String as Deserialize<'de>>⟧.gives) z.f2
+        (RowOrThen (name "f3") (λ (x : (BTreeMap (String Global) ℕ Global)). x.entries ≡ [])
+        (⟦<BTreeMap<String, u8> as Deserialize<'de>>⟧.gives) z.f3
+        NoOthers)))) };
 
     #[tactic(auto, unfolding(serde_content::specs::Literals::name))]
     fn name() -> &'static str {
-        "Aaabcdefghijklmnopqrstuvwxyzabcdefghijkl"
+        "Skipped4"
     }
 
-    fn read<'n: 'de>(
-        alloc: Global,
-        fields: FieldsByName<'de, 'n>,
-    ) -> Result<Aaabcdefghijklmnopqrstuvwxyzabcdefghijkl> {
-        let row: Field1OfAaabcdefghijklmnopqrstuvwxyzabcdefghijkl = ReadFields::read(
-            alloc, fields,
-        )?;
-        let ReadField(f0, row, _) = row;
-        let ReadField(f1, row, _) = row;
-        let ReadFieldOr(f2, _, _) = row;
-        Ok(Aaabcdefghijklmnopqrstuvwxyzabcdefghijkl { f0, f1, f2 })
+    fn read<'n: 'de>(alloc: Global, fields: FieldsByName<'de, 'n>) -> Result<Skipped4> {
+        let row: Field1OfSkipped4 = ReadFields::read(alloc, fields)?;
+        let ReadFieldOr(f0, row, _) = row;
+        let ReadFieldOr(f1, row, _) = row;
+        let ReadFieldOr(f2, row, _) = row;
+        let ReadFieldOr(f3, _, _) = row;
+        Ok(Skipped4 { f0, f1, f2, f3 })
     }
 }
 
-impl Serialize for Aaabcdefghijklmnopqrstuvwxyzabcdefghijkl {
-    ghost script = { λ p. struct_script
-        (name "Aaabcdefghijklmnopqrstuvwxyzabcdefghijkl") 3
-        (field_first (name "f0") (⟦<String as Serialize>⟧.script p.f0)
-        (field_first (name "f1") (⟦<u8 as Serialize>⟧.script p.f1)
-        (field_first (name "f2") (⟦<Option<u8> as Serialize>⟧.script p.f2)
-        end_script))) };
+impl Serialize for Skipped4 {
+    ghost script = { λ p. struct_script (name "Skipped4")
+        (fields_less (⟦<BTreeMap<String, u8> as Skip>⟧.is_empty p.f3)
+        (fields_less (⟦<String as Skip>⟧.is_empty p.f2)
+        (fields_less (⟦<Vec<u8> as Skip>⟧.is_empty p.f1)
+        (fields_less (⟦<Option<String> as Skip>⟧.is_empty p.f0) 4))))
+        (field_unless (⟦<Option<String> as Skip>⟧.is_empty p.f0) (name "f0")
+        (⟦<Option<String> as Serialize>⟧.script p.f0)
+        (field_unless (⟦<Vec<u8> as Skip>⟧.is_empty p.f1) (name "f1")
+        (⟦<Vec<u8> as Serialize>⟧.script p.f1)
+        (field_unless (⟦<String as Skip>⟧.is_empty p.f2) (name "f2")
+        (⟦<String as Serialize>⟧.script p.f2)
+        (field_unless (⟦<BTreeMap<String, u8> as Skip>⟧.is_empty p.f3) (name "f3")
+        (⟦<BTreeMap<String, u8> as Serialize>⟧.script p.f3)
+        end_script)))) };
 
     ghost lawful = { λ p readable. struct_lawful
-        (field_fits (leaf_lawful refl)
-        (field_fits (leaf_lawful refl)
-        (field_fits (option_lawful (λ x h. leaf_lawful refl) p.f2 readable)
-        struct_end_fits))) };
+        (field_unless_fits _ _ _ _ (⟦<Option<String> as Skip>⟧.is_empty p.f0)
+        (option_lawful (λ x h. leaf_lawful refl) p.f0 readable)
+        (field_unless_fits _ _ _ _ (⟦<Vec<u8> as Skip>⟧.is_empty p.f1)
+        (seq_lawful (λ x h. leaf_lawful refl) p.f1.items readable)
+        (field_unless_fits _ _ _ _ (⟦<String as Skip>⟧.is_empty p.f2) (leaf_lawful refl)
+        (field_unless_fits _ _ _ _ (⟦<BTreeMap<String, u8> as Skip>⟧.is_empty p.f3)
+        (map_lawful (λ x h. leaf_lawful refl) (λ x h. leaf_lawful refl) p.f3.entries
+        readable)
+        struct_end_fits)))) };
 
     fn serialize<S: Serializer>(&self, alloc: Global, serializer: &mut S) -> Result<()> {
         let row = SendEnd;
-        let row = SendField(
-            FieldsOfAaabcdefghijklmnopqrstuvwxyzabcdefghijkl,
-            2,
-            &self.f2,
-            row,
-        );
-        let row = SendField(
-            FieldsOfAaabcdefghijklmnopqrstuvwxyzabcdefghijkl,
-            1,
-            &self.f1,
-            row,
-        );
-        let row = SendField(
-            FieldsOfAaabcdefghijklmnopqrstuvwxyzabcdefghijkl,
-            0,
-            &self.f0,
-            row,
-        );
+        let row = SendFieldUnless(FieldsOfSkipped4, 3, &self.f3, row);
+        let row = SendFieldUnless(FieldsOfSkipped4, 2, &self.f2, row);
+        let row = SendFieldUnless(FieldsOfSkipped4, 1, &self.f1, row);
+        let row = SendFieldUnless(FieldsOfSkipped4, 0, &self.f0, row);
         let row = SendOpen(
-            Call::Struct(name_aaabcdefghijklmnopqrstuvwxyzabcdefghijkl(), 3),
+            Call::Struct(
+                name_skipped4(),
+                count_unless(
+                    &self.f3,
+                    count_unless(&self.f2, count_unless(&self.f1, count_unless(&self.f0, 4))),
+                ),
+            ),
             row,
         );
         send_row(alloc, serializer, &row)
     }
 }
 
-impl<'de> Deserialize<'de> for Aaabcdefghijklmnopqrstuvwxyzabcdefghijkl {
-    ghost refusal = { struct_refusal (name "Aaabcdefghijklmnopqrstuvwxyzabcdefghijkl")
-        (read_by_name
-        (row_then (name "f0") (⟦<String as Deserialize<'de>>⟧.refusal)
-        (row_then (name "f1") (⟦<u8 as Deserialize<'de>>⟧.refusal)
-        (row_or_then (name "f2") (⟦<Option<u8> as Deserialize<'de>>⟧.refusal)
-        (others_left (name "f0" ∷ name "f1" ∷ name "f2" ∷ [])))))) };
+impl<'de> Deserialize<'de> for Skipped4 {
+    ghost refusal = { struct_refusal (name "Skipped4") (read_by_name
+        (row_or_then (name "f0") (⟦<Option<String> as Deserialize<'de>>⟧.refusal)
+        (row_or_then (name "f1") (⟦<Vec<u8> as Deserialize<'de>>⟧.refusal)
+        (row_or_then (name "f2") (⟦<String as Deserialize<'de>>⟧.refusal)
+        (row_or_then (name "f3") (⟦<BTreeMap<String, u8> as Deserialize<'de>>⟧.refusal)
+        (others_left (name "f0" ∷ name "f1" ∷ name "f2" ∷ name "f3" ∷ []))))))) };
 
-    ghost gives = { λ s p. StructGives (name "Aaabcdefghijklmnopqrstuvwxyzabcdefghijkl")
-        (ReadByName
-        (RowThen (name "f0") (⟦<String as Deserialize<'de>>⟧.gives) p.f0
-        (RowThen (name "f1") (⟦<u8 as Deserialize<'de>>⟧.gives) p.f1
-        (RowOrThen (name "f2") (λ (x : (Option ℕ)). x ≡ None)
-        (⟦<Option<u8> as Deserialize<'de>>⟧.gives) p.f2
-        NoOthers)))) s };
+    ghost gives = { λ s p. StructGives (name "Skipped4") (ReadByName
+        (RowOrThen (name "f0") (λ (x : (Option (String Global))). x ≡ None)
+        (⟦<Option<String> as Deserialize<'de>>⟧.gives) p.f0
+        (RowOrThen (name "f1") (λ (x : (Vec ℕ Global)). x.items ≡ [])
+        (⟦<Vec<u8> as Deserialize<'de>>⟧.gives) p.f1
+        (RowOrThen (name "f2") (λ (x : (String Global)). string_bytes x ≡ [])
+        (⟦<String as Deserialize<'de>>⟧.gives) p.f2
+        (RowOrThen (name "f3") (λ (x : (BTreeMap (String Global) ℕ Global)). x.entries ≡ [])
+        (⟦<BTreeMap<String, u8> as Deserialize<'de>>⟧.gives) p.f3
+        NoOthers))))) s };
+
+    fn deserialize<'n: 'de>(alloc: Global, from: Deserializer<'de, 'n>) -> Result<Skipped4> {
+        read_struct::<FieldsOfSkipped4, Self>(alloc, from)
+    }
+}
+
+impl<'de> RoundTrip<'de> for Skipped4 {
+    ghost exists = { λ p. ⟦<Option<String> as RoundTrip<'de>>⟧.exists p.f0 ×
+        ⟦<Vec<u8> as RoundTrip<'de>>⟧.exists p.f1 ×
+        ⟦<BTreeMap<String, u8> as RoundTrip<'de>>⟧.exists p.f3 };
+
+    fn known(&self) {
+        self.f0.known();
+        self.f1.known();
+        self.f3.known();
+    }
+
+    ghost comes_back = { record {
+      of_value = λ p real f. struct_back (by_name_back (keyed_named
+          (keyed_unless_back {names = (name "f1" ∷ name "f2" ∷ name "f3" ∷ [])} (name "f0")
+          (λ (x : (Option (String Global))). x ≡ None)
+          (⟦<Option<String> as Skip>⟧.is_empty p.f0)
+          (let law : ComesBack (⟦<Option<String> as RoundTrip<'de>>⟧.exists)
+          (⟦<Option<String> as Serialize>⟧.script)
+          (⟦<Option<String> as Deserialize<'de>>⟧.refusal)
+          (⟦<Option<String> as Deserialize<'de>>⟧.gives) (⟦<Option<String> as PartialEq>⟧.eq)
+          = (option_back text_back) in law) p.f0 real.0
+          (λ e y a. none_alike _ p.f0 e y a) (unfold name in (refl, (refl, (refl, tt))))
+          (λ q. q.f0)
+          (keyed_unless_back {names = (name "f2" ∷ name "f3" ∷ [])} (name "f1")
+          (λ (x : (Vec ℕ Global)). x.items ≡ []) (⟦<Vec<u8> as Skip>⟧.is_empty p.f1)
+          (let law : ComesBack (⟦<Vec<u8> as RoundTrip<'de>>⟧.exists)
+          (⟦<Vec<u8> as Serialize>⟧.script) (⟦<Vec<u8> as Deserialize<'de>>⟧.refusal)
+          (⟦<Vec<u8> as Deserialize<'de>>⟧.gives) (⟦<Vec<u8> as PartialEq>⟧.eq) =
+          (seen_back (λ v. v.items) (seq_back u8_back)) in law) p.f1 real.1
+          (λ e y a. no_items_alike _ p.f1.items e y.items a)
+          (unfold name in (refl, (refl, tt))) (λ q. q.f1)
+          (keyed_unless_back {names = (name "f3" ∷ [])} (name "f2")
+          (λ (x : (String Global)). string_bytes x ≡ []) (⟦<String as Skip>⟧.is_empty p.f2)
+          text_back p.f2 tt
+          (λ e y a. no_items_alike _ (string_bytes p.f2) e (string_bytes y) a)
+          (unfold name in (refl, tt)) (λ q. q.f2)
+          (keyed_unless_back {names = ([])} (name "f3")
+          (λ (x : (BTreeMap (String Global) ℕ Global)). x.entries ≡ [])
+          (⟦<BTreeMap<String, u8> as Skip>⟧.is_empty p.f3)
+          (let law : ComesBack (⟦<BTreeMap<String, u8> as RoundTrip<'de>>⟧.exists)
+          (⟦<BTreeMap<String, u8> as Serialize>⟧.script)
+          (⟦<BTreeMap<String, u8> as Deserialize<'de>>⟧.refusal)
+          (⟦<BTreeMap<String, u8> as Deserialize<'de>>⟧.gives)
+          (⟦<BTreeMap<String, u8> as PartialEq>⟧.eq) =
+          (seen_back (λ m. m.entries) (map_back string_cmp_total
+          (λ x y. texts_ties (string_bytes x) (string_bytes y)) text_back u8_back)) in law)
+          p.f3 real.2
+          (λ e y a. no_items_alike _ p.f3.entries e y.entries a) (unfold name in tt)
+          (λ q. q.f3)
+          (keyed_skipped_back (name "f0" ∷ name "f1" ∷ name "f2" ∷ name "f3" ∷ []))))))))
+          f (λ q h. both_hold h.0 (both_hold h.1.0 (both_hold h.1.1.0 h.1.1.1.0)));
+    } };
+
+    ghost keeps = { struct_keeps (name "Skipped4") (by_name_keeps
+        (named_or_keeps (name "f0") (λ (x : (Option (String Global))). x ≡ None) (λ q. q.f0)
+        (let law : CoercionKeeps (⟦<Option<String> as Deserialize<'de>>⟧.refusal)
+        (⟦<Option<String> as Deserialize<'de>>⟧.gives) =
+        (option_keeps (heedless_keeps (λ o. refusal_of (text_from o))
+        (λ o (x : String Global). IsTaken (text_from o) (HasContent (string_bytes x))))) in
+        law)
+        (named_or_keeps (name "f1") (λ (x : (Vec ℕ Global)). x.items ≡ []) (λ q. q.f1)
+        (let law : CoercionKeeps (⟦<Vec<u8> as Deserialize<'de>>⟧.refusal)
+        (⟦<Vec<u8> as Deserialize<'de>>⟧.gives) =
+        (seen_keeps (λ v. v.items) (seq_keeps (natural_keeps kind.u8))) in law)
+        (named_or_keeps (name "f2") (λ (x : (String Global)). string_bytes x ≡ [])
+        (λ q. q.f2) (heedless_keeps (λ o. refusal_of (text_from o))
+        (λ o (x : String Global). IsTaken (text_from o) (HasContent (string_bytes x))))
+        (named_or_keeps (name "f3") (λ (x : (BTreeMap (String Global) ℕ Global)). x.entries
+        ≡ []) (λ q. q.f3) (let law : CoercionKeeps
+        (⟦<BTreeMap<String, u8> as Deserialize<'de>>⟧.refusal)
+        (⟦<BTreeMap<String, u8> as Deserialize<'de>>⟧.gives) =
+        (seen_keeps (λ m. m.entries) (map_keeps (⟦<String as Ord>⟧.cmp)
+        (heedless_keeps (λ o. refusal_of (text_from o))
+        (λ o (x : String Global). IsTaken (text_from o) (HasContent (string_bytes x))))
+        (natural_keeps kind.u8))) in law)
+        (skipped_keeps (name "f0" ∷ name "f1" ∷ name "f2" ∷ name "f3" ∷ []))))))) };
+}
+
+#[derive(Drop, PartialEq, Eq)]
+pub enum SkippedInVariant2 {
+    A { f0: Option<String>, f1: Vec<u8> },
+    B(u8),
+}
+
+/// The names of its fields.
+#[derive(Drop)]
+struct FieldsOfSkippedInVariant2A;
+
+impl Names for FieldsOfSkippedInVariant2A {
+    ghost names = { name "f0" ∷ name "f1" ∷ [] };
+
+    #[tactic(auto, unfolding(serde_content::specs::Literals::name))]
+    fn names() -> &'static [&'static str] {
+        &["f0", "f1"]
+    }
+}
+
+type Field1OfSkippedInVariant2A = ReadFieldOr<
+    FieldsOfSkippedInVariant2A,
+    0,
+    Option<String>,
+    Field2OfSkippedInVariant2A,
+>;
+
+type Field2OfSkippedInVariant2A = ReadFieldOr<
+    FieldsOfSkippedInVariant2A,
+    1,
+    Vec<u8>,
+    OthersSkipped<FieldsOfSkippedInVariant2A>,
+>;
+
+/// Reads the fields, in any order.
+fn read_skipped_in_variant2_a<'de, 'n: 'de>(
+    alloc: Global,
+    fields: FieldsByName<'de, 'n>,
+) -> Result<(Option<String>, Vec<u8>)>
+    ensures { Reads (
+        (row_or_then (name "f0") (⟦<Option<String> as Deserialize<'de>>⟧.refusal)
+        (row_or_then (name "f1") (⟦<Vec<u8> as Deserialize<'de>>⟧.refusal)
+        (others_left (name "f0" ∷ name "f1" ∷ []))))
+        (fields_left fields.entry))
+        (λ z.
+        (RowOrThen (name "f0") (λ (x : (Option (String Global))). x ≡ None)
+        (⟦<Option<String> as Deserialize<'de>>⟧.gives) z.0
+        (RowOrThen (name "f1") (λ (x : (Vec ℕ Global)). x.items ≡ [])
+        (⟦<Vec<u8> as Deserialize<'de>>⟧.gives) z.1
+        NoOthers))
+        (fields_left fields.entry)) result }
+{
+    let row: Field1OfSkippedInVariant2A = ReadFields::read(alloc, fields)?;
+    let ReadFieldOr(f0, row, _) = row;
+    let ReadFieldOr(f1, _, _) = row;
+    Ok((f0, f1))
+}
+
+/// The names of its variants.
+#[derive(Drop)]
+struct NamesOfSkippedInVariant2;
+
+impl Names for NamesOfSkippedInVariant2 {
+    ghost names = { name "A" ∷ name "B" ∷ [] };
+
+    #[tactic(auto, unfolding(serde_content::specs::Literals::name))]
+    fn names() -> &'static [&'static str] {
+        &["A", "B"]
+    }
+}
+
+impl Serialize for SkippedInVariant2 {
+    ghost script = { elim [
+      | skipped_in_variant2.A x1 x2 ↦ struct_variant_script (name "SkippedInVariant2") 0
+          (name "A") (fields_less (⟦<Vec<u8> as Skip>⟧.is_empty x2)
+          (fields_less (⟦<Option<String> as Skip>⟧.is_empty x1) 2))
+          (field_unless (⟦<Option<String> as Skip>⟧.is_empty x1) (name "f0")
+          (⟦<Option<String> as Serialize>⟧.script x1)
+          (field_unless (⟦<Vec<u8> as Skip>⟧.is_empty x2) (name "f1")
+          (⟦<Vec<u8> as Serialize>⟧.script x2)
+          end_script))
+      | skipped_in_variant2.B x1 ↦ newtype_variant_script (name "SkippedInVariant2") 1
+          (name "B") (⟦<u8 as Serialize>⟧.script x1)
+    ] };
+
+    ghost lawful = { elim [
+      | skipped_in_variant2.A x1 x2 ↦ λ readable. struct_variant_lawful
+          (field_unless_fits _ _ _ _ (⟦<Option<String> as Skip>⟧.is_empty x1)
+          (option_lawful (λ x h. leaf_lawful refl) x1 readable)
+          (field_unless_fits _ _ _ _ (⟦<Vec<u8> as Skip>⟧.is_empty x2)
+          (seq_lawful (λ x h. leaf_lawful refl) x2.items readable)
+          struct_end_fits))
+      | skipped_in_variant2.B x1 ↦ λ readable. newtype_variant_lawful (leaf_lawful refl)
+    ] };
+
+    fn serialize<S: Serializer>(&self, alloc: Global, serializer: &mut S) -> Result<()> {
+        match self {
+            SkippedInVariant2::A { f0, f1 } => {
+                let row = SendEnd;
+                let row = SendFieldUnless(FieldsOfSkippedInVariant2A, 1, f1, row);
+                let row = SendFieldUnless(FieldsOfSkippedInVariant2A, 0, f0, row);
+                let row = SendOpen(
+                    Call::StructVariant(
+                        name_skipped_in_variant2(),
+                        0,
+                        name_a(),
+                        count_unless(f1, count_unless(f0, 2)),
+                    ),
+                    row,
+                );
+                send_row(alloc, serializer, &row)
+            }
+            SkippedInVariant2::B(x1) => {
+                Call::NewtypeVariant(name_skipped_in_variant2(), 1, name_b()).around(
+                    x1, alloc, serializer,
+                )
+            }
+        }
+    }
+}
+
+impl<'de> Variants<'de> for SkippedInVariant2 {
+    ghost name = { name "SkippedInVariant2" };
+
+    ghost refusal = { variants ((
+      name "A",
+      struct_variant_refusal (read_by_name
+          (row_or_then (name "f0") (⟦<Option<String> as Deserialize<'de>>⟧.refusal)
+          (row_or_then (name "f1") (⟦<Vec<u8> as Deserialize<'de>>⟧.refusal)
+          (others_left (name "f0" ∷ name "f1" ∷ []))))),
+    )
+        ∷ (name "B", newtype_variant_refusal (⟦<u8 as Deserialize<'de>>⟧.refusal))
+        ∷ []) };
+
+    ghost named = { elim [
+      | skipped_in_variant2.A x1 x2 ↦ name "A"
+      | skipped_in_variant2.B x1 ↦ name "B"
+    ] };
+
+    ghost held = { elim [
+      | skipped_in_variant2.A x1 x2 ↦ StructVariantGives (ReadByName
+          (RowOrThen (name "f0") (λ (x : (Option (String Global))). x ≡ None)
+          (⟦<Option<String> as Deserialize<'de>>⟧.gives) x1
+          (RowOrThen (name "f1") (λ (x : (Vec ℕ Global)). x.items ≡ [])
+          (⟦<Vec<u8> as Deserialize<'de>>⟧.gives) x2
+          NoOthers)))
+      | skipped_in_variant2.B x1 ↦ NewtypeVariantGives (⟦<u8 as Deserialize<'de>>⟧.gives)
+          x1
+    ] };
+
+    #[tactic(auto, unfolding(serde_content::specs::Literals::name))]
+    fn name() -> &'static str {
+        "SkippedInVariant2"
+    }
+
+    fn names() -> &'static [&'static str] {
+        NamesOfSkippedInVariant2::names()
+    }
+
+    fn read_variant<'n: 'de>(
+        alloc: Global,
+        tag: &str,
+        variant: VariantAccess<'de, 'n>,
+    ) -> Result<SkippedInVariant2> {
+        match variant_index(tag, &NamesOfSkippedInVariant2) {
+            Some(0) => {
+                let fields = variant
+                    .struct_variant(alloc, FieldsOfSkippedInVariant2A::names())?
+                    .by_name();
+                let (f0, f1) = read_skipped_in_variant2_a(alloc, fields)?;
+                Ok(SkippedInVariant2::A { f0, f1 })
+            }
+            Some(1) => Ok(SkippedInVariant2::B(variant.newtype_variant(alloc)?)),
+            _ => Err(no_such_variant(alloc, tag, &NamesOfSkippedInVariant2)),
+        }
+    }
+}
+
+impl<'de> Deserialize<'de> for SkippedInVariant2 {
+    ghost refusal = { enum_refusal (name "SkippedInVariant2")
+        ⟦<SkippedInVariant2 as Variants<'de>>⟧.refusal };
+
+    ghost gives = { λ s y. EnumGives (name "SkippedInVariant2")
+        (⟦<SkippedInVariant2 as Variants<'de>>⟧.named y)
+        (⟦<SkippedInVariant2 as Variants<'de>>⟧.held y) s };
 
     fn deserialize<'n: 'de>(
         alloc: Global,
         from: Deserializer<'de, 'n>,
-    ) -> Result<Aaabcdefghijklmnopqrstuvwxyzabcdefghijkl> {
-        read_struct::<FieldsOfAaabcdefghijklmnopqrstuvwxyzabcdefghijkl, Self>(alloc, from)
+    ) -> Result<SkippedInVariant2> {
+        read_enum(alloc, from)
     }
 }
 
-impl<'de> RoundTrip<'de> for Aaabcdefghijklmnopqrstuvwxyzabcdefghijkl {
-    ghost exists = { λ p. ⟦<Option<u8> as RoundTrip<'de>>⟧.exists p.f2 };
+impl<'de> RoundTrip<'de> for SkippedInVariant2 {
+    ghost exists = { elim [
+      | skipped_in_variant2.A x1 x2 ↦ ⟦<Option<String> as RoundTrip<'de>>⟧.exists x1 ×
+          ⟦<Vec<u8> as RoundTrip<'de>>⟧.exists x2
+      | skipped_in_variant2.B x1 ↦ ⊤
+    ] };
+
+    fn known(&self) {
+        match self {
+            SkippedInVariant2::A { f0, f1 } => {
+                f0.known();
+                f1.known();
+            }
+            SkippedInVariant2::B(_) => {}
+        }
+    }
+
+    ghost comes_back = { record {
+      of_value = elim [
+        | skipped_in_variant2.A x1 x2 ↦ λ real f. variant_back Self.refusal Self.gives
+            (struct_variant_back (by_name_back (keyed_named
+            (keyed_unless_back {names = (name "f1" ∷ [])} (name "f0")
+            (λ (x : (Option (String Global))). x ≡ None)
+            (⟦<Option<String> as Skip>⟧.is_empty x1)
+            (let law : ComesBack (⟦<Option<String> as RoundTrip<'de>>⟧.exists)
+            (⟦<Option<String> as Serialize>⟧.script)
+            (⟦<Option<String> as Deserialize<'de>>⟧.refusal)
+            (⟦<Option<String> as Deserialize<'de>>⟧.gives) (⟦<Option<String> as PartialEq>⟧.eq)
+            = (option_back text_back) in law) x1 real.0
+            (λ e y a. none_alike _ x1 e y a) (unfold name in (refl, tt))
+            (λ (z : (Option (String Global)) × (Vec ℕ Global)). z.0)
+            (keyed_unless_back {names = ([])} (name "f1") (λ (x : (Vec ℕ Global)). x.items ≡ [])
+            (⟦<Vec<u8> as Skip>⟧.is_empty x2)
+            (let law : ComesBack (⟦<Vec<u8> as RoundTrip<'de>>⟧.exists)
+            (⟦<Vec<u8> as Serialize>⟧.script) (⟦<Vec<u8> as Deserialize<'de>>⟧.refusal)
+            (⟦<Vec<u8> as Deserialize<'de>>⟧.gives) (⟦<Vec<u8> as PartialEq>⟧.eq) =
+            (seen_back (λ v. v.items) (seq_back u8_back)) in law) x2 real.1
+            (λ e y a. no_items_alike _ x2.items e y.items a) (unfold name in tt)
+            (λ (z : (Option (String Global)) × (Vec ℕ Global)). z.1)
+            (keyed_skipped_back (name "f0" ∷ name "f1" ∷ [])))))))
+            f (unfold name index_among in λ d. refl)
+            (unfold name index_among in λ d only. elim [
+              | skipped_in_variant2.A y1 y2 ↦ λ it. let same = only (y1, y2) it.1 in both_hold
+                  same.0 same.1.0
+              | skipped_in_variant2.B y1 ↦ λ it. other_variant it.0 refl
+            ])
+        | skipped_in_variant2.B x1 ↦ λ real f. variant_back Self.refusal Self.gives
+            (newtype_variant_back u8_back x1 tt)
+            f (unfold name index_among in λ d. refl)
+            (unfold name index_among in λ d only. elim [
+              | skipped_in_variant2.A y1 y2 ↦ λ it. other_variant it.0 refl
+              | skipped_in_variant2.B y1 ↦ λ it. only y1 it.1
+            ])
+      ];
+    } };
+
+    ghost keeps = { record {
+      of_origin = λ o people. elim [
+        | skipped_in_variant2.A x1 x2 ↦ λ p.
+            let q = variant_kept {own = (struct_variant_refusal (read_by_name
+            (row_or_then (name "f0") (⟦<Option<String> as Deserialize<'de>>⟧.refusal)
+            (row_or_then (name "f1") (⟦<Vec<u8> as Deserialize<'de>>⟧.refusal)
+            (others_left (name "f0" ∷ name "f1" ∷ []))))))} (name "SkippedInVariant2")
+            (name "A")
+            ⟦<SkippedInVariant2 as Variants<'de>>⟧.refusal
+            (unfold name index_among in λ v. refl) (struct_variant_keeps (by_name_keeps
+            (named_or_keeps (name "f0") (λ (x : (Option (String Global))). x ≡ None)
+            (λ (z : (Option (String Global)) × (Vec ℕ Global)). z.0)
+            (let law : CoercionKeeps (⟦<Option<String> as Deserialize<'de>>⟧.refusal)
+            (⟦<Option<String> as Deserialize<'de>>⟧.gives) =
+            (option_keeps (heedless_keeps (λ o. refusal_of (text_from o))
+            (λ o (x : String Global). IsTaken (text_from o) (HasContent (string_bytes x))))) in
+            law)
+            (named_or_keeps (name "f1") (λ (x : (Vec ℕ Global)). x.items ≡ [])
+            (λ (z : (Option (String Global)) × (Vec ℕ Global)). z.1)
+            (let law : CoercionKeeps (⟦<Vec<u8> as Deserialize<'de>>⟧.refusal)
+            (⟦<Vec<u8> as Deserialize<'de>>⟧.gives) =
+            (seen_keeps (λ v. v.items) (seq_keeps (natural_keeps kind.u8))) in law)
+            (skipped_keeps (name "f0" ∷ name "f1" ∷ []))))))
+            o people (x1, x2) p.free p.given in
+            record { free = q.0; given = q.1 }
+        | skipped_in_variant2.B x1 ↦ λ p.
+            let q = variant_kept {own = (newtype_variant_refusal
+            (⟦<u8 as Deserialize<'de>>⟧.refusal))} (name "SkippedInVariant2") (name "B")
+            ⟦<SkippedInVariant2 as Variants<'de>>⟧.refusal
+            (unfold name index_among in λ v. refl)
+            (newtype_variant_keeps (natural_keeps kind.u8))
+            o people x1 p.free p.given in
+            record { free = q.0; given = q.1 }
+      ];
+    } };
+}
+
+#[derive(Drop, PartialEq, Eq)]
+pub enum SkippedBesideTag2 {
+    A { f0: Option<String>, f1: Vec<u8> },
+    B,
+}
+
+/// The names of its fields.
+#[derive(Drop)]
+struct FieldsOfSkippedBesideTag2A;
+
+impl Names for FieldsOfSkippedBesideTag2A {
+    ghost names = { name "kind" ∷ name "f0" ∷ name "f1" ∷ [] };
+
+    #[tactic(auto, unfolding(serde_content::specs::Literals::name))]
+    fn names() -> &'static [&'static str] {
+        &["kind", "f0", "f1"]
+    }
+}
+
+/// Sends that variant.
+fn send_whole_skipped_beside_tag2_a<S: Serializer>(
+    alloc: Global,
+    serializer: &mut S,
+    whole: &SkippedBesideTag2,
+    f0: &Option<String>,
+    f1: &Vec<u8>,
+) -> Result<()>
+    requires { whole.now ≡ skipped_beside_tag2.A f0.now f1.now }
+    ensures { Sends S.step S.refuses (S.seen serializer.old)
+        (⟦<SkippedBesideTag2 as Serialize>⟧.script whole.now)
+        result (S.seen serializer.new) }
+{
+    let row = SendEnd;
+    let row = SendFieldUnless(FieldsOfSkippedBesideTag2A, 2, f1, row);
+    let row = SendFieldUnless(FieldsOfSkippedBesideTag2A, 1, f0, row);
+    let row = SendTag(FieldsOfSkippedBesideTag2A, NamesOfSkippedBesideTag2, 0, row);
+    let row = SendOpen(
+        Call::Struct(
+            name_skipped_beside_tag2(),
+            count_unless(f1, count_unless(f0, 3)),
+        ),
+        row,
+    );
+    send_row(alloc, serializer, &row)
+}
+
+type Field1OfSkippedBesideTag2A = ReadFieldOr<
+    FieldsOfSkippedBesideTag2A,
+    1,
+    Option<String>,
+    Field2OfSkippedBesideTag2A,
+>;
+
+type Field2OfSkippedBesideTag2A = ReadFieldOr<
+    FieldsOfSkippedBesideTag2A,
+    2,
+    Vec<u8>,
+    OthersSkipped<FieldsOfSkippedBesideTag2A>,
+>;
+
+/// Reads the fields, in any order.
+fn read_skipped_beside_tag2_a<'de, 'n: 'de>(
+    alloc: Global,
+    fields: FieldsByName<'de, 'n>,
+) -> Result<(Option<String>, Vec<u8>)>
+    ensures { Reads (
+        (row_or_then (name "f0") (⟦<Option<String> as Deserialize<'de>>⟧.refusal)
+        (row_or_then (name "f1") (⟦<Vec<u8> as Deserialize<'de>>⟧.refusal)
+        (others_left (name "kind" ∷ name "f0" ∷ name "f1" ∷ []))))
+        (fields_left fields.entry))
+        (λ z.
+        (RowOrThen (name "f0") (λ (x : (Option (String Global))). x ≡ None)
+        (⟦<Option<String> as Deserialize<'de>>⟧.gives) z.0
+        (RowOrThen (name "f1") (λ (x : (Vec ℕ Global)). x.items ≡ [])
+        (⟦<Vec<u8> as Deserialize<'de>>⟧.gives) z.1
+        NoOthers))
+        (fields_left fields.entry)) result }
+{
+    let row: Field1OfSkippedBesideTag2A = ReadFields::read(alloc, fields)?;
+    let ReadFieldOr(f0, row, _) = row;
+    let ReadFieldOr(f1, _, _) = row;
+    Ok((f0, f1))
+}
+
+/// The names of its fields.
+#[derive(Drop)]
+struct FieldsOfSkippedBesideTag2B;
+
+impl Names for FieldsOfSkippedBesideTag2B {
+    ghost names = { name "kind" ∷ [] };
+
+    #[tactic(auto, unfolding(serde_content::specs::Literals::name))]
+    fn names() -> &'static [&'static str] {
+        &["kind"]
+    }
+}
+
+/// The names of its variants.
+#[derive(Drop)]
+struct NamesOfSkippedBesideTag2;
+
+impl Names for NamesOfSkippedBesideTag2 {
+    ghost names = { name "A" ∷ name "B" ∷ [] };
+
+    #[tactic(auto, unfolding(serde_content::specs::Literals::name))]
+    fn names() -> &'static [&'static str] {
+        &["A", "B"]
+    }
+}
+
+impl Serialize for SkippedBesideTag2 {
+    ghost script = { elim [
+      | skipped_beside_tag2.A x1 x2 ↦ tagged_script (name "SkippedBesideTag2")
+          (fields_less (⟦<Vec<u8> as Skip>⟧.is_empty x2)
+          (fields_less (⟦<Option<String> as Skip>⟧.is_empty x1) 3)) (name "kind") (name "A")
+          (field_unless (⟦<Option<String> as Skip>⟧.is_empty x1) (name "f0")
+          (⟦<Option<String> as Serialize>⟧.script x1)
+          (field_unless (⟦<Vec<u8> as Skip>⟧.is_empty x2) (name "f1")
+          (⟦<Vec<u8> as Serialize>⟧.script x2)
+          end_script))
+      | skipped_beside_tag2.B ↦ tagged_script (name "SkippedBesideTag2") 1 (name "kind")
+          (name "B")
+          end_script
+    ] };
+
+    ghost lawful = { elim [
+      | skipped_beside_tag2.A x1 x2 ↦ λ readable. struct_lawful
+          (field_fits (leaf_lawful refl)
+          (field_unless_fits _ _ _ _ (⟦<Option<String> as Skip>⟧.is_empty x1)
+          (option_lawful (λ x h. leaf_lawful refl) x1 readable)
+          (field_unless_fits _ _ _ _ (⟦<Vec<u8> as Skip>⟧.is_empty x2)
+          (seq_lawful (λ x h. leaf_lawful refl) x2.items readable)
+          struct_end_fits)))
+      | skipped_beside_tag2.B ↦ λ readable. struct_lawful
+          (field_fits (leaf_lawful refl)
+          struct_end_fits)
+    ] };
+
+    fn serialize<S: Serializer>(&self, alloc: Global, serializer: &mut S) -> Result<()> {
+        match self {
+            SkippedBesideTag2::A { f0, f1 } => {
+                send_whole_skipped_beside_tag2_a(alloc, serializer, self, f0, f1)
+            }
+            SkippedBesideTag2::B => {
+                let row = SendEnd;
+                let row = SendTag(FieldsOfSkippedBesideTag2B, NamesOfSkippedBesideTag2, 1, row);
+                let row = SendOpen(Call::Struct(name_skipped_beside_tag2(), 1), row);
+                send_row(alloc, serializer, &row)
+            }
+        }
+    }
+}
+
+impl<'de> TaggedVariants<'de> for SkippedBesideTag2 {
+    ghost name = { name "SkippedBesideTag2" };
+
+    ghost tag_name = { name "kind" };
+
+    ghost refusal = { variants ((
+      name "A",
+      (row_or_then (name "f0") (⟦<Option<String> as Deserialize<'de>>⟧.refusal)
+          (row_or_then (name "f1") (⟦<Vec<u8> as Deserialize<'de>>⟧.refusal)
+          (others_left (name "kind" ∷ name "f0" ∷ name "f1" ∷ [])))),
+    )
+        ∷ (name "B", (others_left (name "kind" ∷ [])))
+        ∷ []) };
+
+    ghost named = { elim [
+      | skipped_beside_tag2.A x1 x2 ↦ name "A"
+      | skipped_beside_tag2.B ↦ name "B"
+    ] };
+
+    ghost held = { elim [
+      | skipped_beside_tag2.A x1 x2 ↦
+          (RowOrThen (name "f0") (λ (x : (Option (String Global))). x ≡ None)
+          (⟦<Option<String> as Deserialize<'de>>⟧.gives) x1
+          (RowOrThen (name "f1") (λ (x : (Vec ℕ Global)). x.items ≡ [])
+          (⟦<Vec<u8> as Deserialize<'de>>⟧.gives) x2
+          NoOthers))
+      | skipped_beside_tag2.B ↦ NoOthers
+    ] };
+
+    #[tactic(auto, unfolding(serde_content::specs::Literals::name))]
+    fn name() -> &'static str {
+        "SkippedBesideTag2"
+    }
+
+    #[tactic(auto, unfolding(serde_content::specs::Literals::name))]
+    fn tag() -> &'static str {
+        "kind"
+    }
+
+    fn read_variant<'n: 'de>(
+        alloc: Global,
+        tag: &str,
+        fields: FieldsByName<'de, 'n>,
+    ) -> Result<SkippedBesideTag2> {
+        match variant_index(tag, &NamesOfSkippedBesideTag2) {
+            Some(0) => {
+                let (f0, f1) = read_skipped_beside_tag2_a(alloc, fields)?;
+                Ok(SkippedBesideTag2::A { f0, f1 })
+            }
+            Some(1) => {
+                let _: OthersSkipped<FieldsOfSkippedBesideTag2B> = ReadFields::read(alloc, fields)?;
+                Ok(SkippedBesideTag2::B)
+            }
+            _ => Err(no_such_variant(alloc, tag, &NamesOfSkippedBesideTag2)),
+        }
+    }
+}
+
+impl<'de> Deserialize<'de> for SkippedBesideTag2 {
+    ghost refusal = { struct_refusal (name "SkippedBesideTag2")
+        (read_by_name (tag_then_buffered (name "kind")
+        ⟦<SkippedBesideTag2 as TaggedVariants<'de>>⟧.refusal)) };
+
+    ghost gives = { λ s y. StructGives (name "SkippedBesideTag2") (ReadByName
+        (TagThenBuffered (name "kind")
+        (⟦<SkippedBesideTag2 as TaggedVariants<'de>>⟧.named y)
+        (⟦<SkippedBesideTag2 as TaggedVariants<'de>>⟧.held y))) s };
+
+    fn deserialize<'n: 'de>(
+        alloc: Global,
+        from: Deserializer<'de, 'n>,
+    ) -> Result<SkippedBesideTag2> {
+        read_tagged(alloc, from)
+    }
+}
+
+impl<'de> RoundTrip<'de> for SkippedBesideTag2 {
+    ghost exists = { elim [
+      | skipped_beside_tag2.A x1 x2 ↦ ⟦<Option<String> as RoundTrip<'de>>⟧.exists x1 ×
+          ⟦<Vec<u8> as RoundTrip<'de>>⟧.exists x2
+      | skipped_beside_tag2.B ↦ ⊤
+    ] };
+
+    fn known(&self) {
+        match self {
+            SkippedBesideTag2::A { f0, f1 } => {
+                f0.known();
+                f1.known();
+            }
+            SkippedBesideTag2::B => {}
+        }
+    }
+
+    ghost comes_back = { record {
+      of_value = elim [
+        | skipped_beside_tag2.A x1 x2 ↦ λ real f. tagged_back Self.refusal Self.gives
+            (keyed_named
+            (keyed_unless_back {names = (name "f1" ∷ [])} (name "f0")
+            (λ (x : (Option (String Global))). x ≡ None)
+            (⟦<Option<String> as Skip>⟧.is_empty x1)
+            (let law : ComesBack (⟦<Option<String> as RoundTrip<'de>>⟧.exists)
+            (⟦<Option<String> as Serialize>⟧.script)
+            (⟦<Option<String> as Deserialize<'de>>⟧.refusal)
+            (⟦<Option<String> as Deserialize<'de>>⟧.gives) (⟦<Option<String> as PartialEq>⟧.eq)
+            = (option_back text_back) in law) x1 real.0
+            (λ e y a. none_alike _ x1 e y a) (unfold name in (refl, tt))
+            (λ (z : (Option (String Global)) × (Vec ℕ Global)). z.0)
+            (keyed_unless_back {names = ([])} (name "f1") (λ (x : (Vec ℕ Global)). x.items ≡ [])
+            (⟦<Vec<u8> as Skip>⟧.is_empty x2)
+            (let law : ComesBack (⟦<Vec<u8> as RoundTrip<'de>>⟧.exists)
+            (⟦<Vec<u8> as Serialize>⟧.script) (⟦<Vec<u8> as Deserialize<'de>>⟧.refusal)
+            (⟦<Vec<u8> as Deserialize<'de>>⟧.gives) (⟦<Vec<u8> as PartialEq>⟧.eq) =
+            (seen_back (λ v. v.items) (seq_back u8_back)) in law) x2 real.1
+            (λ e y a. no_items_alike _ x2.items e y.items a) (unfold name in tt)
+            (λ (z : (Option (String Global)) × (Vec ℕ Global)). z.1)
+            (keyed_skipped_back (name "kind" ∷ name "f0" ∷ name "f1" ∷ [])))))
+            f (buffering f) refl (unfold name index_among in λ fs. refl)
+            (unfold name index_among in λ fs only. elim [
+              | skipped_beside_tag2.A y1 y2 ↦ λ it. let same = only (y1, y2) it.1 in both_hold
+                  same.0 same.1.0
+              | skipped_beside_tag2.B ↦ λ it. other_variant it.0 refl
+            ])
+        | skipped_beside_tag2.B ↦ λ real f. tagged_back Self.refusal Self.gives
+            (skipped_back {Y = Unit {0}} (name "kind" ∷ []))
+            f (buffering f) refl (unfold name index_among in λ fs. refl)
+            (unfold name index_among in λ fs only. elim [
+              | skipped_beside_tag2.A y1 y2 ↦ λ it. other_variant it.0 refl
+              | skipped_beside_tag2.B ↦ λ it. refl
+            ])
+      ];
+    } };
+
+    ghost keeps = { record {
+      of_origin = λ o people. elim [
+        | skipped_beside_tag2.A x1 x2 ↦ λ p.
+            let q = (struct_keeps (name "SkippedBesideTag2") (by_name_keeps
+            (tag_keeps_buffered (name "kind") (name "A")
+            ⟦<SkippedBesideTag2 as TaggedVariants<'de>>⟧.refusal
+            (λ (z : (Option (String Global)) × (Vec ℕ Global)).
+            (RowOrThen (name "f0") (λ (x : (Option (String Global))). x ≡ None)
+            (⟦<Option<String> as Deserialize<'de>>⟧.gives) z.0
+            (RowOrThen (name "f1") (λ (x : (Vec ℕ Global)). x.items ≡ [])
+            (⟦<Vec<u8> as Deserialize<'de>>⟧.gives) z.1
+            NoOthers)))))).of_origin o people (x1, x2)
+            (record { free = p.free; given = p.given }) in
+            record { free = q.free; given = q.given }
+        | skipped_beside_tag2.B ↦ λ p.
+            let q = (struct_keeps (name "SkippedBesideTag2") (by_name_keeps
+            (tag_keeps_buffered (name "kind") (name "B")
+            ⟦<SkippedBesideTag2 as TaggedVariants<'de>>⟧.refusal
+            (λ (z : Unit {0}).
+            NoOthers)))).of_origin o people tt
+            (record { free = p.free; given = p.given }) in
+            record { free = q.free; given = q.given }
+      ];
+    } };
+}
+
+#[derive(Drop, Default, PartialEq, Eq)]
+pub struct Inside {
+    pub x: u8,
+    pub y: Option<i32>,
+}
+
+/// The names of its fields.
+#[derive(Drop)]
+struct FieldsOfInside;
+
+impl Names for FieldsOfInside {
+    ghost names = { name "x" ∷ name "y" ∷ [] };
+
+    #[tactic(auto, unfolding(serde_content::specs::Literals::name))]
+    fn names() -> &'static [&'static str] {
+        &["x", "y"]
+    }
+}
+
+type Field1OfInside = ReadField<FieldsOfInside, 0, u8, Field2OfInside>;
+
+type Field2OfInside = ReadFieldOr<FieldsOfInside, 1, Option<i32>, OthersSkipped<FieldsOfInside>>;
+
+impl<'de> ReadStruct<'de> for Inside {
+    ghost name = { name "Inside" };
+
+    ghost refusal = { row_then (name "x") (⟦<u8 as Deserialize<'de>>⟧.refusal)
+        (row_or_then (name "y") (⟦<Option<i32> as Deserialize<'de>>⟧.refusal)
+        (others_left (name "x" ∷ name "y" ∷ []))) };
+
+    ghost gives = { λ z.
+        (RowThen (name "x") (⟦<u8 as Deserialize<'de>>⟧.gives) z.x
+        (RowOrThen (name "y") (λ (x : (Option ℤ)). x ≡ None)
+        (⟦<Option<i32> as Deserialize<'de>>⟧.gives) z.y
+        NoOthers)) };
+
+    #[tactic(auto, unfolding(serde_content::specs::Literals::name))]
+    fn name() -> &'static str {
+        "Inside"
+    }
+
+    fn read<'n: 'de>(alloc: Global, fields: FieldsByName<'de, 'n>) -> Result<Inside> {
+        let row: Field1OfInside = ReadFields::read(alloc, fields)?;
+        let ReadField(x, row, _) = row;
+        let ReadFieldOr(y, _, _) = row;
+        Ok(Inside { x, y })
+    }
+}
+
+impl Absent for Inside {
+    ghost is_absent = { λ p. ⟦<u8 as Absent>⟧.is_absent p.x ×
+        ⟦<Option<i32> as Absent>⟧.is_absent p.y };
+
+    fn absent(alloc: Global) -> Inside {
+        Inside {
+            x: Absent::absent(alloc),
+            y: Absent::absent(alloc),
+        }
+    }
+}
+
+impl Serialize for Inside {
+    ghost script = { λ p. struct_script (name "Inside") 2
+        (field_first (name "x") (⟦<u8 as Serialize>⟧.script p.x)
+        (field_first (name "y") (⟦<Option<i32> as Serialize>⟧.script p.y)
+        end_script)) };
+
+    ghost lawful = { λ p readable. struct_lawful
+        (field_fits (leaf_lawful refl)
+        (field_fits (option_lawful (λ x h. leaf_lawful refl) p.y readable)
+        struct_end_fits)) };
+
+    fn serialize<S: Serializer>(&self, alloc: Global, serializer: &mut S) -> Result<()> {
+        let row = SendEnd;
+        let row = SendField(FieldsOfInside, 1, &self.y, row);
+        let row = SendField(FieldsOfInside, 0, &self.x, row);
+        let row = SendOpen(Call::Struct(name_inside(), 2), row);
+        send_row(alloc, serializer, &row)
+    }
+}
+
+impl<'de> Deserialize<'de> for Inside {
+    ghost refusal = { struct_refusal (name "Inside") (read_by_name
+        (row_then (name "x") (⟦<u8 as Deserialize<'de>>⟧.refusal)
+        (row_or_then (name "y") (⟦<Option<i32> as Deserialize<'de>>⟧.refusal)
+        (others_left (name "x" ∷ name "y" ∷ []))))) };
+
+    ghost gives = { λ s p. StructGives (name "Inside") (ReadByName
+        (RowThen (name "x") (⟦<u8 as Deserialize<'de>>⟧.gives) p.x
+        (RowOrThen (name "y") (λ (x : (Option ℤ)). x ≡ None)
+        (⟦<Option<i32> as Deserialize<'de>>⟧.gives) p.y
+        NoOthers))) s };
+
+    fn deserialize<'n: 'de>(alloc: Global, from: Deserializer<'de, 'n>) -> Result<Inside> {
+        read_struct::<FieldsOfInside, Self>(alloc, from)
+    }
+}
+
+impl<'de> RoundTrip<'de> for Inside {
+    ghost exists = { λ p. ⟦<Option<i32> as RoundTrip<'de>>⟧.exists p.y };
+
+    fn known(&self) {
+        self.y.known();
+    }
+
+    ghost comes_back = { record {
+      of_value = λ p real f. struct_back (by_name_back
+          (named_back (name "x") u8_back p.x tt (λ q. q.x)
+          (named_or_back (name "y") (λ (x : (Option ℤ)). x ≡ None)
+          (let law : ComesBack (⟦<Option<i32> as RoundTrip<'de>>⟧.exists)
+          (⟦<Option<i32> as Serialize>⟧.script) (⟦<Option<i32> as Deserialize<'de>>⟧.refusal)
+          (⟦<Option<i32> as Deserialize<'de>>⟧.gives) (⟦<Option<i32> as PartialEq>⟧.eq) =
+          (option_back i32_back) in law) p.y real (λ q. q.y)
+          (skipped_back (name "x" ∷ name "y" ∷ [])))))
+          f (λ q h. both_hold h.0 h.1.0);
+    } };
+
+    ghost keeps = { struct_keeps (name "Inside") (by_name_keeps
+        (named_keeps (name "x") (λ q. q.x) (natural_keeps kind.u8)
+        (named_or_keeps (name "y") (λ (x : (Option ℤ)). x ≡ None) (λ q. q.y)
+        (let law : CoercionKeeps (⟦<Option<i32> as Deserialize<'de>>⟧.refusal)
+        (⟦<Option<i32> as Deserialize<'de>>⟧.gives) =
+        (option_keeps (integer_keeps kind.i32)) in law)
+        (skipped_keeps (name "x" ∷ name "y" ∷ []))))) };
+}
+
+#[derive(Drop, Default, PartialEq, Eq)]
+pub enum Level {
+    #[default]
+    Low,
+    High(u8),
+}
+
+/// The names of its variants.
+#[derive(Drop)]
+struct NamesOfLevel;
+
+impl Names for NamesOfLevel {
+    ghost names = { name "Low" ∷ name "High" ∷ [] };
+
+    #[tactic(auto, unfolding(serde_content::specs::Literals::name))]
+    fn names() -> &'static [&'static str] {
+        &["Low", "High"]
+    }
+}
+
+impl Absent for Level {
+    ghost is_absent = { λ x. x ≡ level.Low };
+
+    fn absent(_alloc: Global) -> Level {
+        Level::Low
+    }
+}
+
+impl Serialize for Level {
+    ghost script = { elim [
+      | level.Low ↦ unit_variant_script (name "Level") 0 (name "Low")
+      | level.High x1 ↦ newtype_variant_script (name "Level") 1 (name "High")
+          (⟦<u8 as Serialize>⟧.script x1)
+    ] };
+
+    ghost lawful = { elim [
+      | level.Low ↦ λ readable. unit_variant_lawful
+      | level.High x1 ↦ λ readable. newtype_variant_lawful (leaf_lawful refl)
+    ] };
+
+    fn serialize<S: Serializer>(&self, alloc: Global, serializer: &mut S) -> Result<()> {
+        match self {
+            Level::Low => Call::UnitVariant(name_level(), 0, name_low()).send(serializer),
+            Level::High(x1) => {
+                Call::NewtypeVariant(name_level(), 1, name_high()).around(x1, alloc, serializer)
+            }
+        }
+    }
+}
+
+impl<'de> Variants<'de> for Level {
+    ghost name = { name "Level" };
+
+    ghost refusal = { variants (
+        (name "Low", unit_variant_refusal)
+        ∷ (name "High", newtype_variant_refusal (⟦<u8 as Deserialize<'de>>⟧.refusal))
+        ∷ []) };
+
+    ghost named = { elim [
+      | level.Low ↦ name "Low"
+      | level.High x1 ↦ name "High"
+    ] };
+
+    ghost held = { elim [
+      | level.Low ↦ UnitVariantGives
+      | level.High x1 ↦ NewtypeVariantGives (⟦<u8 as Deserialize<'de>>⟧.gives) x1
+    ] };
+
+    #[tactic(auto, unfolding(serde_content::specs::Literals::name))]
+    fn name() -> &'static str {
+        "Level"
+    }
+
+    fn names() -> &'static [&'static str] {
+        NamesOfLevel::names()
+    }
+
+    fn read_variant<'n: 'de>(
+        alloc: Global,
+        tag: &str,
+        variant: VariantAccess<'de, 'n>,
+    ) -> Result<Level> {
+        match variant_index(tag, &NamesOfLevel) {
+            Some(0) => {
+                variant.unit_variant(alloc)?;
+                Ok(Level::Low)
+            }
+            Some(1) => Ok(Level::High(variant.newtype_variant(alloc)?)),
+            _ => Err(no_such_variant(alloc, tag, &NamesOfLevel)),
+        }
+    }
+}
+
+impl<'de> Deserialize<'de> for Level {
+    ghost refusal = { enum_refusal (name "Level") ⟦<Level as Variants<'de>>⟧.refusal };
+
+    ghost gives = { λ s y. EnumGives (name "Level")
+        (⟦<Level as Variants<'de>>⟧.named y)
+        (⟦<Level as Variants<'de>>⟧.held y) s };
+
+    fn deserialize<'n: 'de>(alloc: Global, from: Deserializer<'de, 'n>) -> Result<Level> {
+        read_enum(alloc, from)
+    }
+}
+
+impl<'de> RoundTrip<'de> for Level {
+    fn known(&self) {}
+
+    ghost comes_back = { record {
+      of_value = elim [
+        | level.Low ↦ λ real f. variant_back Self.refusal Self.gives unit_variant_back
+            f (unfold name index_among in λ d. refl)
+            (unfold name index_among in λ d only. elim [
+              | level.Low ↦ λ it. refl
+              | level.High y1 ↦ λ it. other_variant it.0 refl
+            ])
+        | level.High x1 ↦ λ real f. variant_back Self.refusal Self.gives
+            (newtype_variant_back u8_back x1 tt)
+            f (unfold name index_among in λ d. refl)
+            (unfold name index_among in λ d only. elim [
+              | level.Low ↦ λ it. other_variant it.0 refl
+              | level.High y1 ↦ λ it. only y1 it.1
+            ])
+      ];
+    } };
+
+    ghost keeps = { record {
+      of_origin = λ o people. elim [
+        | level.Low ↦ λ p.
+            let q = variant_kept {own = unit_variant_refusal} (name "Level") (name "Low")
+            ⟦<Level as Variants<'de>>⟧.refusal (unfold name index_among in λ v. refl)
+            unit_variant_keeps
+            o people tt p.free p.given in
+            record { free = q.0; given = q.1 }
+        | level.High x1 ↦ λ p.
+            let q = variant_kept {own = (newtype_variant_refusal
+            (⟦<u8 as Deserialize<'de>>⟧.refusal))} (name "Level") (name "High")
+            ⟦<Level as Variants<'de>>⟧.refusal (unfold name index_among in λ v. refl)
+            (newtype_variant_keeps (natural_keeps kind.u8))
+            o people x1 p.free p.given in
+            record { free = q.0; given = q.1 }
+      ];
+    } };
+}
+
+#[derive(Drop, PartialEq, Eq)]
+pub struct DefaultWhole4 {
+    pub f0: u8,
+    pub f1: String,
+    pub f2: Inside,
+    pub f3: Level,
+}
+
+/// The names of its fields.
+#[derive(Drop)]
+struct FieldsOfDefaultWhole4;
+
+impl Names for FieldsOfDefaultWhole4 {
+    ghost names = { name "f0" ∷ name "f1" ∷ name "f2" ∷ name "f3" ∷ [] };
+
+    #[tactic(auto, unfolding(serde_content::specs::Literals::name))]
+    fn names() -> &'static [&'static str] {
+        &["f0", "f1", "f2", "f3"]
+    }
+}
+
+type Field1OfDefaultWhole4 = ReadFieldOr<FieldsOfDefaultWhole4, 0, u8, Field2OfDefaultWhole4>;
+
+type Field2OfDefaultWhole4 = ReadFieldOr<FieldsOfDefaultWhole4, 1, String, Field3OfDefaultWhole4>;
+
+type Field3OfDefaultWhole4 = ReadFieldOr<FieldsOfDefaultWhole4, 2, Inside, Field4OfDefaultWhole4>;
+
+type Field4OfDefaultWhole4 = ReadFieldOr<
+    FieldsOfDefaultWhole4,
+    3,
+    Level,
+    OthersSkipped<FieldsOfDefaultWhole4>,
+>;
+
+impl<'de> ReadStruct<'de> for DefaultWhole4 {
+    ghost name = { name "DefaultWhole4" };
+
+    ghost refusal = { row_or_then (name "f0") (⟦<u8 as Deserialize<'de>>⟧.refusal)
+        (row_or_then (name "f1") (⟦<String as Deserialize<'de>>⟧.refusal)
+        (row_or_then (name "f2") (⟦<Inside as Deserialize<'de>>⟧.refusal)
+        (row_or_then (name "f3") (⟦<Level as Deserialize<'de>>⟧.refusal)
+        (others_left (name "f0" ∷ name "f1" ∷ name "f2" ∷ name "f3" ∷ []))))) };
+
+    ghost gives = { λ z.
+        (RowOrThen (name "f0") (λ (x : ℕ). x ≡ 0) (⟦<u8 as Deserialize<'de>>⟧.gives) z.f0
+        (RowOrThen (name "f1") (λ (x : (String Global)). string_bytes x ≡ [])
+        (⟦<String as Deserialize<'de>>⟧.gives) z.f1
+        (RowOrThen (name "f2") (λ (x : Inside). ⟦<Inside as Absent>⟧.is_absent x)
+        (⟦<Inside as Deserialize<'de>>⟧.gives) z.f2
+        (RowOrThen (name "f3") (λ (x : Level). ⟦<Level as Absent>⟧.is_absent x)
+        (⟦<Level as Deserialize<'de>>⟧.gives) z.f3
+        NoOthers)))) };
+
+    #[tactic(auto, unfolding(serde_content::specs::Literals::name))]
+    fn name() -> &'static str {
+        "DefaultWhole4"
+    }
+
+    fn read<'n: 'de>(alloc: Global, fields: FieldsByName<'de, 'n>) -> Result<DefaultWhole4> {
+        let row: Field1OfDefaultWhole4 = ReadFields::read(alloc, fields)?;
+        let ReadFieldOr(f0, row, _) = row;
+        let ReadFieldOr(f1, row, _) = row;
+        let ReadFieldOr(f2, row, _) = row;
+        let ReadFieldOr(f3, _, _) = row;
+        Ok(DefaultWhole4 { f0, f1, f2, f3 })
+    }
+}
+
+impl Absent for DefaultWhole4 {
+    ghost is_absent = { λ p. ⟦<u8 as Absent>⟧.is_absent p.f0 ×
+        ⟦<String as Absent>⟧.is_absent p.f1 × ⟦<Inside as Absent>⟧.is_absent p.f2 ×
+        ⟦<Level as Absent>⟧.is_absent p.f3 };
+
+    fn absent(alloc: Global) -> DefaultWhole4 {
+        DefaultWhole4 {
+            f0: Absent::absent(alloc),
+            f1: Absent::absent(alloc),
+            f2: Absent::absent(alloc),
+            f3: Absent::absent(alloc),
+        }
+    }
+}
+
+impl Serialize for DefaultWhole4 {
+    ghost use Rattle.check_derive.specs.contracts.sample.InsideSerialize.TheImpl.Laws as inside_serialize;
+    ghost use Rattle.check_derive.specs.contracts.sample.LevelSerialize.TheImpl.Laws as level_serialize;
+
+    ghost script = { λ p. struct_script (name "DefaultWhole4") 4
+        (field_first (name "f0") (⟦<u8 as Serialize>⟧.script p.f0)
+        (field_first (name "f1") (⟦<String as Serialize>⟧.script p.f1)
+        (field_first (name "f2") (⟦<Inside as Serialize>⟧.script p.f2)
+        (field_first (name "f3") (⟦<Level as Serialize>⟧.script p.f3)
+        end_script)))) };
+
+    ghost lawful = { λ p readable. struct_lawful
+        (field_fits (leaf_lawful refl)
+        (field_fits (leaf_lawful refl)
+        (field_fits (inside_serialize.lawful-law p.f2 readable)
+        (field_fits (level_serialize.lawful-law p.f3 readable)
+        struct_end_fits)))) };
+
+    fn serialize<S: Serializer>(&self, alloc: Global, serializer: &mut S) -> Result<()> {
+        let row = SendEnd;
+        let row = SendField(FieldsOfDefaultWhole4, 3, &self.f3, row);
+        let row = SendField(FieldsOfDefaultWhole4, 2, &self.f2, row);
+        let row = SendField(FieldsOfDefaultWhole4, 1, &self.f1, row);
+        let row = SendField(FieldsOfDefaultWhole4, 0, &self.f0, row);
+        let row = SendOpen(Call::Struct(name_default_whole4(), 4), row);
+        send_row(alloc, serializer, &row)
+    }
+}
+
+impl<'de> Deserialize<'de> for DefaultWhole4 {
+    ghost refusal = { struct_refusal (name "DefaultWhole4") (read_by_name
+        (row_or_then (name "f0") (⟦<u8 as Deserialize<'de>>⟧.refusal)
+        (row_or_then (name "f1") (⟦<String as Deserialize<'de>>⟧.refusal)
+        (row_or_then (name "f2") (⟦<Inside as Deserialize<'de>>⟧.refusal)
+        (row_or_then (name "f3") (⟦<Level as Deserialize<'de>>⟧.refusal)
+        (others_left (name "f0" ∷ name "f1" ∷ name "f2" ∷ name "f3" ∷ []))))))) };
+
+    ghost gives = { λ s p. StructGives (name "DefaultWhole4") (ReadByName
+        (RowOrThen (name "f0") (λ (x : ℕ). x ≡ 0) (⟦<u8 as Deserialize<'de>>⟧.gives) p.f0
+        (RowOrThen (name "f1") (λ (x : (String Global)). string_bytes x ≡ [])
+        (⟦<String as Deserialize<'de>>⟧.gives) p.f1
+        (RowOrThen (name "f2") (λ (x : Inside). ⟦<Inside as Absent>⟧.is_absent x)
+        (⟦<Inside as Deserialize<'de>>⟧.gives) p.f2
+        (RowOrThen (name "f3") (λ (x : Level). ⟦<Level as Absent>⟧.is_absent x)
+        (⟦<Level as Deserialize<'de>>⟧.gives) p.f3
+        NoOthers))))) s };
+
+    fn deserialize<'n: 'de>(alloc: Global, from: Deserializer<'de, 'n>) -> Result<DefaultWhole4> {
+        read_struct::<FieldsOfDefaultWhole4, Self>(alloc, from)
+    }
+}
+
+impl<'de> RoundTrip<'de> for DefaultWhole4 {
+    ghost use Rattle.check_derive.specs.contracts.sample.InsideRoundTrip.TheImpl.Laws as inside_round_trip;
+    ghost use Rattle.check_derive.specs.contracts.sample.LevelRoundTrip.TheImpl.Laws as level_round_trip;
+
+    ghost exists = { λ p. ⟦<Inside as RoundTrip<'de>>⟧.exists p.f2 };
 
     fn known(&self) {
         self.f2.known();
@@ -3717,28 +4870,74 @@ impl<'de> RoundTrip<'de> for Aaabcdefghijklmnopqrstuvwxyzabcdefghijkl {
 
     ghost comes_back = { record {
       of_value = λ p real f. struct_back (by_name_back
-          (named_back (name "f0") text_back p.f0 tt (λ q. q.f0)
-          (named_back (name "f1") u8_back p.f1 tt (λ q. q.f1)
-          (named_or_back (name "f2") (λ (x : (Option ℕ)). x ≡ None)
-          (let law : ComesBack (⟦<Option<u8> as RoundTrip<'de>>⟧.exists)
-          (⟦<Option<u8> as Serialize>⟧.script) (⟦<Option<u8> as Deserialize<'de>>⟧.refusal)
-          (⟦<Option<u8> as Deserialize<'de>>⟧.gives) (⟦<Option<u8> as PartialEq>⟧.eq) =
-          (option_back u8_back) in law) p.f2 real (λ q. q.f2)
-          (skipped_back (name "f0" ∷ name "f1" ∷ name "f2" ∷ []))))))
-          f (λ q h. both_hold h.0 (both_hold h.1.0 h.1.1.0));
+          (named_or_back (name "f0") (λ (x : ℕ). x ≡ 0) u8_back p.f0 tt (λ q. q.f0)
+          (named_or_back (name "f1") (λ (x : (String Global)). string_bytes x ≡ []) text_back
+          p.f1 tt (λ q. q.f1)
+          (named_or_back (name "f2") (λ (x : Inside). ⟦<Inside as Absent>⟧.is_absent x)
+          inside_round_trip.comes_back-law p.f2 real (λ q. q.f2)
+          (named_or_back (name "f3") (λ (x : Level). ⟦<Level as Absent>⟧.is_absent x)
+          level_round_trip.comes_back-law p.f3 tt (λ q. q.f3)
+          (skipped_back (name "f0" ∷ name "f1" ∷ name "f2" ∷ name "f3" ∷ [])))))))
+          f (λ q h. both_hold h.0 (both_hold h.1.0 (both_hold h.1.1.0 h.1.1.1.0)));
     } };
 
-    ghost keeps = { struct_keeps (name "Aaabcdefghijklmnopqrstuvwxyzabcdefghijkl")
-        (by_name_keeps
-        (named_keeps (name "f0") (λ q. q.f0)
-        (heedless_keeps (λ o. refusal_of (text_from o))
+    ghost keeps = { struct_keeps (name "DefaultWhole4") (by_name_keeps
+        (named_or_keeps (name "f0") (λ (x : ℕ). x ≡ 0) (λ q. q.f0) (natural_keeps kind.u8)
+        (named_or_keeps (name "f1") (λ (x : (String Global)). string_bytes x ≡ [])
+        (λ q. q.f1) (heedless_keeps (λ o. refusal_of (text_from o))
         (λ o (x : String Global). IsTaken (text_from o) (HasContent (string_bytes x))))
-        (named_keeps (name "f1") (λ q. q.f1) (natural_keeps kind.u8)
-        (named_or_keeps (name "f2") (λ (x : (Option ℕ)). x ≡ None) (λ q. q.f2)
-        (let law : CoercionKeeps (⟦<Option<u8> as Deserialize<'de>>⟧.refusal)
-        (⟦<Option<u8> as Deserialize<'de>>⟧.gives) = (option_keeps (natural_keeps kind.u8))
-        in law)
-        (skipped_keeps (name "f0" ∷ name "f1" ∷ name "f2" ∷ [])))))) };
+        (named_or_keeps (name "f2") (λ (x : Inside). ⟦<Inside as Absent>⟧.is_absent x)
+        (λ q. q.f2) inside_round_trip.keeps-law
+        (named_or_keeps (name "f3") (λ (x : Level). ⟦<Level as Absent>⟧.is_absent x)
+        (λ q. q.f3) level_round_trip.keeps-law
+        (skipped_keeps (name "f0" ∷ name "f1" ∷ name "f2" ∷ name "f3" ∷ []))))))) };
+}
+
+#[derive(Drop, PartialEq, Eq)]
+pub struct Transparent3(pub Vec<String>);
+
+impl Serialize for Transparent3 {
+    ghost script = { λ p. ⟦<Vec<String> as Serialize>⟧.script p.0 };
+
+    ghost lawful = { λ p readable. seq_lawful (λ x h. leaf_lawful refl) p.0.items
+        readable };
+
+    fn serialize<S: Serializer>(&self, alloc: Global, serializer: &mut S) -> Result<()> {
+        self.0.serialize(alloc, serializer)
+    }
+}
+
+impl<'de> Deserialize<'de> for Transparent3 {
+    ghost refusal = { ⟦<Vec<String> as Deserialize<'de>>⟧.refusal };
+
+    ghost gives = { λ s p. ⟦<Vec<String> as Deserialize<'de>>⟧.gives s p.0 };
+
+    fn deserialize<'n: 'de>(alloc: Global, from: Deserializer<'de, 'n>) -> Result<Transparent3> {
+        let x1 = Deserialize::deserialize(alloc, from)?;
+        Ok(Transparent3(x1))
+    }
+}
+
+impl<'de> RoundTrip<'de> for Transparent3 {
+    ghost exists = { λ p. ⟦<Vec<String> as RoundTrip<'de>>⟧.exists p.0 };
+
+    fn known(&self) {
+        self.0.known();
+    }
+
+    ghost comes_back = { seen_back (λ q. q.0)
+        (let law : ComesBack (⟦<Vec<String> as RoundTrip<'de>>⟧.exists)
+        (⟦<Vec<String> as Serialize>⟧.script) (⟦<Vec<String> as Deserialize<'de>>⟧.refusal)
+        (⟦<Vec<String> as Deserialize<'de>>⟧.gives) (⟦<Vec<String> as PartialEq>⟧.eq) =
+        (seen_back (λ v. v.items) (seq_back text_back)) in law) };
+
+    ghost keeps = { seen_keeps (λ q. q.0)
+        (let law : CoercionKeeps (⟦<Vec<String> as Deserialize<'de>>⟧.refusal)
+        (⟦<Vec<String> as Deserialize<'de>>⟧.gives) =
+        (seen_keeps (λ v. v.items) (seq_keeps
+        (heedless_keeps (λ o. refusal_of (text_from o))
+        (λ o (x : String Global). IsTaken (text_from o) (HasContent (string_bytes x)))))) in
+        law) };
 }
 
 #[derive(Drop, PartialEq, Eq)]
@@ -5308,12 +6507,12 @@ fn name_struct_byte9() -> &'static str
     "StructByte9"
 }
 
-/// The name `Closed6`.
+/// The name `SkippedClosed6`.
 #[tactic(auto, unfolding(serde_content::specs::Literals::name))]
-fn name_closed6() -> &'static str
-    ensures { result.now ≡ name "Closed6" }
+fn name_skipped_closed6() -> &'static str
+    ensures { result.now ≡ name "SkippedClosed6" }
 {
-    "Closed6"
+    "SkippedClosed6"
 }
 
 /// The name `Sent20`.
@@ -5404,12 +6603,68 @@ fn name_adjacent_one2() -> &'static str
     "AdjacentOne2"
 }
 
-/// The name `Aaabcdefghijklmnopqrstuvwxyzabcdefghijkl`.
+/// The name `Skipped4`.
 #[tactic(auto, unfolding(serde_content::specs::Literals::name))]
-fn name_aaabcdefghijklmnopqrstuvwxyzabcdefghijkl() -> &'static str
-    ensures { result.now ≡ name "Aaabcdefghijklmnopqrstuvwxyzabcdefghijkl" }
+fn name_skipped4() -> &'static str
+    ensures { result.now ≡ name "Skipped4" }
 {
-    "Aaabcdefghijklmnopqrstuvwxyzabcdefghijkl"
+    "Skipped4"
+}
+
+/// The name `SkippedInVariant2`.
+#[tactic(auto, unfolding(serde_content::specs::Literals::name))]
+fn name_skipped_in_variant2() -> &'static str
+    ensures { result.now ≡ name "SkippedInVariant2" }
+{
+    "SkippedInVariant2"
+}
+
+/// The name `SkippedBesideTag2`.
+#[tactic(auto, unfolding(serde_content::specs::Literals::name))]
+fn name_skipped_beside_tag2() -> &'static str
+    ensures { result.now ≡ name "SkippedBesideTag2" }
+{
+    "SkippedBesideTag2"
+}
+
+/// The name `Inside`.
+#[tactic(auto, unfolding(serde_content::specs::Literals::name))]
+fn name_inside() -> &'static str
+    ensures { result.now ≡ name "Inside" }
+{
+    "Inside"
+}
+
+/// The name `Level`.
+#[tactic(auto, unfolding(serde_content::specs::Literals::name))]
+fn name_level() -> &'static str
+    ensures { result.now ≡ name "Level" }
+{
+    "Level"
+}
+
+/// The name `Low`.
+#[tactic(auto, unfolding(serde_content::specs::Literals::name))]
+fn name_low() -> &'static str
+    ensures { result.now ≡ name "Low" }
+{
+    "Low"
+}
+
+/// The name `High`.
+#[tactic(auto, unfolding(serde_content::specs::Literals::name))]
+fn name_high() -> &'static str
+    ensures { result.now ≡ name "High" }
+{
+    "High"
+}
+
+/// The name `DefaultWhole4`.
+#[tactic(auto, unfolding(serde_content::specs::Literals::name))]
+fn name_default_whole4() -> &'static str
+    ensures { result.now ≡ name "DefaultWhole4" }
+{
+    "DefaultWhole4"
 }
 
 /// The name `NamesOfFields20`.
@@ -5434,6 +6689,14 @@ fn name_daabcdefghijklmnopqrstuvwxyzabcdefghijkl() -> &'static str
     ensures { result.now ≡ name "Daabcdefghijklmnopqrstuvwxyzabcdefghijkl" }
 {
     "Daabcdefghijklmnopqrstuvwxyzabcdefghijkl"
+}
+
+/// The name `Aaabcdefghijklmnopqrstuvwxyzabcdefghijkl`.
+#[tactic(auto, unfolding(serde_content::specs::Literals::name))]
+fn name_aaabcdefghijklmnopqrstuvwxyzabcdefghijkl() -> &'static str
+    ensures { result.now ≡ name "Aaabcdefghijklmnopqrstuvwxyzabcdefghijkl" }
+{
+    "Aaabcdefghijklmnopqrstuvwxyzabcdefghijkl"
 }
 
 /// The name `Baabcdefghijklmnopqrstuvwxyzabcdefghijkl`.
