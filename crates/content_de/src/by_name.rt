@@ -22,7 +22,7 @@ ghost use Rattle.content_de.specs.Reads.ByName.{first_other, no_others};
 
 use crate::deserializer::Deserializer;
 use crate::field_errors::{no_name, other_key, other_name};
-use crate::fields::Fields;
+use crate::fields_left::Fields;
 use crate::map::{Entries, Map};
 use crate::source::Flags;
 use content_tree::{CowStr, NamedValue, Result};

@@ -27,7 +27,7 @@ mod deserialize;
 mod deserializer;
 mod enum_access;
 mod field_errors;
-mod fields;
+mod fields_left;
 mod fits;
 mod impls;
 mod into;

@@ -10,7 +10,7 @@ ghost use Rattle.content_de.specs.Accesses.Map.{first_entry, after_key, after_en
 ghost use Rattle.content_de.specs.Reads.Own.{IsNamed};
 
 use crate::deserializer::Deserializer;
-use crate::fields::Fields;
+use crate::fields_left::Fields;
 use crate::refusal::custom;
 use crate::source::Flags;
 use content_tree::{CowStr, NamedValue, Result};
