@@ -8,7 +8,7 @@ use Rattle.content_cbor.specs.Item.{item}
 use Rattle.content_cbor.specs.declared.decode_error.DecodeError.{DecodeError}
 use Rattle.content_cbor.proofs.HandedOn.{holds_on}
 use Rattle.content_cbor.proofs.Kept.{none_within}
-use Rattle.content_cbor.proofs.kept.through_cbor.Goals as goal
+use Rattle.content_cbor.proofs.form.through_cbor.Goals as goal
 
 pub returns-in-Ok-into_owned-clause-value : goal.returns-in-Ok-into_owned-clause-value
 returns-in-Ok-into_owned-clause-value c = λ le.
