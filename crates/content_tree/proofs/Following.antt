@@ -1,5 +1,5 @@
 -- A path, a piece at a time.
-use Rattle.std.proofs.Common.{◌≡◌, ◌≢◌, ◌<◌, ◌≤◌, ◌+◌, ◌∙◌, ap, ap₂, sym, refl, ℕ, false, nat_eq, ne_eqb, arith, length, drop, get_or, List, [], ◌∷◌}
+use Rattle.std.proofs.Common.{◌≡◌, ◌≢◌, ◌<◌, ◌≤◌, ◌+◌, ◌∙◌, ap, ap₂, sym, refl, ℕ, suc, false, nat_eq, ne_eqb, arith, length, drop, get_or, List, [], ◌∷◌}
 use Rattle.std.proofs.Common.{Option, Some, None, option_map, option_and_then, if◌then◌else◌}
 use Rattle.std.specs.List.{slice_split, onto_first}
 use Rattle.std.specs.Str.{bytes_eq}
@@ -88,16 +88,28 @@ first_step (Some part) (Some parts) place =
 pub value_stepped : (s : List ℕ) (ss : List (List ℕ)) (place : Place) → value_after (s ∷ ss) place ≡ option_and_then (value_after ss) (found_step (unescape s) place)
 value_stepped s ss place = first_step (unescape s) (unescape_each ss) place
 
+-- the pieces of a path that are left after the first n
+abbrev pub left_after : ℕ → List ℕ → List (List ℕ)
+left_after n path = drop (suc n) (slice_split (λ x. nat_eq x 47) path)
+
 -- the next piece leads to a place, from which those after it lead
-pub next_piece : (ss : List (List ℕ)) (n : ℕ) (s : List ℕ) (place : Place) → (n < length ss) × (s ≡ get_or ss n s)
-    → value_after (drop n ss) place ≡ option_and_then (value_after (drop (n + 1) ss)) (found_step (unescape s) place)
-next_piece ss n s place h =
-    at_drop_more (λ l. value_after l place) ss n s h.0
-    ∙ (ap (λ piece. value_after (piece ∷ drop (n + 1) ss) place) (sym h.1) ∙ value_stepped s (drop (n + 1) ss) place)
+pub next_piece : (path rest : List ℕ) (n : ℕ) (s : List ℕ) (place : Place) → path ≡ 47 ∷ rest
+    → (n < length (slice_split (λ x. nat_eq x 47) rest)) × (s ≡ get_or (slice_split (λ x. nat_eq x 47) rest) n s)
+    → value_after (left_after n path) place ≡ option_and_then (value_after (left_after (n + 1) path)) (found_step (unescape s) place)
+next_piece path rest n s place root here =
+    let ss = slice_split (λ x. nat_eq x 47) rest in
+    let step_on = λ (later : List (List ℕ)). option_and_then (value_after later) (found_step (unescape s) place) in
+    ap (λ p. value_after (left_after n p) place) root
+    ∙ (at_drop_more (λ l. value_after l place) ss n s here.0
+    ∙ (ap (λ piece. value_after (piece ∷ drop (n + 1) ss) place) (sym here.1)
+    ∙ (value_stepped s (drop (n + 1) ss) place ∙ ap (λ p. step_on (left_after (n + 1) p)) (sym root))))
 
 -- after the last piece the value at the place is found
-pub last_piece : (ss : List (List ℕ)) (n : ℕ) (place : Place) → length ss ≤ n → value_after (drop n ss) place ≡ value_at place
-last_piece ss n place past = ap (λ l. value_after l place) (drop_all n ss past)
+pub last_piece : (path rest : List ℕ) (n : ℕ) (place : Place) → path ≡ 47 ∷ rest → length (slice_split (λ x. nat_eq x 47) rest) ≤ n
+    → value_after (left_after n path) place ≡ value_at place
+last_piece path rest n place root past =
+    ap (λ p. value_after (left_after n p) place) root
+    ∙ ap (λ l. value_after l place) (drop_all n (slice_split (λ x. nat_eq x 47) rest) past)
 
 -- where a byte comes first, it begins the first piece
 not_root : (x : ℕ) (ss : List (List ℕ)) → after_root (onto_first x ss) ≡ None

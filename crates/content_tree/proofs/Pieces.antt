@@ -7,7 +7,8 @@ use Rattle.std.specs.Str.{bytes_eq}
 use Rattle.std.proofs.lemmas.Bool.{cases_Bool, false_from_ne_true, and_parts, not-true}
 use Rattle.std.proofs.lemmas.List.{at_drop_more, drop_all}
 use Rattle.std.proofs.lemmas.Slice.Eq.{bytes_eq-Decides}
-use Rattle.content_tree.specs.Values.Paths.{escaped, escape, is_plain, after_tilde, unescape, is_part}
+use Rattle.content_tree.specs.Values.Paths.{escaped, escape, is_plain, after_tilde, unescape}
+use Rattle.content_tree.specs.Values.Places.{is_part}
 
 -- equal beginnings make no difference
 same_start : (a b c : List ℕ) → bytes_eq (a ++ b) (a ++ c) ≡ bytes_eq b c

@@ -10,8 +10,7 @@ use denote.Ref.{Bor}
 use Rattle.content_tree.proofs.Looking.{value_found}
 use Rattle.content_tree.proofs.Views.{tree_data_of-Struct}
 use Rattle.content_tree.specs.Values.Lookups.{or_else}
-use Rattle.content_tree.specs.Values.Paths.{is_part}
-use Rattle.content_tree.specs.Values.Places.{found_field}
+use Rattle.content_tree.specs.Values.Places.{found_field, is_part}
 use Rattle.content_tree.specs.Values.Pointers.{item_of}
 use Rattle.content_tree.specs.Values.Text.{text_of}
 use Rattle.content_tree.specs.Values.Tree.{Tree}

@@ -1,4 +1,5 @@
-//! Looks inside a value: its content, or the value of a key, borrowed and without memory.
+//! Looks inside a value: its content, or the value of a key or of an index, borrowed and without
+//! memory.
 
 #![tactic(auto, using(crate::proofs::Looking::looking))]
 

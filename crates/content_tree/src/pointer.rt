@@ -4,10 +4,10 @@
 
 ghost use Rattle.std.specs.Prelude.{◌≡◌, ◌≢◌, ◌≤◌, ◌++◌, ◌^◌, ℕ, List, MatchOption, IfSome};
 ghost use Rattle.std.specs.Prelude.{option_map};
-ghost use Rattle.content_tree.specs.Values.Paths.{escaped, is_part, unescape, index_of};
+ghost use Rattle.content_tree.specs.Values.Paths.{escaped, unescape, index_of};
 ghost use Rattle.content_tree.specs.Values.Lookups.{last_value};
-ghost use Rattle.content_tree.specs.Values.Places.{place_view, is_key, found_item, found_field, found_in};
-ghost use Rattle.content_tree.specs.Values.Places.{found_step_in, found_step};
+ghost use Rattle.content_tree.specs.Values.Places.{place_view, is_part, is_key, found_item};
+ghost use Rattle.content_tree.specs.Values.Places.{found_field, found_in, found_step_in, found_step};
 ghost use Rattle.content_tree.specs.Values.Pointers.{pointer, entered, value_at};
 ghost use Rattle.content_tree.specs.Values.Value.{tree_of, tree_data_of, trees_view, pairs_view};
 ghost use Rattle.content_tree.specs.Values.Value.{fields_view};
@@ -184,7 +184,8 @@ fn spells(piece: &str, text: &str) -> bool
     left.is_empty()
 }
 
-/// What a piece of a path has after this byte, where it begins with it, `~0` for `~` and `~1` for `/`.
+/// What a piece of a path has after this byte, where it begins with it: with `~0` for `~`, with `~1`
+/// for `/`.
 fn strip_escaped(piece: &[u8], byte: u8) -> Option<&[u8]>
     ensures { MatchOption result ((rest : List ℕ) → piece.now ≢ escaped byte ++ rest)
         (λ rest. piece.now ≡ escaped byte ++ rest.now) }

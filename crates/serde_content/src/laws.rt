@@ -21,9 +21,10 @@ pub use content_ser::laws::{
     script_spells, static_is_canonical,
 };
 pub use content_tree::laws::{
-    compare_errors, compare_expected, compare_kinds, compare_numbers, compare_types, equal_bytes,
-    equal_data, equal_enums, equal_errors, equal_expected, equal_found_data, equal_images,
-    equal_kinds, equal_numbers, equal_structs, equal_texts, equal_types, equal_values,
+    compare_errors, compare_expected, compare_kinds, compare_numbers, compare_types, empty_path,
+    equal_bytes, equal_data, equal_enums, equal_errors, equal_expected, equal_found_data,
+    equal_images, equal_kinds, equal_numbers, equal_structs, equal_texts, equal_types,
+    equal_values, joined_paths, named_index, spelled_parts,
 };
 
 /// No whole list of calls is a proper beginning of another: a stream of trees can be cut in one

@@ -1,6 +1,6 @@
 -- Paths by JSON Pointer (RFC 6901): the parts that one spells.
 use Rattle.std.specs.Prelude.{ℕ, Bool, false, ◌==◌, ◌&&◌, ◌||◌, not, length, List, [], ◌∷◌, ◌++◌}
-use Rattle.std.specs.Prelude.{Option, Some, None, option_map, option_and_then, if◌then◌else◌, bytes_eq}
+use Rattle.std.specs.Prelude.{Option, Some, None, option_map, option_and_then, if◌then◌else◌}
 use Rattle.std.specs.List.{slice_split}
 use Rattle.std.specs.Str.{all_ascii_digits}
 use Rattle.std.specs.Str.Parse.{digits_value}
@@ -27,7 +27,7 @@ is_plain x = not (x == 126) && not (x == 47)
 abbrev pub after_tilde : ℕ → Option ℕ
 after_tilde x = if x == 48 then Some 126 else (if x == 49 then Some 47 else None)
 
--- the part that a piece between two `/` spells, or none where a `~` is followed by neither 0 nor 1
+-- the part that a piece spells: none if the piece has a `/`, or a `~` that neither 0 nor 1 follows
 abbrev pub unescape : List ℕ → Option (List ℕ)
 unescape [] = Some []
 unescape (x ∷ []) = if is_plain x then Some (x ∷ []) else None
@@ -40,12 +40,12 @@ abbrev pub unescape_each : List (List ℕ) → Option (List (List ℕ))
 unescape_each [] = Some []
 unescape_each (s ∷ ss) = option_and_then (λ part. option_map (λ parts. part ∷ parts) (unescape_each ss)) (unescape s)
 
--- what is after the first `/`, where nothing is before it
+-- what is after the first piece, which must be empty
 abbrev pub after_root : List (List ℕ) → Option (List (List ℕ))
 after_root ([] ∷ ss) = Some ss
 after_root ss = None
 
--- what a path has after each `/`: none where it begins with anything else
+-- the pieces of a path, each after a `/`: none if the path begins with anything else
 abbrev pub pieces_of : List ℕ → Option (List (List ℕ))
 pieces_of path = after_root (slice_split (λ x. x == 47) path)
 
@@ -61,8 +61,3 @@ is_index (x ∷ xs) = all_ascii_digits (x ∷ xs) && (not (x == 48) || length xs
 -- the index that a part names
 abbrev pub index_of : List ℕ → Option ℕ
 index_of part = if is_index part then Some (digits_value 10 part) else None
-
--- the part, where there is one, is this text
-abbrev pub is_part : Option (List ℕ) → List ℕ → Bool
-is_part None text = false
-is_part (Some part) text = bytes_eq text part

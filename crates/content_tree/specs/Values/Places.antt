@@ -3,7 +3,7 @@
 use Rattle.std.specs.Prelude.{ℕ, List, Bool, false, Option, Some, None, option_map}
 use Rattle.std.specs.Prelude.{if◌then◌else◌}
 use Rattle.content_tree.specs.Values.Lookups.{last_value, or_else}
-use Rattle.content_tree.specs.Values.Paths.{is_part}
+use Rattle.std.specs.Str.{bytes_eq}
 use Rattle.content_tree.specs.Values.Pointers.{Place, at, inside, entered, part_of}
 use Rattle.content_tree.specs.Values.Tree.{Tree, text, seq, map, structure, enumeration, tuple, TreeData}
 use Rattle.content_tree.specs.Values.Tree.{many, named, Trees, Fields, no_fields, field_then}
@@ -15,6 +15,11 @@ use Rattle.content_tree.specs.declared.pointer.Place.TheVariants as place
 abbrev pub place_view : code.Place → Place
 place_view (place.Value v) = at (tree_of v.now)
 place_view (place.Variant d) = inside (tree_data_of d.now)
+
+-- the part is the text of this content
+abbrev pub is_part : Option (List ℕ) → List ℕ → Bool
+is_part None content = false
+is_part (Some part) content = bytes_eq content part
 
 -- the key is the text of the part
 abbrev pub is_key : Option (List ℕ) → Tree → Bool

@@ -34,6 +34,8 @@ pub use Rattle.content_tree.specs.Values.Lookups.{lookup, lookup_text, or_else}
 pub use Rattle.content_tree.specs.Values.Lookups.{boolean_in, number_in, value_in, character_in}
 pub use Rattle.content_tree.specs.Values.Lookups.{text_in, bytes_in, items_in, pairs_in}
 pub use Rattle.content_tree.specs.Values.Lookups.{last_value, last_field, field_in, is_text}
+pub use Rattle.content_tree.specs.Values.Paths.{parts_of, path_of, index_of}
+pub use Rattle.content_tree.specs.Values.Pointers.{pointer, leads, follow, lookup_index}
 pub use Rattle.content_tree.specs.Orders.Trees.{same_tree, tree_cmp}
 pub use Rattle.content_ser.specs.Scripts.Script.{and_then}
 pub use Rattle.content_ser.specs.Sending.Loose.{loose}
