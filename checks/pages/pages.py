@@ -40,21 +40,21 @@ CRATES = re.findall(r"^(\w+):", read(f"{TOP}/crates.txt"), re.M)
 # The most words of each page, as `wc -w` counts them; a page that isn't here has at most OTHER_PAGE.
 MOST_WORDS = {
     "README.md": 900,
-    "CHANGELOG.md": 270,
+    "CHANGELOG.md": 250,
     "CONTRIBUTING.md": 600,
     "bench/README.md": 730,
     "crates/check_rows/README.md": 1130,
     "docs/ARCHITECTURE.md": 830,
     "docs/CALLING.md": 820,
-    "docs/CALLS.md": 1440,
+    "docs/CALLS.md": 1410,
     "docs/CBOR.md": 850,
     "docs/DECISIONS.md": 700,
     "docs/DIFFERENCES.md": 1040,
     "docs/HOSTILE_INPUT.md": 780,
-    "docs/OWN_TYPES.md": 1460,
+    "docs/OWN_TYPES.md": 1510,
     "docs/READING.md": 1300,
-    "docs/USES.md": 600,
-    "docs/VALUES.md": 630,
+    "docs/USES.md": 580,
+    "docs/VALUES.md": 600,
 }
 OTHER_PAGE = 300
 
