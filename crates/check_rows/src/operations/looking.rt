@@ -34,7 +34,8 @@ pub fn pointer(out: &mut Answer, pieces: &mut Pieces<'_>) {
 
 /// The item of an index.
 pub fn get_index(out: &mut Answer, pieces: &mut Pieces<'_>) {
-    let Some(index) = read_tree(pieces).as_u64() else {
+    let key = read_tree(pieces);
+    let Some(index) = key.as_u64() else {
         return out.fail(Failure::NoRow);
     };
     let value = read_tree(pieces);
