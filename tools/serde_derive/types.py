@@ -47,14 +47,15 @@ HOLDERS = {
                    "(Option {0})", "(option_kept {null} {0})"),
     "Vec": Laws("seq_lawful {0} {x}.items {h}", "(seen_back (λ v. v.items) (seq_back {0}))",
                 "(seen_keeps (λ v. v.items) (seq_keeps {0}))", "(Vec {0} Global)",
-                "(seen_kept (λ v. v.items) (seq_kept {0}))", "(seq_not_null _)"),
+                "(seen_kept (λ v. v.items) (seq_kept {0}))", "(seq_not_null ({refusals[0]}))"),
     "Box": Laws("{0}", "(seen_back (λ b. b.value) {0})", "(seen_keeps (λ b. b.value) {0})",
                 "(Box {0} Global)", "(seen_kept (λ b. b.value) {0})", "{null}"),
     "BTreeMap": Laws("map_lawful {0} {1} {x}.entries {h}",
                      "(seen_back (λ m. m.entries) (map_back {total} {ties} {0} {1}))",
                      "(seen_keeps (λ m. m.entries) (map_keeps ({order}) {0} {1}))",
                      "(BTreeMap {0} {1} Global)",
-                     "(seen_kept (λ m. m.entries) (map_kept {total} {ties} {0} {1}))", "(map_not_null _ _)"),
+                     "(seen_kept (λ m. m.entries) (map_kept {total} {ties} {0} {1}))",
+                     "(map_not_null ({refusals[0]}) ({refusals[1]}))"),
 }
 # the class of trees that a type takes, and the law that it refuses all others
 CLASSES = {
@@ -148,10 +149,12 @@ class Type:
         return f"(record {{ of_value = λ x real. tuple_kept{parts}\n(λ y h. {both(count, 'h')}) }})"
 
     def not_null(self) -> str:
+        refusals, count = [a.member(READ, "refusal") for a in self.arguments], len(self.arguments)
         if self.name == "tuple":
-            return f"(tuple_not_null {len(self.arguments)} _)"
+            parts = nest([f"part_then {count} {i} ({refusal})" for i, refusal in enumerate(refusals)], f"(end_of_parts {count})")
+            return f"(tuple_not_null {count}{parts})"
         null = self.arguments[0].not_null() if self.name == "Box" else ""
-        return self.laws.not_null.format(own=snake(self.declared), null=null)
+        return self.laws.not_null.format(own=snake(self.declared), null=null, refusals=refusals)
 
     def comes_back_from_cbor(self) -> bool:
         """Whether CBOR keeps its values; so it does an optional one of what is never null."""
