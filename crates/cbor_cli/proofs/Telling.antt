@@ -2,7 +2,7 @@
 use Rattle.std.proofs.Common.{◌≡◌, ◌≢◌, ℕ, ◌-◌, ◌<◌, ◌≤◌, Some, None, List, [], ◌∷◌, ◌++◌, length, drop}
 use Rattle.std.proofs.Common.{refl, sym, ap, subst, ◌∙◌, append-nil, append_assoc, arith}
 use Rattle.std.proofs.lemmas.List.{flat_map_more, length-map, length-drop}
-use Rattle.serde_content.specs.Names.Words.{Tree, ErrorKind, Event, Call, event_of, events_of}
+use Rattle.serde_content.specs.Names.Words.{ErrorKind, Event, Call, event_of, events_of}
 use Rattle.serde_content.specs.Names.ErrorKind.{Unexpected, Custom, OutOfMemory, Misplaced, Failed}
 use Rattle.serde_content.specs.Names.ErrorKind.{Unfinished}
 use Rattle.content_build.specs.Cuts.{IsCutRefusal}

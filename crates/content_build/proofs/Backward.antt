@@ -10,7 +10,6 @@ use Rattle.content_ser.specs.Calls.Event.{Event}
 use Rattle.content_ser.specs.Grammar.Token.{Token, tokens, leaf, wrap, open_series, open_map}
 use Rattle.content_ser.specs.Grammar.Token.{open_record, finish, Wrap, wrapped, Series, item_call}
 use Rattle.content_ser.specs.Grammar.Token.{series_tree, record_tree, ItemCall}
-use Rattle.content_ser.specs.Calls.Head.{Head}
 use Rattle.content_ser.specs.Grammar.Spells as spells
 use Rattle.content_ser.specs.Grammar.Spells.{Spells, SpellsElements, SpellsMapItems, SpellsFields}
 use Rattle.content_ser.specs.Grammar.Spells.{MapItem, pairs, value_among, spells_leaf, spells_wrap}

@@ -18,7 +18,7 @@ use Rattle.content_ser.specs.Calls.Event.{Event}
 use Rattle.content_ser.specs.Grammar.Depth.{IsLimit, SpellsWithin, IsWholeWithin, IsViableWithin}
 use Rattle.content_ser.specs.Serializers.Step.{Seen, Takes}
 use Rattle.content_ser.specs.declared.call.Call.{Call}
-use Rattle.content_build.specs.Answers.{IsRefusal, IsAnswer, IsRefusalWithin, IsAnswerWithin, IfTaken}
+use Rattle.content_build.specs.Answers.{IsRefusalWithin, IsAnswerWithin, IfTaken}
 use Rattle.content_build.specs.Answers.{IfRefused}
 use Rattle.content_build.specs.Builder.{refuses, Finishes}
 use Rattle.content_build.specs.Limit.{Limited, fresh_within, step, run}

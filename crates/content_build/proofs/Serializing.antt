@@ -1,18 +1,16 @@
 -- What is serialised to a new builder, within any limit.
-use Rattle.std.proofs.Common.{◌≡◌, ◌⊎◌, ℕ, ◌≤◌, Bool, false, List, [], ◌∷◌, ◌++◌, Option, Some}
+use Rattle.std.proofs.Common.{◌≡◌, ℕ, ◌≤◌, Bool, false, List, [], ◌∷◌, ◌++◌, Option, Some}
 use Rattle.std.proofs.Common.{None}
 use Rattle.std.proofs.Common.{Result, Ok, Err, IsErrAnd, refl, sym, subst, ap, ◌∙◌, inl, inr}
 use Rattle.std.proofs.Common.{⊎_elim}
 use Rattle.std.proofs.Common.{append_assoc, append-nil}
-use Rattle.content_tree.specs.Errors.Kind.{kind_of, IsOutOfMemory}
 use Rattle.content_tree.specs.declared.error.Error.{Error}
-use Rattle.content_tree.specs.declared.error.ErrorKind.TheVariants.{Misplaced}
 use Rattle.content_tree.specs.declared.value.NamedValue.{NamedValue}
 use Rattle.content_ser.specs.Calls.Event.{Event}
 use Rattle.content_ser.specs.Grammar.Depth.{IsLimit, SpellsWithin, IsWholeWithin, IsViableWithin}
 use Rattle.content_ser.specs.Grammar.Spells.{IsWhole}
 use Rattle.content_ser.specs.Serializers.Step.{Seen}
-use Rattle.content_ser.specs.Scripts.Script.{Script, calls_of, stop_of, IsCustom, IsLawful}
+use Rattle.content_ser.specs.Scripts.Script.{Script, calls_of, stop_of, IsLawful}
 use Rattle.content_ser.specs.Scripts.Sends.{Sends, AnswersScript, Halted, Stopped}
 use Rattle.content_build.specs.Builder.{refuses, Finishes}
 use Rattle.content_build.specs.Limit.{Limited, fresh_within, run, step}

@@ -1,6 +1,6 @@
 -- A list of calls that comes one call at a time.
 use Rattle.std.proofs.Common.{◌≡◌, ℕ, ◌+◌, ◌<◌, List, [], ◌∷◌, ◌++◌, length, take, Option}
-use Rattle.std.proofs.Common.{Result, Ok, Err, sym, ap, subst, ◌∙◌, arith, ⊎_elim, inl}
+use Rattle.std.proofs.Common.{Result, Ok, Err, sym, subst, ◌∙◌, arith, ⊎_elim, inl}
 use Rattle.std.proofs.lemmas.List.{length-append}
 use Rattle.std.proofs.Math.Seq.{take-append_seam, take-append-add}
 use Rattle.content_tree.specs.declared.error.Error.{Error}
@@ -8,11 +8,11 @@ use Rattle.content_tree.specs.declared.error.ErrorKind.TheVariants.{OutOfMemory,
 use Rattle.content_tree.specs.declared.value.NamedValue.{NamedValue}
 use Rattle.content_ser.specs.Calls.Event.{Event}
 use Rattle.content_ser.specs.Grammar.Depth.{IsViableWithin}
-use Rattle.content_ser.specs.Serializers.Step.{Seen, Takes, Answer}
+use Rattle.content_ser.specs.Serializers.Step.{Seen}
 use Rattle.content_build.specs.Answers.{IsRefusalWithin}
-use Rattle.content_build.specs.Builder.{refuses, Finishes, HasTaken, AnswersNext, AnswersEnd}
+use Rattle.content_build.specs.Builder.{Finishes, HasTaken, AnswersEnd}
 use Rattle.content_build.specs.Builder.{StepsAreExact}
-use Rattle.content_build.specs.Limit.{Limited, step, run, fresh_within}
+use Rattle.content_build.specs.Limit.{Limited, fresh_within}
 use Rattle.content_build.proofs.Headline.{finished, unfinished}
 use Rattle.content_build.proofs.Limits.{one_more, viable_from_run, never_viable, still_viable}
 

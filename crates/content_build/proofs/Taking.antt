@@ -1,7 +1,7 @@
 -- From the answer of a call in a partial tree to what the trait says of it.
 use Rattle.std.proofs.Common.{◌≡◌, ℕ, Bool, Option, Some, None, Ok, Err, refl, sym}
 use Rattle.std.proofs.Common.{ap}
-use Rattle.std.proofs.Common.{subst, ◌∙◌, IsSome, option_and_then, option_map, inl, inr, ⊎_elim}
+use Rattle.std.proofs.Common.{subst, ◌∙◌, IsSome, option_and_then, option_map, inl, inr}
 use Rattle.std.proofs.Common.{Result}
 use Rattle.content_ser.specs.Calls.Event.{Event}
 use Rattle.content_ser.specs.Grammar.Token.{Token, token_of}
