@@ -417,6 +417,7 @@ struct A(u8, Größe, <u8 as X>::Y, *const u8, impl X, !, Vec<u8>::Item, m!(x), 
 
 // 3: A.X: of an enum that is tagged adjacently, only variants with no values and with one value are covered
 // 6: B.X: of an untagged enum, only one to four values by place are covered
+// 6: B.Y: of an untagged enum, only one to four values by place are covered
 #[derive(Serialize, Deserialize)]
 #[serde(tag = "t", content = "c")]
 enum A { X(u8, u8) }
@@ -617,3 +618,68 @@ struct B { x: u8 }
 #[derive(Serialize)]
 #[serde(transparent)]
 enum A { B(u8) }
+
+// 3: A: `derive(Copy)` needs Clone: derive that too
+// 5: A.X: of an untagged enum, only one to four values by place are covered
+// 6: A.Y: of an untagged enum, only one to four values by place are covered
+// 7: A.Z.0: floats are not covered
+// 11: B: the tag and the content are both called `t`: give one of them another name
+// 13: B.X: of an enum that is tagged adjacently, only variants with no values and with one value are covered
+// 14: B.Y: of an enum that is tagged adjacently, only variants with no values and with one value are covered
+// 16: C.U.0: a HashMap is not covered: a BTreeMap is
+// 16: C.Z: what stands beside a tag is covered where it is a struct of this file with named fields and without `deny_unknown_fields` and `flatten`
+// 16: C.V: what stands beside a tag is covered where it is a struct of this file with named fields and without `deny_unknown_fields` and `flatten`
+// 16: C.X: a field is called as the tag, `t`: give one of them another name
+// 16: C.Y: a field is called as the tag, `t`: give one of them another name
+// 16: C.W: of an enum that is tagged internally, only variants with no values and with a struct, or values by name, are covered
+// 18: D.T.x: its default is not covered: those of numbers, bool, String, Option, Vec, BTreeMap and of your own types that derive Default are
+#[derive(Serialize, Copy)]
+#[serde(untagged)]
+enum A {
+    W(u8),
+    X,
+    Y { x: u8 },
+    Z(f64),
+}
+#[derive(Serialize)]
+#[serde(tag = "t", content = "t")]
+enum B {
+    W(u8),
+    X(u8, u8),
+    Y { x: u8 },
+}
+#[derive(Serialize)] #[serde(tag = "t")] enum C { X { t: u8 }, Y(E), Z(u8), V(A), U(HashMap<u8, u8>), W(u8, u8) }
+#[derive(Deserialize)]
+enum D { T { #[serde(default)] x: char } }
+#[derive(Serialize)]
+struct E { t: u8 }
+
+// 3: A.x: the name `\xfc` is not covered: printable ASCII but " and \ is
+// 4: A.y: serde's `skip_serializing_if` so is not covered: Option::is_none, String::is_empty, Vec::is_empty, BTreeMap::is_empty are, each on a field of its type
+// 5: A.z: two are called `y`: give one another name by `rename`
+// 6: A.u: two are called `y`: give one another name by `rename`
+// 7: A.v: a type that begins with `[` is not covered: write a Vec, or a tuple of up to four
+// 10: B: two fields are called `p`: give one another name by `rename`
+// 10: B: two fields are called `q`: give one another name by `rename`
+// 14: D.c: what is flattened is covered where it is a struct of this file with named fields and without `deny_unknown_fields`
+// 14: D.t: what is flattened is covered where it is a struct of this file with named fields and without `deny_unknown_fields`
+// 16: E.X: two are called `Y`: give one another name by `rename`
+// 16: E.X.1: its default is not covered: it is in fields with names
+// 16: E.Z.a: two are called `b`: give one another name by `rename`
+// 16: E.U.0: serde's `skip_serializing_if` is covered in fields with names: give them names
+#[derive(Serialize)]
+struct A {
+    #[serde(rename = "ü")] x: u8,
+    #[serde(skip_serializing_if = "is_zero")] y: u8,
+    #[serde(rename = "y")] z: u8,
+    #[serde(rename = "y")] u: u8,
+    #[serde(skip_serializing_if = "is_zero")] v: [u8; 2],
+}
+#[derive(Serialize)]
+struct B { #[serde(flatten)] c: C, p: u8, q: u8 }
+#[derive(Serialize)]
+struct C { p: u8, q: u8 }
+#[derive(Serialize)]
+struct D { #[serde(flatten)] c: Option<C>, #[serde(flatten)] a: A, #[serde(flatten)] t: (u8, u8) }
+#[derive(Serialize)]
+enum E { Y, #[serde(rename = "Y")] X(u8, #[serde(default)] u8), Z { b: u8, #[serde(rename = "b")] a: u8 }, U(#[serde(skip_serializing_if = "f")] u8) }

@@ -10,7 +10,6 @@ from .words import NO_PLACES
 
 # paths, and names that may be those of a type
 NO_PLACE = re.compile(r".*\.|[A-Z]")
-MENTIONED = re.compile(r"(?:`\w+`: )?(?:(?:field|variant) `([\w.]+)`: )?")
 
 
 class Refused(Exception):
@@ -24,10 +23,6 @@ class Refused(Exception):
 
     def inside(self, name: str) -> "Refused":
         """The same inside of a type, or of what is in it."""
-        found = MENTIONED.match(self.reason)
-        if found:
-            self.where = ".".join(filter(None, [found.group(1), self.where]))
-            self.reason = self.reason[found.end():]
         self.where = ".".join(filter(None, [name, self.where]))
         return self
 

@@ -1,7 +1,7 @@
 """Where the own types of a file are declared, and which types are covered."""
 from collections import Counter
 from dataclasses import replace
-from typing import Dict, Iterator, List, Set, Tuple
+from typing import Dict, Iterable, Iterator, List, Optional, Set, Tuple
 
 from .attributes import NOT_COVERED, SERDE
 from .declarations import Field, Item, Refused
@@ -33,6 +33,17 @@ def placed(item: Item) -> Iterator[Tuple[str, Field]]:
         yield f"{item.name}.{f.name}", f
 
 
+def check_leaves(item: Item) -> Iterator[Refused]:
+    """Refuses fields of one name beside each other where some are flattened, and too many of them."""
+    leaves = item.data.leaves()
+    for wire, count in Counter(f.wire for f in leaves).items():
+        if count > 1:
+            yield Refused(item.line, f"two fields are called `{wire}`: give one another name by `rename`", item.name)
+    if len(leaves) > MOST_FIELDS:
+        yield Refused(item.line, f"more than {MOST_FIELDS} fields are not covered: hold some in a struct that is not flattened",
+                      item.name)
+
+
 class Homes:
     """Finds where the own types of a file are declared, and refuses types that are not covered."""
 
@@ -44,16 +55,25 @@ class Homes:
         self.aliases: Dict[str, Type] = {}
         self.opened: Set[str] = set()
         self.declared: Dict[str, Tuple[str, str]] = {}
+        self.told = {refused.where for refused in file.refused}
 
     @staticmethod
     def specs(crate: str, modules: List[str]) -> str:
         """The path of a module's specifications, with a place for the sort of them."""
         return ".".join([f"Rattle.{crate}.specs.{{}}"] + [m for m in modules if m])
 
-    def refuse(self, line: int, where: str, reason: str) -> None:
+    def refuse(self, refused: Refused) -> None:
         """Keeps a refusal; the item is not written."""
-        self.items[where.split(".")[0]].covered = False
-        self.file.refused.append(Refused(line, reason, where))
+        self.items[refused.where.split(".")[0]].covered = False
+        self.file.refused.append(refused)
+        self.told.add(refused.where)
+
+    def keep(self, each: Iterable[Refused]) -> None:
+        """Keeps refusals, but those of fields and variants that were refused before."""
+        told = {where for where in self.told if "." in where}
+        for refused in each:
+            if refused.where not in told:
+                self.refuse(refused)
 
     def resolve(self) -> None:
         """Writes out the aliases and the names of std's types in all fields."""
@@ -62,7 +82,7 @@ class Homes:
                 try:
                     f.type = self.resolved(f.type, item)
                 except ValueError as reason:
-                    self.refuse(f.line, where, str(reason))
+                    self.refuse(Refused(f.line, str(reason), where))
                     f.type = Type("()")
 
     def resolved(self, t: Type, holder: Item) -> Type:
@@ -134,8 +154,8 @@ class Homes:
                         stack.append((self.items[name], self.parts_of(self.items[name])))
                         break
                     if name not in done:
-                        self.refuse(f.line, where, f"`{name}` contains itself, which is not covered, as its contract"
-                                    " would speak of itself: write its impls by hand")
+                        self.refuse(Refused(f.line, f"`{name}` contains itself, which is not covered, as its contract"
+                                            " would speak of itself: write its impls by hand", where))
                         f.type = Type("()")
                 else:
                     done.add(stack.pop()[0].name)
@@ -148,50 +168,45 @@ class Homes:
                 try:
                     f.type = self.settled(f.type, item)
                 except ValueError as reason:
-                    self.refuse(f.line, where, str(reason))
+                    self.refuse(Refused(f.line, str(reason), where))
                     f.type = Type("()")
-            if item.covered:
-                self.inline(item)
+            self.inline(item)
 
     def inline(self, item: Item) -> None:
         """Takes in what is flattened and what stands beside a tag."""
-        try:
-            for f in item.fields():
-                if "flatten" in f.serde:
-                    part = self.inlined(f, f"field `{f.name}`: what is flattened")
-                    f.inside, item.levels = part.data, max(item.levels, part.levels + 1)
-                    item.covered &= part.covered
+        flattened = [(where, f) for where, f in placed(item) if "flatten" in f.serde]
+        for where, f in flattened:
+            part = self.inlined(f, where, where, "what is flattened")
+            if part:
+                f.inside, item.levels = part.data, max(item.levels, part.levels + 1)
+        if "tag" in item.serde and "content" not in item.serde:
             for v in item.variants:
-                if v.data.style == "Newtype" and "tag" in item.serde and "content" not in item.serde:
-                    v.beside = self.inlined(v.data.fields[0], f"variant `{v.name}`: what stands beside a tag")
-                    item.covered &= v.beside.covered
-            self.check_leaves(item)
-        except Refused as refused:
-            item.covered = False
-            self.file.refused.append(refused.inside(item.name))
+                if v.data.style == "Newtype":
+                    where = f"{item.name}.{v.name}"
+                    v.beside = self.inlined(v.data.fields[0], f"{where}.0", where, "what stands beside a tag")
+        for refused in check_leaves(item) if flattened and all(f.inside for _, f in flattened) else ():
+            self.refuse(refused)
 
-    def inlined(self, f: Field, what: str) -> Item:
-        """The struct in a field, whose own fields are sent and read in its place."""
-        part = self.items.get(f.type.name)
-        if not part or not part.data.named or part.data.closed or part.transparent() or (part.flattens() and "flatten" not in f.serde):
-            raise Refused(f.line, f"{what} is covered where it is a struct of this file with named fields and without"
-                          f" `deny_unknown_fields`{'' if 'flatten' in f.serde else ' and `flatten`'}")
-        if "flatten" in f.serde and any(inside.skips for inside in part.data.leaves()):
-            raise Refused(f.line, f"{what} is not covered where `skip_serializing_if` leaves out some of it: name the fields")
-        if part.levels > DEEPEST_FLATTENED:
-            raise Refused(f.line, f"{what} in more than {DEEPEST_FLATTENED} levels is not covered: name the fields")
-        return part
-
-    @staticmethod
-    def check_leaves(item: Item) -> None:
-        """Refuses two of one name beside each other, and too many."""
-        for data in item.parts() if item.covered else []:
-            for wire, count in Counter(f.wire for f in data.leaves() if data.named).items():
-                if count > 1:
-                    raise Refused(item.line, f"two fields are called `{wire}`: give one another name by `rename`")
-            if item.flattens() and len(data.leaves()) > MOST_FIELDS:
-                raise Refused(item.line, f"more than {MOST_FIELDS} fields are not covered: hold some in a struct that is"
-                              " not flattened")
+    def inlined(self, f: Field, place: str, where: str, what: str) -> Optional[Item]:
+        """The struct in a field of this path, whose own fields are sent and read in its place; none where that is refused,
+        which is kept for `where`."""
+        part, flattens = self.items.get(f.type.name), "flatten" in f.serde
+        if place in self.told:
+            return None
+        if part and part.sort == "struct" and not part.covered:
+            self.items[where.split(".")[0]].covered = False
+            return None
+        if not part or not part.data.named or part.data.closed or part.transparent() or (part.flattens() and not flattens):
+            reason = ("is covered where it is a struct of this file with named fields and without `deny_unknown_fields`"
+                      f"{'' if flattens else ' and `flatten`'}")
+        elif flattens and any(inside.skips for inside in part.data.leaves()):
+            reason = "is not covered where `skip_serializing_if` leaves out some of it: name the fields"
+        elif part.levels > DEEPEST_FLATTENED:
+            reason = f"in more than {DEEPEST_FLATTENED} levels is not covered: name the fields"
+        else:
+            return part
+        self.refuse(Refused(f.line, f"{what} {reason}", where))
+        return None
 
     def settled(self, t: Type, holder: Item) -> Type:
         """The type with its home; a ValueError says why it is not covered."""

@@ -1,6 +1,6 @@
 """The whole module: what it uses, declarations and impls."""
 import re
-from typing import Dict, Iterator, List, Optional, Set, Tuple, Union
+from typing import Callable, Dict, Iterable, Iterator, List, Optional, Set, Tuple, Union
 
 from .attributes import doc_line
 from .checks import check, check_work
@@ -12,10 +12,10 @@ from .homes import Homes
 from .literals import with_names
 from .names import name_item
 from .structs import StructWriter, TransparentWriter
-from .tagged import TaggedWriter
+from .tagged import TaggedWriter, check_tagged
 from .types import CBOR, NOT_NULL, READ, TRIP, snake
 from .unique import KINDS, name_cases, name_functions
-from .untagged import UntaggedWriter
+from .untagged import UntaggedWriter, check_untagged
 from .words import ALIASES, METHODS, SEEN, USES, WORDS, words_in, words_of
 
 Writer = Union[StructWriter, EnumWriter]
@@ -74,41 +74,38 @@ def read(source: str) -> File:
         raise Refused(reader.next.line, "what nests so deeply is not covered: divide it") from None
 
 
-def tried(item: Item, refused: List[Refused], step) -> None:
-    """Takes a step of an item that is covered so far, and keeps what is refused."""
-    try:
-        if item.covered:
-            step(item)
-    except Refused as why:
-        item.covered = False
-        refused.append(why.inside(item.name))
+def check_variants(item: Item) -> Iterator[Refused]:
+    """Refuses variants that are not covered as their enum is tagged."""
+    if "untagged" in item.serde:
+        yield from check_untagged(item)
+    elif "tag" in item.serde:
+        yield from check_tagged(item)
 
 
 def settled(file: File, homes: Homes) -> Dict[str, Writer]:
     """The writers of a file's types, once all names and types are known; a Refusals says what is not covered."""
-    refused, writers = file.refused, {}
-    for why in check(file, homes.module):
-        refused.append(why)
-        homes.items[why.where.split(".")[0]].covered = False
+    def keep(check: Callable[[Item], Iterable[Refused]]) -> None:
+        homes.keep(refused for item in file.items for refused in check(item))
+
+    for refused in check(file, homes.module):
+        homes.refuse(refused)
     homes.resolve()
-    for item in file.items:
-        tried(item, refused, name_item)
+    keep(name_item)
     homes.settle()
     settle_defaults(list(homes.ordered()), homes.items, file)
-    for item in file.items:
-        tried(item, refused, lambda item: check_missing(item, homes.items))
-    for item in file.items:
-        refused += check_derives(item, homes.items, file) if item.covered else []
-    refused += check_work([item for item in file.items if item.covered])
+    keep(lambda item: check_missing(item, homes.items))
+    keep(check_variants)
+    covered = [item for item in file.items if item.covered]
+    keep(lambda item: check_derives(item, homes.items, file))
+    for refused in check_work(covered):
+        homes.refuse(refused)
+    if not file.items and not file.refused:
+        file.refused.append(Refused(1, "no struct or enum here derives Serialize or Deserialize: derive one of them"))
+    if file.refused:
+        raise Refusals(file.refused)
     name_functions(file.items)
     name_cases(file.items, [declared for _, declared in homes.declared.values()])
-    for item in file.items:
-        tried(item, refused, lambda item: writers.update({item.name: writer_of(item)}))
-    if not file.items and not refused:
-        refused.append(Refused(1, "no struct or enum here derives Serialize or Deserialize: derive one of them"))
-    if refused:
-        raise Refusals(refused)
-    return writers
+    return {item.name: writer_of(item) for item in file.items}
 
 
 def brought(words: Set[str], word: str, texts: List[str]) -> bool:

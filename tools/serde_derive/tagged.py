@@ -1,7 +1,7 @@
 """What is written of a tagged enum: structs of which one field names the variant, and the others or
 one other hold its values."""
 import re
-from typing import List, Optional
+from typing import Iterator, List, Optional
 
 from .cases import pascal
 from .declarations import Data, Field, Item, Refused, Variant
@@ -10,6 +10,26 @@ from .holder import LONGEST_HELD, Holder
 from .literals import list_impl, name_call, name_method, name_term, opened
 from .text import DESERIALIZE, elim, function, ghost, together
 from .types import DEFAULTS, nest
+
+
+def beside_tag(v: Variant) -> List[Field]:
+    """The fields of a variant beside an internal tag."""
+    return v.beside.data.fields if v.beside else v.data.fields
+
+
+def check_tagged(item: Item) -> Iterator[Refused]:
+    """Refuses variants that are not covered beside a tag, and names that are the tag's."""
+    tag, content = item.serde["tag"], item.serde.get("content")
+    sort, held = ("adjacently", "one value") if content else ("internally", "a struct, or values by name,")
+    if tag == content:
+        yield Refused(item.line, f"the tag and the content are both called `{tag}`: give one of them another name", item.name)
+    for v in item.variants:
+        where = f"{item.name}.{v.name}"
+        if v.data.style == "Tuple" or (v.data.named and content):
+            yield Refused(v.line, f"of an enum that is tagged {sort}, only variants with no values and with {held} are"
+                          " covered", where)
+        elif not content and tag in [f.wire for f in beside_tag(v)]:
+            yield Refused(v.line, f"a field is called as the tag, `{tag}`: give one of them another name", where)
 
 
 class TaggedHolder(Holder):
@@ -50,16 +70,8 @@ class TaggedWriter(EnumWriter):
 
     def fields_of(self, v: Variant) -> List[Field]:
         """The fields beside the tag: the variant's own, or the one that holds its value."""
-        if v.data.style == "Tuple" or (v.data.named and self.content):
-            held = "one value" if self.content else "a struct, or values by name,"
-            sort = "adjacently" if self.content else "internally"
-            raise Refused(v.line, f"variant `{v.name}`: of an enum that is tagged {sort}, only variants with no values"
-                          f" and with {held} are covered")
-        beside = v.beside.data.fields if v.beside else v.data.fields
-        if self.tag in [self.content] + [f.wire for f in beside]:
-            raise Refused(v.line, f"variant `{v.name}`: a field is called as the tag, `{self.tag}`")
         if not self.content:
-            return beside
+            return beside_tag(v)
         return [Field("x1", f.line, [], {}, self.content, f.type, missing=DEFAULTS["Option"] if f.type.name == "Option" else "")
                 for f in v.data.fields]
 
