@@ -113,7 +113,7 @@ class Parser(Attributes):
         if not fields:
             raise Refused(line, "what has no fields is covered without brackets alone: delete them")
         if len(fields) > MOST_FIELDS:
-            raise Refused(line, f"more than {MOST_FIELDS} fields are not covered: put some into a struct with `flatten`")
+            raise Refused(line, f"more than {MOST_FIELDS} fields are not covered: hold some in a struct of their own")
         return Data(style, fields)
 
     def variant(self, into: List[Variant]) -> None:
