@@ -157,9 +157,8 @@ def module(source: str, name: str, crate: str, place: str, cbor: bool = False,
     homes = Homes(crate, place, file)
     writers = settled(file, homes)
     if notes is not None:
-        notes += sorted(file.notes) + [(item.line, f"no RoundTrip is written for `{item.name}`: `{f.name}` may be left out, and is not read"
-                   " where it is missing: give it `default` too") for item in file.items if item.derives_all()
-                  for f in item.lost()[:1]]
+        notes += sorted(file.notes) + [(item.line, f"no RoundTrip is written for `{item.name}`: {item.why_astray()}")
+                                       for item in file.items if item.derives_all() and not item.comes_back()]
     texts = [text for item in file.items for text in texts_of(item, writers[item.name], cbor)]
     body = with_names("\n".join(texts), [item.name for item in file.items])
     docs = file.docs or ["//! Types that are sent and read."]
