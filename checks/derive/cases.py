@@ -116,7 +116,7 @@ def commands(room: Path) -> Iterator[str]:
     (room / "latin.rs").write_bytes(b"//! caf\xe9\n")
     out.write_text("what stood there\n")
     tries = [
-        (["bad.rs", "-o", "out.rt"], 2, "bad.rs:2: A.0: floats are not covered", "what stood there\n"),
+        (["bad.rs", "-o", "out.rt"], 2, "bad.rs:2: A.0: floats are not covered: hold a whole number of a smaller unit, or a String", "what stood there\n"),
         (["good.rs", "-o", "nowhere/out.rt"], 1, "nowhere/out.rt: can't be written: No such file or directory", None),
         (["none.rs"], 1, "none.rs: can't be read: No such file or directory", None),
         (["."], 1, ".: can't be read: Is a directory", None),

@@ -65,11 +65,11 @@ def check_missing(item: Item, items: Dict[str, Item]) -> Iterator[Refused]:
         if "default" not in f.serde or f.type.name in DEFAULTS:
             continue
         if not f.type.home:
-            yield Refused(f.line, "its default is not covered: those of numbers, bool, String, Option, Vec, BTreeMap and of"
-                          " your own types that derive Default are", where)
+            yield Refused(f.line, "its default is not covered: hold a number, bool, String, Option, Vec, BTreeMap or a type"
+                          " of your own that derives Default", where)
         elif mine and mine.covered and not mine.absent:
             yield Refused(f.line, f"its default is not covered: `{f.type.name}` derives no Default, or holds what has none"
-                          " here", where)
+                          " here: hold an Option", where)
 
 
 def check_default(item: Item) -> Iterator[Refused]:

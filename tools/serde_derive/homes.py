@@ -3,7 +3,7 @@ from collections import Counter
 from dataclasses import replace
 from typing import Dict, Iterable, Iterator, List, Optional, Set, Tuple
 
-from .attributes import NOT_COVERED, SERDE
+from .attributes import SERDE
 from .declarations import Field, Item, Refused
 from .files import File
 from .parser import DEEPEST, MOST_FIELDS
@@ -14,6 +14,11 @@ STANDARD = {"std", "core", "alloc"}
 # where the standard library has the types that are covered
 MODULES = {**{name: ["primitive"] for name in LEAVES}, "String": ["string"], "Option": ["option"], "Vec": ["vec"],
            "Box": ["boxed"], "BTreeMap": ["collections", "collections::btree_map"]}
+# types of which it is known what to write instead
+NOT_COVERED = {
+    **dict.fromkeys(["f32", "f64"], "floats are not covered: hold a whole number of a smaller unit, or a String"),
+    "HashMap": "a HashMap is not covered: hold a BTreeMap",
+}
 MOST_PARTS = 500
 DEEPEST_FLATTENED = 16
 
@@ -102,7 +107,7 @@ class Homes:
     def alias(self, name: str, holder: Item) -> Type:
         """What an alias stands for."""
         if name in self.opened:
-            raise ValueError(f"the alias `{name}` stands for itself")
+            raise ValueError(f"the alias `{name}` stands for itself: write the type that it should stand for")
         if len(self.opened) > DEEPEST:
             raise ValueError(f"more than {DEEPEST} aliases of aliases are not covered: write the type that they stand for")
         if name not in self.aliases:
@@ -198,7 +203,7 @@ class Homes:
             return None
         if not part or not part.data.named or part.data.closed or part.transparent() or (part.flattens() and not flattens):
             reason = ("is covered where it is a struct of this file with named fields and without `deny_unknown_fields`"
-                      f"{'' if flattens else ' and `flatten`'}")
+                      f"{': hold such a struct, or delete `flatten`' if flattens else ' and `flatten`: hold such a struct'}")
         elif flattens and any(inside.skips for inside in part.data.leaves()):
             reason = "is not covered where `skip_serializing_if` leaves out some of it: name the fields"
         elif part.levels > DEEPEST_FLATTENED:
@@ -235,7 +240,7 @@ class Homes:
         if astray and holder.derives_all() and "untagged" not in holder.serde:
             raise ValueError(
                 f"`{name}` does not come back, as `{part.lost()[0].name}` may be left out: give that `default` too"
-                if part.lost() else f"`{name}` is untagged and does not come back, so what holds it derives no Eq")
+                if part.lost() else f"`{name}` is untagged and does not come back: tag it, or delete Eq here")
         if lacking:
             raise ValueError(f"`{name}` does not derive {', '.join(sorted(lacking))}, as what holds it does: derive that too")
         law = ("records", "map_takes" if part.flattens() else "struct_takes")
@@ -251,8 +256,7 @@ class Homes:
             raise ValueError(f"the type `{'::'.join(path)}` is not covered: hold what it is made of, as a number or"
                              " a String")
         if len(path) < 2 or path[0] in ("self", "super"):
-            raise ValueError(f"the type `{name}` is not covered; one of your own is declared in this"
-                             " file, or named by its full path")
+            raise ValueError(f"the type `{name}` is not covered: declare it in this file, or name it by its full path")
         raw = [part for part in path if part.startswith("r#")]
         if raw:
             raise ValueError(f"the name `{raw[0]}` is not covered: give it a plain one")
@@ -272,6 +276,7 @@ class Homes:
     def check_key(self, key: Type) -> None:
         mine = self.items.get(key.name)
         if not (key.home or key.name in NUMBERS or key.name in ("String", "char")):
-            raise ValueError(f"a map with keys of type `{key.rust()}` is not covered")
+            raise ValueError(f"a map with keys of type `{key.rust()}` is not covered: hold a Vec of pairs, or put the key into"
+                             " a struct that derives Ord")
         if mine and mine.covered and not {"PartialOrd", "Ord"} <= set(mine.derives):
-            raise ValueError(f"`{key.name}` does not derive PartialOrd and Ord, as the keys of a map do")
+            raise ValueError(f"`{key.name}` does not derive PartialOrd and Ord, as the keys of a map do: derive them too")

@@ -40,7 +40,7 @@ def name_fields(holder: str, data: Data, by_case: ByCase) -> Iterator[Refused]:
     fields = [(f"{holder}.{f.name}", f) for f in data.fields]
     for where, f in fields:
         if "default" in f.serde and not data.named:
-            yield Refused(f.line, "its default is not covered: it is in fields with names", where)
+            yield Refused(f.line, "serde's `default` is covered in fields with names: give them names", where)
         elif "default" in f.serde or (data.named and f.type.name == "Option"):
             f.missing = DEFAULTS.get(f.type.name, f"⟦<{f.type.rust()} as Absent>⟧.is_absent x")
         if "skip_serializing_if" in f.serde:

@@ -20,14 +20,15 @@ def beside_tag(v: Variant) -> List[Field]:
 def check_tagged(item: Item) -> Iterator[Refused]:
     """Refuses variants that are not covered beside a tag, and names that are the tag's."""
     tag, content = item.serde["tag"], item.serde.get("content")
-    sort, held = ("adjacently", "one value") if content else ("internally", "a struct, or values by name,")
+    sort, held, instead = (("adjacently", "one value", "a tuple or a struct of them") if content else
+                           ("internally", "a struct, or values by name,", "a struct of them"))
     if tag == content:
         yield Refused(item.line, f"the tag and the content are both called `{tag}`: give one of them another name", item.name)
     for v in item.variants:
         where = f"{item.name}.{v.name}"
         if v.data.style == "Tuple" or (v.data.named and content):
             yield Refused(v.line, f"of an enum that is tagged {sort}, only variants with no values and with {held} are"
-                          " covered", where)
+                          f" covered: hold {instead}", where)
         elif not content and tag in [f.wire for f in beside_tag(v)]:
             yield Refused(v.line, f"a field is called as the tag, `{tag}`: give one of them another name", where)
 

@@ -14,7 +14,9 @@ def check_untagged(item: Item) -> Iterator[Refused]:
     """Refuses variants that are not covered without a tag."""
     for v in item.variants:
         if v.data.named or not 1 <= len(v.data.fields) <= 4:
-            yield Refused(v.line, "of an untagged enum, only one to four values by place are covered", f"{item.name}.{v.name}")
+            instead = "a struct of them" if v.data.fields else "`()`"
+            yield Refused(v.line, "of an untagged enum, only variants with one to four values by place are covered: hold"
+                          f" {instead}", f"{item.name}.{v.name}")
 
 
 class UntaggedWriter(EnumWriter):
