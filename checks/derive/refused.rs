@@ -581,13 +581,13 @@ struct B { x: u8 }
 #[derive(Serialize)]
 struct A { #[serde(flatten)] b: B }
 
-// 4: B.a: `A` does not come back, as `x` may be left out: give that `default` too
+// 4: B.a: delete Eq here, as `A` does not come back: `x` may be left out, and is not read where it is missing: give it `default` too
 #[derive(PartialEq, Eq, Serialize, Deserialize)]
 struct A { #[serde(skip_serializing_if = "Vec::is_empty")] x: Vec<u8> }
 #[derive(PartialEq, Eq, Serialize, Deserialize)]
 struct B { a: A }
 
-// 4: B.A.0: `A` does not come back, as `x` may be left out: give that `default` too
+// 4: B.A.0: delete Eq here, as `A` does not come back: `x` may be left out, and is not read where it is missing: give it `default` too
 #[derive(PartialEq, Eq, Serialize, Deserialize)]
 struct A { #[serde(skip_serializing_if = "String::is_empty")] x: String, y: u8 }
 #[derive(PartialEq, Eq, Serialize, Deserialize)]
@@ -697,7 +697,7 @@ enum E { Y, #[serde(rename = "Y")] X(u8, #[serde(default)] u8), Z { b: u8, #[ser
 // 13: A.v: a type that begins with `for` is not covered: write an enum of the functions that it may be
 // 14: A.w: `K` does not derive PartialOrd and Ord, as the keys of a map do: derive them too
 // 18: B: an enum of no variants is not covered, as no value of it is sent or read: delete it
-// 22: D.a: `C` is untagged and does not come back: tag it, or delete Eq here
+// 22: D.a: delete Eq here, as `C` does not come back: a value of `Y` may be read as `X`: tag the enum, or hold tuples of different lengths
 #[derive(Serialize, Deserialize)]
 #[rustfmt::skip]
 #[serde(try_from = "B")]
@@ -720,3 +720,13 @@ struct K(u8);
 #[serde(untagged)] enum C { X(u8), Y(u16) }
 #[derive(PartialEq, Eq, Serialize, Deserialize)]
 struct D { a: C }
+
+// 2: A: serde's `flatten` is covered in structs with named fields and without `deny_unknown_fields`
+// 4: C: serde's `flatten` is covered in structs with named fields and without `deny_unknown_fields`
+// 4: C.X.b: what is flattened is covered where it is a struct of this file with named fields and without `deny_unknown_fields`: hold such a struct, or delete `flatten`
+#[derive(Serialize)]
+struct A(u8, u8, #[serde(flatten)] B);
+#[derive(Serialize)]
+enum C { X { #[serde(flatten)] b: u8 } }
+#[derive(Serialize)]
+struct B { x: u8 }

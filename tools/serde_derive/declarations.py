@@ -2,7 +2,7 @@
 import re
 from dataclasses import dataclass, field, replace
 from itertools import combinations, islice
-from typing import Dict, List, Optional, Tuple
+from typing import Dict, List, Optional
 
 from .types import SIGNED, Type, in_term
 from .words import NO_PLACES

@@ -91,6 +91,7 @@ class Homes:
                     f.type = Type("()")
 
     def resolved(self, t: Type, holder: Item) -> Type:
+        """The type with aliases written out and std's names short; a ValueError says why it is not covered."""
         first = t.name.split("::")[0]
         if first in self.file.passed:
             raise ValueError(f"`{first}` {self.file.passed[first]}")
@@ -189,8 +190,9 @@ class Homes:
                 if v.data.style == "Newtype":
                     where = f"{item.name}.{v.name}"
                     v.beside = self.inlined(v.data.fields[0], f"{where}.0", where, "what stands beside a tag")
-        for refused in check_leaves(item) if flattened and all(f.inside for _, f in flattened) else ():
-            self.refuse(refused)
+        if flattened and item.data.named and all(f.inside for _, f in flattened):
+            for refused in check_leaves(item):
+                self.refuse(refused)
 
     def inlined(self, f: Field, place: str, where: str, what: str) -> Optional[Item]:
         """The struct in a field of this path, whose own fields are sent and read in its place; none where that is refused,
@@ -230,27 +232,25 @@ class Homes:
         return self.part(t.name, holder) if t.name in self.items else self.own(t.name)
 
     def part(self, name: str, holder: Item) -> Type:
-        """An own type of this file."""
+        """An own type of this file; a ValueError says why what holds it is not covered."""
         part = self.items[name]
         needed = SERDE & set(holder.derives)
         lacking = (needed | ({"PartialEq", "Eq"} if holder.derives_all() else set())) - set(part.derives)
         if not part.covered:
             return Type(name, home=self.here, declared=name)
-        astray = part.derives_all() and not part.comes_back()
-        if astray and holder.derives_all() and "untagged" not in holder.serde:
-            raise ValueError(
-                f"`{name}` does not come back, as `{part.lost()[0].name}` may be left out: give that `default` too"
-                if part.lost() else f"`{name}` is untagged and does not come back: tag it, or delete Eq here")
+        why = part.why_astray() if part.derives_all() else ""
+        if why and holder.derives_all() and "untagged" not in holder.serde:
+            raise ValueError(f"delete Eq here, as `{name}` does not come back: {why}")
         if lacking:
             raise ValueError(f"`{name}` does not derive {', '.join(sorted(lacking))}, as what holds it does: derive that too")
         law = ("records", "map_takes" if part.flattens() else "struct_takes")
         self.known(name, self.here, name)
-        return Type(name, home=self.here, declared=name, plain=not part.asked(), astray=astray,
+        return Type(name, home=self.here, declared=name, plain=not part.asked(), astray=bool(why),
                     lost=not part.comes_back_from_cbor(), null=part.may_be_null(),
                     record=law if part.data.named and not part.transparent() else None)
 
     def own(self, name: str) -> Type:
-        """An own type of another file."""
+        """An own type of another file; a ValueError says why it is not covered."""
         path = self.path(name)
         if path[0] in STANDARD | {"serde"} and len(path) > 1:
             raise ValueError(f"the type `{'::'.join(path)}` is not covered: hold what it is made of, as a number or"
@@ -269,11 +269,12 @@ class Homes:
         return Type(name, home=home, declared=path[-1])
 
     def known(self, name: str, home: str, declared: str) -> None:
-        """Refuses two types whose names in contracts would be one."""
+        """Refuses two types whose names in contracts would be one, as a ValueError."""
         if self.declared.setdefault(snake(declared), (home, declared)) != (home, declared):
             raise ValueError(f"`{name}` has the name of another type that is used here: call one of them otherwise")
 
     def check_key(self, key: Type) -> None:
+        """Refuses a type that no key of a map has, as a ValueError."""
         mine = self.items.get(key.name)
         if not (key.home or key.name in NUMBERS or key.name in ("String", "char")):
             raise ValueError(f"a map with keys of type `{key.rust()}` is not covered: hold a Vec of pairs, or put the key into"

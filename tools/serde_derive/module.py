@@ -40,6 +40,7 @@ def impl(item: Item, trait: str, members: List[str], lifetime: str = "") -> str:
 
 
 def writer_of(item: Item) -> Writer:
+    """What writes the impls of a covered item."""
     if not item.variants:
         return TransparentWriter(item) if item.transparent() else StructWriter(item)
     sort = UntaggedWriter if "untagged" in item.serde else TaggedWriter if "tag" in item.serde else EnumWriter
@@ -84,8 +85,9 @@ def check_variants(item: Item) -> Iterator[Refused]:
 
 def settled(file: File, homes: Homes) -> Dict[str, Writer]:
     """The writers of a file's types, once all names and types are known; a Refusals says what is not covered."""
-    def keep(check: Callable[[Item], Iterable[Refused]]) -> None:
-        homes.keep(refused for item in file.items for refused in check(item))
+    def keep(refusals: Callable[[Item], Iterable[Refused]]) -> None:
+        """Keeps what this refuses of each item."""
+        homes.keep(refused for item in file.items for refused in refusals(item))
 
     for refused in check(file, homes.module):
         homes.refuse(refused)
@@ -137,8 +139,6 @@ def texts_of(item: Item, writer: Writer, cbor: bool) -> List[str]:
     """The declaration and the impls of an item."""
     try:
         return [item.declared(), "", *impls(item, writer, cbor)]
-    except Refused as refused:
-        raise Refusals([refused.inside(item.name)]) from None
     except RecursionError:
         raise Refusals([Refused(item.line, "what it holds has too many or too long names: divide it", item.name)]) from None
 

@@ -1,14 +1,14 @@
 """What is written of a tagged enum: structs of which one field names the variant, and the others or
 one other hold its values."""
 import re
-from typing import Iterator, List, Optional
+from typing import Iterator, List
 
 from .cases import pascal
 from .declarations import Data, Field, Item, Refused, Variant
 from .enums import EnumWriter
 from .holder import LONGEST_HELD, Holder
 from .literals import list_impl, name_call, name_method, name_term, opened
-from .text import DESERIALIZE, elim, function, ghost, together
+from .text import DESERIALIZE, bare, elim, function, ghost, together
 from .types import DEFAULTS, nest
 
 
@@ -49,16 +49,13 @@ class TaggedHolder(Holder):
     def room(self) -> int:
         return LONGEST_HELD
 
-    def script(self, values: List[str], members: Optional[List[str]] = None) -> str:
-        members = members or [f.type.member("Serialize", "script") for f in self.fields]
-        inner = [f"({member} {value})" for member, value in zip(members, values)]
+    def script(self, values: List[str]) -> str:
         head = f"tagged_script {self.names} {self.length(values, 1)} {name_term(self.tag)} {name_term(self.variant)}"
-        return head + self.row("script", inner, values=values)
+        return head + self.row("script", self.scripts(values), values=values)
 
     def lawful(self, values: List[str]) -> str:
-        laws = [f"({f.type.lawful(v)})" for f, v in zip(self.fields, values)]
-        return "struct_lawful" + nest(["field_fits (leaf_lawful refl)", *self.parts("lawful", laws, values=values)],
-                                      "struct_end_fits")
+        laws = self.parts("lawful", self.laws(values), values=values)
+        return "struct_lawful" + nest(["field_fits (leaf_lawful refl)", *laws], "struct_end_fits")
 
 
 class TaggedWriter(EnumWriter):
@@ -110,7 +107,7 @@ class TaggedWriter(EnumWriter):
         read = (f"fn read_variant<'n: 'de>(alloc: Global, tag: &str, fields: FieldsByName<'de, 'n>)"
                 f" -> Result<{self.item.name}>")
         ghosts = self.variants_ghosts()
-        return [*ghosts[:1], ghost("tag_name", name_term(self.tag)[1:-1]), *ghosts[1:],
+        return [*ghosts[:1], ghost("tag_name", bare(name_term(self.tag))), *ghosts[1:],
                 name_method("name", self.item.wire), name_method("tag", self.tag),
                 self.looking() + function(read, *self.dispatch("tag"))]
 
@@ -149,7 +146,8 @@ class TaggedWriter(EnumWriter):
         """The law that what the fields give without coercion they give with it."""
         words = f"{name_term(self.tag)} {name_term(v.wire)} {self.member('refusal')}"
         if not self.buffered:
-            return f"tag_keeps {{own ={holder.refusal_row()}}} {words}\n({opened('λ f. refl')}){self.unit(v, holder.keeps_row(self.sees(holder)))}"
+            row = self.unit(v, holder.keeps_row(self.sees(holder)))
+            return f"tag_keeps {{own ={holder.refusal_row()}}} {words}\n({opened('λ f. refl')}){row}"
         values = ["z"] if holder.count == 1 else [f"z.{i}" for i in range(holder.count)]
         seen = " × ".join(f.type.seen() for f in holder.fields) or "Unit {0}"
         return f"tag_keeps_buffered {words}\n(λ (z : {seen}).{holder.gives_row(values)})"
