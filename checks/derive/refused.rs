@@ -47,7 +47,7 @@ struct A {
 #[derive(Serialize)]
 struct A(#[serde(skip_serializing_if = "Option::is_none")] Option<u8>);
 
-// 2: A: serde's `skip_serializing_if` is not covered beside `flatten`: name the fields
+// 6: A.x: serde's `skip_serializing_if` is not covered beside `flatten`: name the fields
 #[derive(Serialize)]
 struct A {
     #[serde(flatten)]
@@ -124,7 +124,7 @@ struct B {
     y: u8,
 }
 
-// 2: A: such attributes don't go together: `flatten` stands alone
+// 4: A.x: such attributes don't go together: `flatten` stands alone: delete the others
 #[derive(Serialize)]
 struct A {
     #[serde(flatten, default)]
@@ -559,7 +559,7 @@ struct B { x: u8 }
 #[derive(Deserialize)]
 struct C { #[serde(default)] x: (u8, u8) }
 
-// 3: A: such attributes don't go together: `transparent` and `rename`
+// 3: A: such attributes don't go together: `transparent` and `rename`: delete one of them
 #[derive(Serialize)]
 #[serde(transparent, rename = "B")]
 struct A(u8);
@@ -569,7 +569,7 @@ struct A(u8);
 #[serde(transparent)]
 struct A(u8, u8);
 
-// 3: A: serde's `default` on a field is not covered where its struct is `transparent`: delete it
+// 3: A.x: serde's `default` on a field is not covered where its struct is `transparent`: delete it
 #[derive(Serialize)]
 #[serde(transparent)]
 struct A { #[serde(default)] x: u8 }
