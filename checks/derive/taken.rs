@@ -386,3 +386,16 @@ struct B { x: String }
 enum A { X { q: String }, #[default] Y }
 #[derive(PartialEq, Eq, Serialize, Deserialize)]
 enum B { Z { #[serde(default)] a: A, b: i8 } }
+
+// 3: passed over: `impl<const N: usize> T<{N}> for A`
+// 4: passed over: `fn f`
+// 5: passed over: `crate::m!`
+// 6: passed over: `const _`
+// 7: passed over: `extern crate self`
+#[derive(Serialize)]
+struct A;
+impl<const N: usize> T<{ N }> for A where A: B<{ 3 }>, {}
+fn f() -> B<{ 3 }> { 1 }
+crate::m! {}
+const _: fn(u8) -> u8 = f;
+extern crate self as a;

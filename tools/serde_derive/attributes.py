@@ -134,7 +134,7 @@ class Attributes(Cursor):
     def foreign(self, start: int, line: int, name: str, head: Head) -> None:
         """An attribute that is not Serde's."""
         self.pass_to(",")
-        shown = self.shown(start)
+        shown = self.shown(start, self.place)
         if name == "cfg":
             raise Refused(line, f"`#[{shown}]` is not covered, as the module is written once for all: delete it,"
                           " or move what it is about to a file of its own")

@@ -7,6 +7,8 @@ from .types import Type
 
 DEEPEST = 48
 MOST_FIELDS, MOST_VARIANTS = 250, 500
+# keywords that begin an item, and are in none outside of brackets but before its name
+BEGIN_ITEMS = {"enum", "mod", "pub", "struct", "trait", "type"}
 BEGINS = {
     "&": "hold the value itself, as String for &str", "[": "write a Vec, or a tuple of up to four",
     "*": "hold the value itself", "dyn": "write an enum of the types that it may be",
@@ -35,7 +37,7 @@ class Parser(Attributes):
         if inside.text == "in":
             self.path()
         self.expect(")")
-        return f"pub{self.shown(start)} "
+        return f"pub{self.shown(start, self.place)} "
 
     def type(self, depth: int = 0) -> Type:
         """A type; those that aren't known yet have no home."""
@@ -132,7 +134,7 @@ class Parser(Attributes):
                 self.pass_to(",")
                 if self.place == start + 1:
                     raise NotRust(self.next.line, f"expected a value, found `{self.next.text}`")
-                self.notes.append((line, f"left out: the discriminant `{into[-1].name} {self.shown(start)}`"))
+                self.notes.append((line, f"left out: the discriminant `{into[-1].name} {self.shown(start, self.place)}`"))
 
         self.guarded(into[-1].name, head, read)
 
@@ -168,10 +170,14 @@ class Parser(Attributes):
         if len(item.variants) > MOST_VARIANTS:
             raise Refused(line, f"more than {MOST_VARIANTS} variants are not covered: hold a text or a number")
 
-    def pass_item(self) -> None:
-        """Passes an item up to its end: a `;`, or what stands in braces."""
-        while self.next.sort != "end" and not self.eat(";"):
-            brace = self.next.text == "{"
+    def pass_item(self, braces: bool = True) -> None:
+        """Passes an item up to its end: a `;`, or what stands in braces, where its sort may end so."""
+        depth = 0
+        while not self.eat(";"):
+            if self.next.sort == "end" or self.next.text in BEGIN_ITEMS:
+                raise NotRust(self.next.line, f"expected {'`{` or ' * braces}`;`, found `{self.next.text}`")
+            depth += {"<": 1, ">": -1}.get(self.next.text, 0)
+            last = braces and self.next.text == "{" and depth <= 0
             self.pass_one()
-            if brace:
+            if last:
                 break

@@ -205,8 +205,8 @@ class Cursor:
             depth += {"<": 1, ">": -1}.get(self.next.text, 0) * angles
             self.pass_one()
 
-    def shown(self, start: int, most: int = 16) -> str:
-        """The tokens from a place up to here, as a line."""
-        texts = [token.text for token in self.tokens[start:self.place][:most]]
+    def shown(self, start: int, end: int, most: int = 16) -> str:
+        """The tokens between two places, as a line."""
+        texts = [token.text for token in self.tokens[start:end][:most]]
         line = "".join(text + " " * apart(text, after) for text, after in zip(texts, texts[1:] + [";"]))
-        return line + " .." * (self.place - start > most)
+        return line + " .." * (end - start > most)
