@@ -617,3 +617,45 @@ struct B { x: u8 }
 #[derive(Serialize)]
 #[serde(transparent)]
 enum A { B(u8) }
+
+// 2: A: `#[cfg(x)]` is not covered, as the module is written once for all: delete it, or move what it is about to a file of its own
+// 3: A.0: floats are not covered
+// 5: A: `#[cfg(not(x))]` is not covered, as the module is written once for all: delete it, or move what it is about to a file of its own
+// 6: A.x: a HashMap is not covered: a BTreeMap is
+#[derive(Serialize)]
+#[cfg(x)]
+struct A(f32);
+#[derive(Serialize)]
+#[cfg(not(x))]
+struct A { x: HashMap<u8, u8> }
+#[derive(Serialize)]
+struct B(A);
+
+// 5: passed over: `struct A`, which derives neither Serialize nor Deserialize
+// 2: A: `#[cfg(x)]` is not covered, as the module is written once for all: delete it, or move what it is about to a file of its own
+#[derive(Serialize)]
+#[cfg(x)]
+struct A(u8);
+#[cfg(not(x))]
+struct A(f64);
+
+// 2: passed over: `type A = u8`, whose type is written in its place
+// 4: passed over: `type A = u16`, whose type is written in its place
+// 12: passed over: `type C = u8`, whose type is written in its place
+// 14: D.0: `A` stands for two things here (lines 2 and 4): keep one
+// 14: D.1: `B` stands for two things here (lines 6 and 8): keep one
+// 14: D.2: `C` stands for two things here (lines 10 and 12): keep one
+#[cfg(x)]
+type A = u8;
+#[cfg(not(x))]
+type A = u16;
+#[cfg(x)]
+use crate::x::B;
+#[cfg(not(x))]
+use crate::y::B;
+#[cfg(x)]
+use crate::x::C;
+#[cfg(not(x))]
+type C = u8;
+#[derive(Serialize)]
+struct D(A, B, C);

@@ -399,3 +399,15 @@ fn f() -> B<{ 3 }> { 1 }
 crate::m! {}
 const _: fn(u8) -> u8 = f;
 extern crate self as a;
+
+// + use crate::other::Thing;
+#[cfg(x)]
+use std::collections::BTreeMap;
+#[cfg(not(x))]
+use alloc::collections::BTreeMap;
+#[cfg(x)]
+use crate::other::Thing;
+#[cfg(not(x))]
+use crate::other::Thing;
+#[derive(Serialize)]
+struct A(BTreeMap<u8, Thing>);

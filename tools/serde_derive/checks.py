@@ -95,9 +95,10 @@ def check_visible(item: Item, here: List[str]) -> Iterator[Refused]:
 
 
 def check_twice(items: List[Item]) -> Iterator[Refused]:
-    """Refuses two types of one name, and two whose names differ in the case of letters alone."""
+    """Refuses two types of one name, and two whose names differ in the case of letters alone. One that is refused for
+    itself may be there instead of the other, by `cfg`."""
     seen = {}
-    for item in items:
+    for item in (item for item in items if item.covered):
         other = seen.setdefault(item.name.lower(), item)
         if other is not item and other.name == item.name:
             yield NotRust(item.line, f"another type has this name too (line {other.line})", item.name)
@@ -110,7 +111,7 @@ def check_others(file: File) -> Iterator[Refused]:
     """Refuses a type that has the name of something else in the file."""
     others = {*file.uses, *file.aliases, *file.passed}
     yield from (NotRust(item.line, "something else in this file has this name too", item.name)
-                for item in file.items if item.name in others)
+                for item in file.items if item.covered and item.name in others)
 
 
 def check_parts(item: Item) -> Iterator[Refused]:

@@ -8,6 +8,8 @@ from .parser import Parser
 from .tokens import KEYWORDS, ROOTS, text_of
 from .types import Type
 
+# crates that have the same types as std
+SAME = {"core": "std", "alloc": "std"}
 # the words that may stand before the one that says what an item is
 BEFORE = {"async", "unsafe", "default", "auto"}
 NAMED = {"fn", "trait", "mod", "const", "static", "crate"}
@@ -19,7 +21,8 @@ NAMELESS = {"const": "_", "crate": "self"}
 @dataclass
 class File:
     """What a file holds: its documentation, the paths that it uses, its types, by what aliases stand
-    for, the types that are passed over with the reason, the traits that impls give to types, and notes."""
+    for, the types that are passed over with the reason, the traits that impls give to types, and notes.
+    `lines` has what each name of a `use` or an alias stands for first, and its line."""
 
     docs: List[str] = field(default_factory=list)
     uses: Dict[str, List[str]] = field(default_factory=dict)
@@ -29,6 +32,13 @@ class File:
     impls: Set[Tuple[str, str]] = field(default_factory=set)
     notes: List[Tuple[int, str]] = field(default_factory=list)
     refused: List[Refused] = field(default_factory=list)
+    lines: Dict[str, Tuple[object, int]] = field(default_factory=dict)
+
+    def declare(self, name: str, stands_for: object, line: int) -> None:
+        """Keeps what a name stands for; one that stands for two things, which `cfg` tells apart, is passed over."""
+        first, before = self.lines.setdefault(name, (stands_for, line))
+        if first != stands_for:
+            self.passed[name] = f"stands for two things here (lines {before} and {line}): keep one"
 
 
 class Reader(Parser):
@@ -107,7 +117,10 @@ class Reader(Parser):
                 if name == "self":
                     path.pop()
                     name = path[-1] if path else name
-                self.into.uses[self.any_name("_") if self.eat("as") else name] = path
+                line = self.next.line
+                shown = self.any_name("_") if self.eat("as") else name
+                self.into.uses[shown] = path
+                self.into.declare(shown, [SAME.get(word, word) for word in path[:1]] + path[1:], line)
                 return
         if self.eat("*"):
             if path[:1] not in (["std"], ["serde"]):
@@ -140,6 +153,8 @@ class Reader(Parser):
                                      " write the type that it stands for"
         self.pass_item(braces=False)
         known = name in self.into.aliases
+        if known:
+            self.into.declare(name, self.into.aliases[name], self.tokens[start].line)
         self.note_passed(start, self.place - 1, ", whose type is written in its place" if known else "")
 
     def plain(self, start: int) -> None:

@@ -143,7 +143,9 @@ class Homes:
 
     def settle(self) -> None:
         """Settles the types of all fields."""
-        for item in list(self.ordered()):
+        ordered = list(self.ordered())
+        known = {id(item) for item in ordered}
+        for item in ordered + [item for item in self.file.items if id(item) not in known]:
             for where, f in placed(item):
                 try:
                     f.type = self.settled(f.type, item)
