@@ -174,3 +174,10 @@ struct A { x: u8 }
 type A = u8
 #[derive(Serialize)]
 pub struct B { x: u8 }
+
+// 1: `self` is brought by a `use` in braces after a path alone
+use self as a;
+
+// 2: expected a type, found `super`
+#[derive(Serialize)]
+struct A(super);

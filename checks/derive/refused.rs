@@ -659,3 +659,18 @@ use crate::x::C;
 type C = u8;
 #[derive(Serialize)]
 struct D(A, B, C);
+
+// 5: passed over: `mod inner`
+// 7: A.3: a type that begins with `Self::` is not covered: write the type itself
+// 7: A.0: `super::super::B` is outside of this crate: name the type from `crate` on
+// 7: A.1: `other` is no module that this file has: name the type from `crate` on
+// 7: A.2: `other` is no module that this file has: name the type from `crate` on
+// 7: A.4: `inner` is a module that is passed over (line 5): import the type by its path from `crate`
+// 7: A.5: `D` stands for itself: name the type from `crate` on
+use super::types::other::B;
+use inner::C;
+use E as D;
+use D as E;
+mod inner;
+#[derive(Serialize)]
+struct A(super::super::B, self::other::B, B, Self::B, C, D);

@@ -411,3 +411,12 @@ use crate::other::Thing;
 use crate::other::Thing;
 #[derive(Serialize)]
 struct A(BTreeMap<u8, Thing>);
+
+// + use crate::other; use crate::other::deep::Third;
+// + struct A(crate::other::Thing, other::Inner, Third, crate::other::Thing, crate::other::Inner, B);
+use super::other;
+use other::deep::Third;
+#[derive(Serialize)]
+struct A(super::other::Thing, other::Inner, Third, self::other::Thing, self::super::other::Inner, self::B);
+#[derive(Serialize)]
+struct B;

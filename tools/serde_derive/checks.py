@@ -4,7 +4,7 @@ from typing import Iterator, List
 
 from .declarations import Item, NotRust, Refused
 from .files import File
-from .homes import extent, placed
+from .homes import extent, from_crate, placed
 from .types import LEAVES
 from .words import CRATES, SEEN, TAKEN, WORDS
 
@@ -76,19 +76,11 @@ def check_attributes(item: Item) -> Iterator[Refused]:
     yield from (Refused(item.line, reason, item.name) for reason in reasons)
 
 
-def module_named(path: str, here: List[str]) -> List[str]:
-    """The module of a path that may begin with `crate`, `self` or `super`, from the module here."""
-    found = here
-    for word in path.split("::"):
-        found = ["crate"] if word == "crate" else found[:-1] if word == "super" else found + [word] * (word != "self")
-    return found
-
-
 def check_visible(item: Item, here: List[str]) -> Iterator[Refused]:
     """Refuses what is public in a module that isn't around this one."""
     for where, one in [(item.name, item), *placed(item)]:
         path = re.match(r"pub\(in (.*)\)", one.visible)
-        found = module_named(path.group(1), here) if path else here
+        found = from_crate(path.group(1).split("::"), here) if path else here
         if not found or here[:len(found)] != found:
             yield Refused(one.line, f"`{one.visible.strip()}` names no module around this one: name one, or write"
                           " `pub(crate)`", where)

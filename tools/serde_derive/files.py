@@ -114,9 +114,11 @@ class Reader(Parser):
             path.append(self.any_name(*(ROOTS if ROOTS.issuperset(path[len(before):]) else ())))
             if not self.eat("::"):
                 name = path[-1]
+                if name == "self" and len(path) == 1:
+                    raise NotRust(self.next.line, "`self` is brought by a `use` in braces after a path alone")
                 if name == "self":
                     path.pop()
-                    name = path[-1] if path else name
+                    name = path[-1]
                 line = self.next.line
                 shown = self.any_name("_") if self.eat("as") else name
                 self.into.uses[shown] = path

@@ -33,6 +33,14 @@ def placed(item: Item) -> Iterator[Tuple[str, Field]]:
         yield f"{item.name}.{f.name}", f
 
 
+def from_crate(path: List[str], here: List[str]) -> List[str]:
+    """A path that may begin with `crate`, `self` or `super`, as it is from the crate on, from the module here."""
+    found = here
+    for word in path:
+        found = ["crate"] if word == "crate" else found[:-1] if word == "super" else found + [word] * (word != "self")
+    return found
+
+
 class Homes:
     """Finds where the own types of a file are declared, and refuses types that are not covered."""
 
@@ -66,9 +74,6 @@ class Homes:
                     f.type = Type("()")
 
     def resolved(self, t: Type, holder: Item) -> Type:
-        first = t.name.split("::")[0]
-        if first in self.file.passed:
-            raise ValueError(f"`{first}` {self.file.passed[first]}")
         name = holder.name if t.name == "Self" else self.short(t.name)
         if name in self.file.aliases and not t.arguments:
             return self.alias(name, holder)
@@ -94,21 +99,42 @@ class Homes:
         return self.aliases[name]
 
     def path(self, name: str) -> List[str]:
-        """The whole path of a name, by what the file uses."""
-        first, *rest = name.split("::")
-        return self.file.uses.get(first, [first]) + rest
+        """The whole path of a name, by what the file uses: from `crate` or the name of a crate on, or the name alone,
+        where this file or the prelude has it."""
+        path = name.split("::")
+        for _ in range(DEEPEST):
+            before, path = path, self.nearer(path)
+            if path == before:
+                return path
+        raise ValueError(f"`{name}` stands for itself: name the type from `crate` on")
+
+    def nearer(self, path: List[str]) -> List[str]:
+        """A path with what the file uses in the place of its first name, or without the way to this module."""
+        first, here = path[0], ["crate", *self.module]
+        if first in self.file.passed:
+            raise ValueError(f"`{first}` {self.file.passed[first]}")
+        if first in self.file.uses:
+            return self.file.uses[first] + path[1:]
+        whole = from_crate(path, here) if first in ("self", "super") else path
+        if first == "super" and whole[:1] != ["crate"]:
+            raise ValueError(f"`{'::'.join(path)}` is outside of this crate: name the type from `crate` on")
+        inside = whole[len(here):] if whole[:len(here)] == here else []
+        if len(inside) > 1 and inside[0] not in {*self.file.uses, *self.file.passed}:
+            raise ValueError(f"`{inside[0]}` is no module that this file has: name the type from `crate` on")
+        return inside or whole
 
     def short(self, name: str) -> str:
-        """The short name of a type of this file, or of std, where it is covered or known not to be."""
+        """The name by which a type is written: the short one of a type of this file, or of std, where that is covered or
+        known not to be; for others what the file uses, or the whole path."""
         path = self.path(name)
-        if path[:-1] in (["self"], ["crate", *self.module]):
-            return path[-1]
+        if len(path) == 1:
+            return path[0]
         if path[0] in STANDARD and len(path) > 1:
             known = path[-1] in NOT_COVERED or "::".join(path[1:-1]) in MODULES.get(path[-1], [])
             return path[-1] if known else "::".join(path)
         if len(path) > 1 and name in (*LEAVES, *HOLDERS):
             raise ValueError(f"`{name}` is `{'::'.join(path)}` here, which is not covered: import it by another name")
-        return name
+        return name if name.split("::")[0] in self.file.uses else "::".join(path)
 
     def parts_of(self, item: Item) -> Iterator[Tuple[str, Field, str]]:
         """The names of this file's types in an item, each with the field and its path."""
@@ -237,7 +263,7 @@ class Homes:
         if path[0] in STANDARD | {"serde"} and len(path) > 1:
             raise ValueError(f"the type `{'::'.join(path)}` is not covered: hold what it is made of, as a number or"
                              " a String")
-        if len(path) < 2 or path[0] in ("self", "super"):
+        if len(path) < 2:
             raise ValueError(f"the type `{name}` is not covered; one of your own is declared in this"
                              " file, or named by its full path")
         raw = [part for part in path if part.startswith("r#")]

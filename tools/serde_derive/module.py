@@ -132,7 +132,7 @@ def uses(file: File, homes: Homes, texts: List[str]) -> List[str]:
     code = [f"use {path}::{{{', '.join(used)}}};" for path, names in USES.items()
             if (used := [name for name in names.split() if brought(words, name, texts)])]
     code += [f"use {'::'.join(path)}{'' if path[-1] == shown else f' as {shown}'};"
-             for shown, path in file.uses.items() if shown in homes.used]
+             for shown, path in ((name, homes.path(name)) for name in file.uses if name in homes.used)]
     return [*ghosts, "", *code]
 
 

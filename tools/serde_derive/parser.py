@@ -3,6 +3,7 @@ from typing import Callable, List, Optional, Tuple
 
 from .attributes import Attributes, Head
 from .declarations import Data, Field, Item, NotRust, Refused, Variant
+from .tokens import ROOTS
 from .types import Type
 
 DEEPEST = 48
@@ -52,6 +53,10 @@ class Parser(Attributes):
             return Type("tuple", tuple(arguments)) if arguments else Type("()")
         self.check_begins(line)
         path = self.path()
+        if path[-1] in ROOTS - {"Self"}:
+            raise NotRust(line, f"expected a type, found `{path[-1]}`")
+        if path[0] == "Self" and len(path) > 1:
+            raise Refused(line, "a type that begins with `Self::` is not covered: write the type itself")
         if self.eat("<") or (self.next.text == "::" and self.after().text == "<" and self.take() and self.take()):
             self.listed(">", lambda: arguments.append(self.type(depth + 1)))
         if self.next.text in ("::", "!", "="):
