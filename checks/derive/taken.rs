@@ -266,6 +266,7 @@ enum A { B(u8, u8, u8) }
 #[derive(Serialize, Deserialize)]
 struct B { a: u8 }
 
+// 3: passed over: `use crate::r#type::C`
 use rocket::serde::{Deserialize, Serialize};
 use crate::prelude::Debug;
 use crate::r#type::C;
@@ -420,3 +421,20 @@ use other::deep::Third;
 struct A(super::other::Thing, other::Inner, Third, self::other::Thing, self::super::other::Inner, self::B);
 #[derive(Serialize)]
 struct B;
+
+// 1: passed over: `use serde::Deserialize`
+// 2: passed over: `use std::fmt::Write as _`
+// 3: passed over: `pub use std::fmt`, but for what it brings into this file
+// 4: passed over: `use crate::other`
+// 6: passed over: `use crate::other::Inner as Other`
+// 8: passed over: `type Number = Short`, whose type is written in its place
+use serde::{self, Deserialize};
+use std::{fmt::{Write as _}, string::String as Text};
+pub use std::fmt;
+use crate::other::{self,
+    Thing,
+    Inner as Other};
+use u8 as Short;
+type Number = Short;
+#[derive(serde::Serialize)]
+struct A(Text, Thing, Number);

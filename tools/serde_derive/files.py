@@ -22,7 +22,8 @@ NAMELESS = {"const": "_", "crate": "self"}
 class File:
     """What a file holds: its documentation, the paths that it uses, its types, by what aliases stand
     for, the types that are passed over with the reason, the traits that impls give to types, and notes.
-    `lines` has what each name of a `use` or an alias stands for first, and its line."""
+    `lines` has what each name of a `use` or an alias stands for first, and its line, `brought` what each private
+    `use` brings, with its line, and `derived` the names that derives begin with."""
 
     docs: List[str] = field(default_factory=list)
     uses: Dict[str, List[str]] = field(default_factory=dict)
@@ -33,6 +34,8 @@ class File:
     notes: List[Tuple[int, str]] = field(default_factory=list)
     refused: List[Refused] = field(default_factory=list)
     lines: Dict[str, Tuple[object, int]] = field(default_factory=dict)
+    brought: List[Tuple[int, str, List[str]]] = field(default_factory=list)
+    derived: Set[str] = field(default_factory=set)
 
     def declare(self, name: str, stands_for: object, line: int) -> None:
         """Keeps what a name stands for; one that stands for two things, which `cfg` tells apart, is passed over."""
@@ -83,6 +86,7 @@ class Reader(Parser):
         word = self.next.text
         if word in ("struct", "enum") or (word == "union" and self.after().sort == "name"):
             if SERDE & set(head.derives):
+                self.into.derived |= head.derived
                 self.into.items.append(self.item(head, visible))
             else:
                 self.plain(start)
@@ -99,10 +103,11 @@ class Reader(Parser):
 
     def use(self, start: int) -> None:
         """A `use`, with the names that it brings."""
-        public = self.next is not self.tokens[start]
+        public, known = self.next is not self.tokens[start], len(self.into.brought)
         self.expect("use")
         self.used([])
         if public:
+            del self.into.brought[known:]
             self.note_passed(start, self.place, ", but for what it brings into this file")
         self.expect(";")
 
@@ -122,6 +127,7 @@ class Reader(Parser):
                 line = self.next.line
                 shown = self.any_name("_") if self.eat("as") else name
                 self.into.uses[shown] = path
+                self.into.brought.append((line, shown, path))
                 self.into.declare(shown, [SAME.get(word, word) for word in path[:1]] + path[1:], line)
                 return
         if self.eat("*"):

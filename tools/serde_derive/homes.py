@@ -49,6 +49,7 @@ class Homes:
         self.module = module.split("::")
         self.here = self.specs(crate, self.module)
         self.used: Set[str] = set()
+        self.looked_up: Set[str] = set()
         self.aliases: Dict[str, Type] = {}
         self.opened: Set[str] = set()
         self.declared: Dict[str, Tuple[str, str]] = {}
@@ -114,6 +115,7 @@ class Homes:
         if first in self.file.passed:
             raise ValueError(f"`{first}` {self.file.passed[first]}")
         if first in self.file.uses:
+            self.looked_up.add(first)
             return self.file.uses[first] + path[1:]
         whole = from_crate(path, here) if first in ("self", "super") else path
         if first == "super" and whole[:1] != ["crate"]:
@@ -122,6 +124,13 @@ class Homes:
         if len(inside) > 1 and inside[0] not in {*self.file.uses, *self.file.passed}:
             raise ValueError(f"`{inside[0]}` is no module that this file has: name the type from `crate` on")
         return inside or whole
+
+    def unused(self) -> Iterator[Tuple[int, str]]:
+        """Notes of what a `use` brings and nothing that is written names."""
+        for line, name, path in self.file.brought:
+            if name not in self.looked_up | self.file.derived:
+                renamed = f" as {name}" if name != path[-1] else ""
+                yield line, f"passed over: `use {'::'.join(path)}{renamed}`"
 
     def short(self, name: str) -> str:
         """The name by which a type is written: the short one of a type of this file, or of std, where that is covered or

@@ -160,9 +160,10 @@ def module(source: str, name: str, crate: str, place: str, cbor: bool = False,
     homes = Homes(crate, place, file)
     writers = settled(file, homes)
     if notes is not None:
-        notes += sorted(file.notes) + [(item.line, f"no RoundTrip is written for `{item.name}`: `{f.name}` may be left out, and is not read"
+        notes += [*file.notes, *homes.unused()] + [(item.line, f"no RoundTrip is written for `{item.name}`: `{f.name}` may be left out, and is not read"
                    " where it is missing: give it `default` too") for item in file.items if item.derives_all()
                   for f in item.lost()[:1]]
+        notes.sort()
     texts = [text for item in file.items for text in texts_of(item, writers[item.name], cbor)]
     body = with_names("\n".join(texts), [item.name for item in file.items])
     docs = file.docs or ["//! Types that are sent and read."]
