@@ -256,7 +256,7 @@ use indexmap::Vec;
 #[derive(Serialize)]
 struct A(Vec<u8>);
 
-// 3: A.0: the name `Error` is one that the module uses itself: call that type otherwise
+// 3: A.0: the name `Error` is one that the module uses itself: import that type by another name
 use crate::errors::Error;
 #[derive(Serialize)]
 struct A(Error);
@@ -381,11 +381,10 @@ struct tuple(u8);
 #[derive(Serialize)]
 struct Vec(u8);
 
-// 4: A.1: `Other` has the name of another type that is used here: call one of them otherwise
-use crate::a::Thing;
-use crate::b::Thing as Other;
+// 3: A.0: the name `Bool` is one that contracts use themselves: declare that type by another name
+use crate::other::Bool as Other;
 #[derive(Serialize)]
-struct A(Thing, Other);
+struct A(Other);
 
 // 5: passed over: `struct B`, which derives neither Serialize nor Deserialize
 // 2: A: `#[cfg(feature = "x")]` is not covered, as the module is written once for all: delete it, or move what it is about to a file of its own
@@ -492,7 +491,7 @@ struct S { x: u8 }
 #[derive(Serialize)]
 enum A { X(S, u8, u8) }
 
-// 3: A.X.0: the name `S` is one that the module uses itself: call that type otherwise
+// 3: A.X.0: the name `S` is one that the module uses itself: import that type by another name
 use crate::other::S;
 #[derive(Serialize)]
 enum A { X(S, u8, u8) }

@@ -438,3 +438,21 @@ use u8 as Short;
 type Number = Short;
 #[derive(serde::Serialize)]
 struct A(Text, Thing, Number);
+
+// + ghost use Rattle.a.specs.declared.other.Thing.{Thing};
+// + ghost use Rattle.a.specs.declared.other.deep.Thing as deep_thing_as_seen;
+// + Laws as deep_thing_serialize;
+// + (x : (Option (Vec deep_thing_as_seen.Thing Global)))
+// + as the_deep_thing_as_seen;
+use crate::other::Thing;
+#[derive(Clone, PartialEq, Eq, PartialOrd, Ord, Serialize, Deserialize)]
+struct A {
+    x: Option<Thing>,
+    y: Option<Vec<crate::other::deep::Thing>>,
+    z: std::collections::BTreeMap<crate::other::deep::Thing, Thing>,
+}
+#[derive(PartialEq, Eq, Serialize, Deserialize)]
+enum DeepThingAsSeen { X(i8), Y(B) }
+#[derive(PartialEq, Eq, Serialize, Deserialize)]
+#[serde(tag = "t")]
+enum B { X { #[serde(default)] a: crate::other::deep::Thing, b: Thing } }

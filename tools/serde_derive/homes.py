@@ -8,6 +8,7 @@ from .declarations import Field, Item, Refused
 from .files import File
 from .parser import DEEPEST, MOST_FIELDS
 from .types import HOLDERS, LEAVES, NUMBERS, Type, snake
+from .unique import fresh
 from .words import SEEN, TAKEN, WORDS
 
 STANDARD = {"std", "core", "alloc"}
@@ -252,7 +253,7 @@ class Homes:
         needed = SERDE & set(holder.derives)
         lacking = (needed | ({"PartialEq", "Eq"} if holder.derives_all() else set())) - set(part.derives)
         if not part.covered:
-            return Type(name, home=self.here, declared=name)
+            return Type(name, home=self.here, declared=name, called=snake(name))
         astray = part.derives_all() and not part.comes_back()
         if astray and holder.derives_all() and "untagged" not in holder.serde:
             raise ValueError(
@@ -261,8 +262,8 @@ class Homes:
         if lacking:
             raise ValueError(f"`{name}` does not derive {', '.join(sorted(lacking))}, as what holds it does: derive that too")
         law = ("records", "map_takes" if part.flattens() else "struct_takes")
-        self.known(name, self.here, name)
-        return Type(name, home=self.here, declared=name, plain=not part.asked(), astray=astray,
+        called = self.called(name, self.here, name)
+        return Type(name, home=self.here, declared=name, called=called, plain=not part.asked(), astray=astray,
                     lost=not part.comes_back_from_cbor(), null=part.may_be_null(),
                     record=law if part.data.named and not part.transparent() else None)
 
@@ -279,17 +280,22 @@ class Homes:
         if raw:
             raise ValueError(f"the name `{raw[0]}` is not covered: give it a plain one")
         first = name.split("::")[0]
-        if first in TAKEN or path[-1] in (*WORDS, *SEEN):
-            raise ValueError(f"the name `{path[-1]}` is one that the module uses itself: call that type otherwise")
+        if first in TAKEN:
+            raise ValueError(f"the name `{first}` is one that the module uses itself: import that type by another name")
+        if path[-1] in (*WORDS, *SEEN):
+            raise ValueError(f"the name `{path[-1]}` is one that contracts use themselves: declare that type by another name")
         self.used.add(first)
         home = self.specs(self.crate if path[0] == "crate" else path[0], path[1:-1])
-        self.known(name, home, path[-1])
-        return Type(name, home=home, declared=path[-1])
+        return Type(name, home=home, declared=path[-1], called=self.called(name, home, path[-1]))
 
-    def known(self, name: str, home: str, declared: str) -> None:
-        """Refuses two types whose names in contracts would be one."""
-        if self.declared.setdefault(snake(declared), (home, declared)) != (home, declared):
-            raise ValueError(f"`{name}` has the name of another type that is used here: call one of them otherwise")
+    def called(self, name: str, home: str, declared: str) -> str:
+        """What contracts call an own type by: as it is declared, or where that is another's name, as it is named here."""
+        own, word = (home, declared), snake(declared)
+        if self.declared.get(word, own) != own:
+            named = "_".join(map(snake, name.split("::")[-2:]))
+            word = fresh(named, "_type", lambda one: one == snake(declared) or self.declared.get(one, own) != own)
+        self.declared[word] = own
+        return word
 
     def check_key(self, key: Type) -> None:
         mine = self.items.get(key.name)
