@@ -7,9 +7,27 @@ pub(struct A;
 #[derive(Serialize)]
 struct A { x: u8
 
-// 2: `]` closes nothing that is open
+// 2: expected `}` for the `{` of line 2, found `]`
 #[derive(Serialize)]
 struct A { x: u8 ]
+
+// 2: `)` closes nothing that is open
+#[derive(Serialize)]
+struct A )
+
+// 2: expected `>`, found `}`
+#[derive(Serialize)]
+struct A { x: Vec<u8 }
+
+// 1: U+FEFF begins no token of Rust
+#[derive(Serialize)]﻿
+struct A;
+
+// 3: expected a name, found `"two lines"`
+#[derive(Serialize)]
+struct A { x: u8,
+"two
+ lines" }
 
 // 2: `}` closes nothing that is open
 struct A;

@@ -456,3 +456,10 @@ enum DeepThingAsSeen { X(i8), Y(B) }
 #[derive(PartialEq, Eq, Serialize, Deserialize)]
 #[serde(tag = "t")]
 enum B { X { #[serde(default)] a: crate::other::deep::Thing, b: Thing } }
+
+// 2: left out: `#[deprecated = "two lines"]`
+// + pub(in crate) struct A(pub(in self) u8);
+#[derive(Serialize)]
+#[deprecated = "two
+    lines"]
+pub(in crate) struct A(pub(in self) u8);

@@ -33,12 +33,10 @@ class Parser(Attributes):
         one = self.place in self.pairs and self.pairs[self.place] == self.place + 2
         if self.next.text != "(" or not (inside.text == "in" or (one and inside.text in ("crate", "self", "super"))):
             return "pub "
-        start = self.place
         self.place += 2
-        if inside.text == "in":
-            self.path()
+        path = self.path() if inside.text == "in" else []
         self.expect(")")
-        return f"pub{self.shown(start, self.place)} "
+        return f"pub({' '.join([inside.text, '::'.join(path)]).strip()}) "
 
     def type(self, depth: int = 0) -> Type:
         """A type; those that aren't known yet have no home."""
