@@ -116,19 +116,17 @@ class Reader(Parser):
         path = before[:]
         self.eat("::")
         while self.next.sort == "name":
+            line = self.next.line
             path.append(self.any_name(*(ROOTS if ROOTS.issuperset(path[len(before):]) else ())))
             if not self.eat("::"):
-                name = path[-1]
-                if name == "self" and len(path) == 1:
-                    raise NotRust(self.next.line, "`self` is brought by a `use` in braces after a path alone")
-                if name == "self":
+                if path == ["self"]:
+                    raise NotRust(line, "`self` is brought by a `use` in braces after a path alone")
+                if path[-1] == "self":
                     path.pop()
-                    name = path[-1]
-                line = self.next.line
-                shown = self.any_name("_") if self.eat("as") else name
-                self.into.uses[shown] = path
-                self.into.brought.append((line, shown, path))
-                self.into.declare(shown, [SAME.get(word, word) for word in path[:1]] + path[1:], line)
+                name = self.any_name("_") if self.eat("as") else path[-1]
+                self.into.uses[name] = path
+                self.into.brought.append((line, name, path))
+                self.into.declare(name, [SAME.get(path[0], path[0]), *path[1:]], line)
                 return
         if self.eat("*"):
             if path[:1] not in (["std"], ["serde"]):

@@ -128,8 +128,9 @@ class Homes:
 
     def unused(self) -> Iterator[Tuple[int, str]]:
         """Notes of what a `use` brings and nothing that is written names."""
+        named = self.looked_up | self.file.derived
         for line, name, path in self.file.brought:
-            if name not in self.looked_up | self.file.derived:
+            if name not in named:
                 renamed = f" as {name}" if name != path[-1] else ""
                 yield line, f"passed over: `use {'::'.join(path)}{renamed}`"
 
@@ -139,10 +140,10 @@ class Homes:
         path = self.path(name)
         if len(path) == 1:
             return path[0]
-        if path[0] in STANDARD and len(path) > 1:
+        if path[0] in STANDARD:
             known = path[-1] in NOT_COVERED or "::".join(path[1:-1]) in MODULES.get(path[-1], [])
             return path[-1] if known else "::".join(path)
-        if len(path) > 1 and name in (*LEAVES, *HOLDERS):
+        if name in (*LEAVES, *HOLDERS):
             raise ValueError(f"`{name}` is `{'::'.join(path)}` here, which is not covered: import it by another name")
         return name if name.split("::")[0] in self.file.uses else "::".join(path)
 
@@ -181,7 +182,8 @@ class Homes:
         """Settles the types of all fields."""
         ordered = list(self.ordered())
         known = {id(item) for item in ordered}
-        for item in ordered + [item for item in self.file.items if id(item) not in known]:
+        twins = [item for item in self.file.items if id(item) not in known]
+        for item in ordered + twins:
             for where, f in placed(item):
                 try:
                     f.type = self.settled(f.type, item)
