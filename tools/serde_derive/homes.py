@@ -71,6 +71,8 @@ class Homes:
         self.opened: Set[str] = set()
         self.declared: Dict[str, Tuple[str, str]] = {}
         self.told = {refused.where for refused in file.refused}
+        for item in file.items:
+            self.called(item.name, self.here, item.name)
 
     @staticmethod
     def specs(crate: str, modules: List[str]) -> str:
@@ -310,7 +312,8 @@ class Homes:
         return Type(name, home=home, declared=path[-1], called=self.called(name, home, path[-1]))
 
     def called(self, name: str, home: str, declared: str) -> str:
-        """What contracts call an own type by: as it is declared, or where that is another's name, as it is named here."""
+        """What contracts call an own type by: as it is declared, but where that is the name of another, which one of this
+        file always has, as it is named here."""
         own, word = (home, declared), snake(declared)
         if self.declared.get(word, own) != own:
             named = "_".join(map(snake, name.split("::")[-2:]))
