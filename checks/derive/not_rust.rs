@@ -217,3 +217,10 @@ struct A;
 #[derive(Serialize)]
 #[serde(rename = "\xff")]
 struct A;
+
+// 3: expected `{` or `;`, found `struct`
+impl
+#[derive(Serialize)]
+struct A(u8);
+#[derive(Serialize)]
+struct B { x: u8 }

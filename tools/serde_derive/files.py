@@ -4,7 +4,7 @@ from typing import Dict, List, Set, Tuple
 
 from .attributes import SERDE, Head, doc_line
 from .declarations import Item, NotRust, Refused
-from .parser import Parser
+from .parser import BEGIN_ITEMS, Parser
 from .tokens import KEYWORDS, ROOTS, text_of
 from .types import Type
 
@@ -192,7 +192,7 @@ class Reader(Parser):
                 self.into.passed[name] = (f"is a module that is passed over (line {line}): import the type by its path"
                                           " from `crate`")
         elif word in ("impl", "{"):
-            self.pass_to("{", "where", angles=True)
+            self.pass_to("{", "where", *BEGIN_ITEMS, angles=True)
             end = self.place
             self.note_impl(start)
         elif self.next.sort == "name" and (self.after().text == "!" or self.after().text == "::"):
