@@ -7,9 +7,27 @@ pub(struct A;
 #[derive(Serialize)]
 struct A { x: u8
 
-// 2: `]` closes nothing that is open
+// 2: expected `}` for the `{` of line 2, found `]`
 #[derive(Serialize)]
 struct A { x: u8 ]
+
+// 2: `)` closes nothing that is open
+#[derive(Serialize)]
+struct A )
+
+// 2: expected `>`, found `}`
+#[derive(Serialize)]
+struct A { x: Vec<u8 }
+
+// 1: U+FEFF begins no token of Rust
+#[derive(Serialize)]﻿
+struct A;
+
+// 3: expected a name, found `"two lines"`
+#[derive(Serialize)]
+struct A { x: u8,
+"two
+ lines" }
 
 // 2: `}` closes nothing that is open
 struct A;
@@ -131,3 +149,53 @@ enum A { X = , Y }
 // 2: `#[default]` stands twice
 #[derive(Serialize, Default)]
 enum A { #[default] #[default] X }
+
+// 2: expected a name, found `the end of the file`
+pub struct
+
+// 3: expected a name, found `fn`
+#[derive(Serialize)]
+struct A;
+enum fn {}
+
+// 3: expected a name, found `5`
+#[derive(Serialize)]
+struct A;
+fn 5() {}
+
+// 3: expected a name, found `_`
+#[derive(Serialize)]
+struct A;
+static _: u8 = 1;
+
+// 3: expected an item, found `struct`
+#[derive(Serialize)]
+struct A;
+unsafe struct B;
+
+// 4: expected `{` or `;`, found `the end of the file`
+#[derive(Serialize)]
+struct A;
+trait B
+
+// 3: expected `{` or `;`, found `struct`
+struct A(u8)
+#[derive(Serialize)]
+struct B { x: u8 }
+
+// 3: expected `;`, found `struct`
+const N: u8 = 1
+#[derive(Serialize)]
+struct A { x: u8 }
+
+// 3: expected `;`, found `pub`
+type A = u8
+#[derive(Serialize)]
+pub struct B { x: u8 }
+
+// 1: `self` is brought by a `use` in braces after a path alone
+use self as a;
+
+// 2: expected a type, found `super`
+#[derive(Serialize)]
+struct A(super);

@@ -256,7 +256,7 @@ use indexmap::Vec;
 #[derive(Serialize)]
 struct A(Vec<u8>);
 
-// 3: A.0: the name `Error` is one that the module uses itself: call that type otherwise
+// 3: A.0: the name `Error` is one that the module uses itself: import that type by another name
 use crate::errors::Error;
 #[derive(Serialize)]
 struct A(Error);
@@ -381,11 +381,10 @@ struct tuple(u8);
 #[derive(Serialize)]
 struct Vec(u8);
 
-// 4: A.1: `Other` has the name of another type that is used here: call one of them otherwise
-use crate::a::Thing;
-use crate::b::Thing as Other;
+// 3: A.0: the name `Bool` is one that contracts use themselves: declare that type by another name
+use crate::other::Bool as Other;
 #[derive(Serialize)]
-struct A(Thing, Other);
+struct A(Other);
 
 // 5: passed over: `struct B`, which derives neither Serialize nor Deserialize
 // 2: A: `#[cfg(feature = "x")]` is not covered, as the module is written once for all: delete it, or move what it is about to a file of its own
@@ -493,7 +492,7 @@ struct S { x: u8 }
 #[derive(Serialize)]
 enum A { X(S, u8, u8) }
 
-// 3: A.X.0: the name `S` is one that the module uses itself: call that type otherwise
+// 3: A.X.0: the name `S` is one that the module uses itself: import that type by another name
 use crate::other::S;
 #[derive(Serialize)]
 enum A { X(S, u8, u8) }
@@ -730,3 +729,60 @@ struct A(u8, u8, #[serde(flatten)] B);
 enum C { X { #[serde(flatten)] b: u8 } }
 #[derive(Serialize)]
 struct B { x: u8 }
+
+// 2: A: `#[cfg(x)]` is not covered, as the module is written once for all: delete it, or move what it is about to a file of its own
+// 3: A.0: floats are not covered: hold a whole number of a smaller unit, or a String
+// 5: A: `#[cfg(not(x))]` is not covered, as the module is written once for all: delete it, or move what it is about to a file of its own
+// 6: A.x: a HashMap is not covered: hold a BTreeMap
+#[derive(Serialize)]
+#[cfg(x)]
+struct A(f32);
+#[derive(Serialize)]
+#[cfg(not(x))]
+struct A { x: HashMap<u8, u8> }
+#[derive(Serialize)]
+struct B(A);
+
+// 5: passed over: `struct A`, which derives neither Serialize nor Deserialize
+// 2: A: `#[cfg(x)]` is not covered, as the module is written once for all: delete it, or move what it is about to a file of its own
+#[derive(Serialize)]
+#[cfg(x)]
+struct A(u8);
+#[cfg(not(x))]
+struct A(f64);
+
+// 2: passed over: `type A = u8`, whose type is written in its place
+// 4: passed over: `type A = u16`, whose type is written in its place
+// 12: passed over: `type C = u8`, whose type is written in its place
+// 14: D.0: `A` stands for two things here (lines 2 and 4): keep one
+// 14: D.1: `B` stands for two things here (lines 6 and 8): keep one
+// 14: D.2: `C` stands for two things here (lines 10 and 12): keep one
+#[cfg(x)]
+type A = u8;
+#[cfg(not(x))]
+type A = u16;
+#[cfg(x)]
+use crate::x::B;
+#[cfg(not(x))]
+use crate::y::B;
+#[cfg(x)]
+use crate::x::C;
+#[cfg(not(x))]
+type C = u8;
+#[derive(Serialize)]
+struct D(A, B, C);
+
+// 5: passed over: `mod inner`
+// 7: A.3: a type that begins with `Self::` is not covered: write the type itself
+// 7: A.0: `super::super::B` is outside of this crate: name the type from `crate` on
+// 7: A.1: `other` is no module that this file has: name the type from `crate` on
+// 7: A.2: `other` is no module that this file has: name the type from `crate` on
+// 7: A.4: `inner` is a module that is passed over (line 5): import the type by its path from `crate`
+// 7: A.5: `D` stands for itself: name the type from `crate` on
+use super::types::other::B;
+use inner::C;
+use E as D;
+use D as E;
+mod inner;
+#[derive(Serialize)]
+struct A(super::super::B, self::other::B, B, Self::B, C, D);

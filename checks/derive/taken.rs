@@ -266,6 +266,7 @@ enum A { B(u8, u8, u8) }
 #[derive(Serialize, Deserialize)]
 struct B { a: u8 }
 
+// 3: passed over: `use crate::r#type::C`
 use rocket::serde::{Deserialize, Serialize};
 use crate::prelude::Debug;
 use crate::r#type::C;
@@ -398,3 +399,79 @@ struct B { x: String }
 enum A { X { q: String }, #[default] Y }
 #[derive(PartialEq, Eq, Serialize, Deserialize)]
 enum B { Z { #[serde(default)] a: A, b: i8 } }
+
+// 3: passed over: `impl<const N: usize> T<{N}> for A`
+// 4: passed over: `fn f`
+// 5: passed over: `crate::m!`
+// 6: passed over: `const _`
+// 7: passed over: `extern crate self`
+#[derive(Serialize)]
+struct A;
+impl<const N: usize> T<{ N }> for A where A: B<{ 3 }>, {}
+fn f() -> B<{ 3 }> { 1 }
+crate::m! {}
+const _: fn(u8) -> u8 = f;
+extern crate self as a;
+
+// + use crate::other::Thing;
+#[cfg(x)]
+use std::collections::BTreeMap;
+#[cfg(not(x))]
+use alloc::collections::BTreeMap;
+#[cfg(x)]
+use crate::other::Thing;
+#[cfg(not(x))]
+use crate::other::Thing;
+#[derive(Serialize)]
+struct A(BTreeMap<u8, Thing>);
+
+// + use crate::other; use crate::other::deep::Third;
+// + struct A(crate::other::Thing, other::Inner, Third, crate::other::Thing, crate::other::Inner, B);
+use super::other;
+use other::deep::Third;
+#[derive(Serialize)]
+struct A(super::other::Thing, other::Inner, Third, self::other::Thing, self::super::other::Inner, self::B);
+#[derive(Serialize)]
+struct B;
+
+// 1: passed over: `use serde::Deserialize`
+// 2: passed over: `use std::fmt::Write as _`
+// 3: passed over: `pub use std::fmt`, but for what it brings into this file
+// 4: passed over: `use crate::other`
+// 6: passed over: `use crate::other::Inner as Other`
+// 8: passed over: `type Number = Short`, whose type is written in its place
+use serde::{self, Deserialize};
+use std::{fmt::{Write as _}, string::String as Text};
+pub use std::fmt;
+use crate::other::{self,
+    Thing,
+    Inner as Other};
+use u8 as Short;
+type Number = Short;
+#[derive(serde::Serialize)]
+struct A(Text, Thing, Number);
+
+// + ghost use Rattle.a.specs.declared.other.Thing.{Thing};
+// + ghost use Rattle.a.specs.declared.other.deep.Thing as deep_thing_as_seen;
+// + Laws as deep_thing_serialize;
+// + (x : (Option (Vec deep_thing_as_seen.Thing Global)))
+// + as the_deep_thing_as_seen;
+use crate::other::Thing;
+#[derive(Clone, PartialEq, Eq, PartialOrd, Ord, Serialize, Deserialize)]
+struct A {
+    x: Option<Thing>,
+    y: Option<Vec<crate::other::deep::Thing>>,
+    z: std::collections::BTreeMap<crate::other::deep::Thing, Thing>,
+}
+#[derive(PartialEq, Eq, Serialize, Deserialize)]
+enum DeepThingAsSeen { X(i8), Y(B) }
+#[derive(PartialEq, Eq, Serialize, Deserialize)]
+#[serde(tag = "t")]
+enum B { X { #[serde(default)] a: crate::other::deep::Thing, b: Thing } }
+
+// 2: left out: `#[deprecated = "two lines"]`
+// + pub(in crate) struct A(pub(in self) u8);
+#[derive(Serialize)]
+#[deprecated = "two
+    lines"]
+pub(in crate) struct A(pub(in self) u8);

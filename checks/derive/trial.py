@@ -13,7 +13,7 @@ from serde_derive.module import module, read, settled
 CRATE = "trial"
 ALL = "Clone, Copy, Debug, Default, PartialEq, Eq, PartialOrd, Ord, Hash, Serialize, Deserialize"
 # the types of other files that the crate has: those of the stubs, and those that tools/new-project declares
-STUBS = {"other": ["Inner", "Thing"], "other::deep": ["Third"]}
+STUBS = {"other": ["Inner", "Thing"], "other::deep": ["Thing", "Third"]}
 THERE = {**STUBS, "types": ["Place", "Step"]}
 
 

@@ -1,7 +1,7 @@
 """Reads what stands before a declaration: documentation, derives, Serde's attributes and others."""
 import re
 from dataclasses import dataclass, field
-from typing import Dict, List, Tuple
+from typing import Dict, List, Set, Tuple
 
 from .cases import CASES
 from .declarations import NotRust, Refused
@@ -40,11 +40,12 @@ DROPPED = {"repr", "non_exhaustive", "must_use", "deprecated"}
 
 @dataclass
 class Head:
-    """What stands before a declaration: the lines that are kept, derives, Serde's attributes, what is
-    refused where the declaration is covered otherwise, and notes."""
+    """What stands before a declaration: the lines that are kept, derives, the names that these begin with, Serde's
+    attributes, what is refused where the declaration is covered otherwise, and notes."""
 
     lines: List[str] = field(default_factory=list)
     derives: List[str] = field(default_factory=list)
+    derived: Set[str] = field(default_factory=set)
     serde: Dict[str, str] = field(default_factory=dict)
     refused: List[Refused] = field(default_factory=list)
     notes: List[Tuple[int, str]] = field(default_factory=list)
@@ -116,6 +117,7 @@ class Attributes(Cursor):
     def derive(self, head: Head) -> None:
         """One of the traits that are derived, once."""
         path = self.path()
+        head.derived.add(path[0])
         ours = len(path) == 1 or path[0] in CRATES
         name = path[-1] if ours else "::".join(path)
         if name not in DERIVES:
@@ -141,7 +143,7 @@ class Attributes(Cursor):
     def foreign(self, start: int, line: int, name: str, head: Head) -> None:
         """An attribute that is not Serde's."""
         self.pass_to(",")
-        shown = self.shown(start)
+        shown = self.shown(start, self.place)
         if name == "cfg":
             raise Refused(line, f"`#[{shown}]` is not covered, as the module is written once for all: delete it,"
                           " or move what it is about to a file of its own")

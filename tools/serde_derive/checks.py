@@ -4,7 +4,7 @@ from typing import Iterator, List
 
 from .declarations import Field, Item, NotRust, Refused
 from .files import File
-from .homes import extent, placed
+from .homes import extent, from_crate, placed
 from .types import LEAVES
 from .words import CRATES, SEEN, TAKEN, WORDS
 
@@ -83,28 +83,21 @@ def check_field(item: Item, f: Field) -> Iterator[str]:
                     for key in sorted(f.serde))
 
 
-def module_named(path: str, here: List[str]) -> List[str]:
-    """The module of a path that may begin with `crate`, `self` or `super`, from the module here."""
-    found = here
-    for word in path.split("::"):
-        found = ["crate"] if word == "crate" else found[:-1] if word == "super" else found + [word] * (word != "self")
-    return found
-
-
 def check_visible(item: Item, here: List[str]) -> Iterator[Refused]:
     """Refuses what is public in a module that isn't around this one."""
     for where, one in [(item.name, item), *placed(item)]:
         path = re.match(r"pub\(in (.*)\)", one.visible)
-        found = module_named(path.group(1), here) if path else here
+        found = from_crate(path.group(1).split("::"), here) if path else here
         if not found or here[:len(found)] != found:
             yield Refused(one.line, f"`{one.visible.strip()}` names no module around this one: name one, or write"
                           " `pub(crate)`", where)
 
 
 def check_twice(items: List[Item]) -> Iterator[Refused]:
-    """Refuses two types of one name, and two whose names differ in the case of letters alone."""
+    """Refuses two types of one name, and two whose names differ in the case of letters alone. One that is refused for
+    itself may be there instead of the other, by `cfg`."""
     seen = {}
-    for item in items:
+    for item in (item for item in items if item.covered):
         other = seen.setdefault(item.name.lower(), item)
         if other is not item and other.name == item.name:
             yield NotRust(item.line, f"another type has this name too (line {other.line})", item.name)
@@ -117,7 +110,7 @@ def check_others(file: File) -> Iterator[Refused]:
     """Refuses a type that has the name of something else in the file."""
     others = {*file.uses, *file.aliases, *file.passed}
     yield from (NotRust(item.line, "something else in this file has this name too", item.name)
-                for item in file.items if item.name in others)
+                for item in file.items if item.covered and item.name in others)
 
 
 def check_parts(item: Item) -> Iterator[Refused]:

@@ -10,6 +10,13 @@ from .words import NO_PLACES
 
 # paths, and names that may be those of a type
 NO_PLACE = re.compile(r".*\.|[A-Z]")
+MOST_QUOTED = 100
+
+
+def one_line(text: str) -> str:
+    """A message in one line, in which what is quoted is cut where it is long."""
+    line = re.sub(r"\s*[\n\r\t]\s*", " ", text)
+    return re.sub(r"`([^`]*)`", lambda it: f"`{it[1][:MOST_QUOTED]} ..`" if len(it[1]) > MOST_QUOTED else it[0], line)
 
 
 class Refused(Exception):
@@ -19,7 +26,7 @@ class Refused(Exception):
 
     def __init__(self, line: int, reason: str, where: str = ""):
         super().__init__(reason)
-        self.line, self.reason, self.where = line, reason, where
+        self.line, self.reason, self.where = line, one_line(reason), where
 
     def inside(self, name: str) -> "Refused":
         """The same inside of a type, or of what is in it."""

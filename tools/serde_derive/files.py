@@ -8,16 +8,22 @@ from .parser import Parser
 from .tokens import KEYWORDS, ROOTS, text_of
 from .types import Type
 
+# crates that have the same types as std
+SAME = {"core": "std", "alloc": "std"}
 # the words that may stand before the one that says what an item is
 BEFORE = {"async", "unsafe", "default", "auto"}
-WITH_SEMICOLON = {"static", "type", "use"}
-NAMED = {"fn", "trait", "mod", "const", "static", "type", "struct", "enum", "union"}
+NAMED = {"fn", "trait", "mod", "const", "static", "crate"}
+WITH_SEMICOLON = {"const", "static", "crate"}
+# what stands for a name in `const _`, and in `extern crate self as a`
+NAMELESS = {"const": "_", "crate": "self"}
 
 
 @dataclass
 class File:
     """What a file holds: its documentation, the paths that it uses, its types, by what aliases stand
-    for, the types that are passed over with the reason, the traits that impls give to types, and notes."""
+    for, the types that are passed over with the reason, the traits that impls give to types, and notes.
+    `lines` has what each name of a `use` or an alias stands for first, and its line, `brought` what each private
+    `use` brings, with its line, and `derived` the names that derives begin with."""
 
     docs: List[str] = field(default_factory=list)
     uses: Dict[str, List[str]] = field(default_factory=dict)
@@ -27,6 +33,15 @@ class File:
     impls: Set[Tuple[str, str]] = field(default_factory=set)
     notes: List[Tuple[int, str]] = field(default_factory=list)
     refused: List[Refused] = field(default_factory=list)
+    lines: Dict[str, Tuple[object, int]] = field(default_factory=dict)
+    brought: List[Tuple[int, str, List[str]]] = field(default_factory=list)
+    derived: Set[str] = field(default_factory=set)
+
+    def declare(self, name: str, stands_for: object, line: int) -> None:
+        """Keeps what a name stands for; one that stands for two things, which `cfg` tells apart, is passed over."""
+        first, before = self.lines.setdefault(name, (stands_for, line))
+        if first != stands_for:
+            self.passed[name] = f"stands for two things here (lines {before} and {line}): keep one"
 
 
 class Reader(Parser):
@@ -69,29 +84,31 @@ class Reader(Parser):
         """An item: a type to write, a `use`, an alias, or what is passed over."""
         start, visible = self.place, self.visibility()
         word = self.next.text
-        if word in ("struct", "enum", "union") and self.after().sort == "name":
+        if word in ("struct", "enum") or (word == "union" and self.after().sort == "name"):
             if SERDE & set(head.derives):
+                self.into.derived |= head.derived
                 self.into.items.append(self.item(head, visible))
             else:
                 self.plain(start)
         elif word == "use":
             self.use(start)
-        elif word == "type" and self.after().sort == "name":
+        elif word == "type":
             self.alias(start)
         else:
             self.other(start)
 
-    def note_passed(self, start: int, more: str = "") -> None:
-        """Notes what was passed over since a place."""
-        self.notes.append((self.tokens[start].line, f"passed over: `{self.shown(start)}`{more}"))
+    def note_passed(self, start: int, end: int, more: str = "") -> None:
+        """Notes that an item was passed over, which is shown from its start to a place."""
+        self.notes.append((self.tokens[start].line, f"passed over: `{self.shown(start, end)}`{more}"))
 
     def use(self, start: int) -> None:
         """A `use`, with the names that it brings."""
-        public = self.next is not self.tokens[start]
+        public, known = self.next is not self.tokens[start], len(self.into.brought)
         self.expect("use")
         self.used([])
         if public:
-            self.note_passed(start, ", but for what it brings into this file")
+            del self.into.brought[known:]
+            self.note_passed(start, self.place, ", but for what it brings into this file")
         self.expect(";")
 
     def used(self, before: List[str]) -> None:
@@ -99,13 +116,19 @@ class Reader(Parser):
         path = before[:]
         self.eat("::")
         while self.next.sort == "name":
-            path.append(self.imported(root=ROOTS.issuperset(path[len(before):])))
+            path.append(self.any_name(*(ROOTS if ROOTS.issuperset(path[len(before):]) else ())))
             if not self.eat("::"):
                 name = path[-1]
+                if name == "self" and len(path) == 1:
+                    raise NotRust(self.next.line, "`self` is brought by a `use` in braces after a path alone")
                 if name == "self":
                     path.pop()
-                    name = path[-1] if path else name
-                self.into.uses[self.imported() if self.eat("as") else name] = path
+                    name = path[-1]
+                line = self.next.line
+                shown = self.any_name("_") if self.eat("as") else name
+                self.into.uses[shown] = path
+                self.into.brought.append((line, shown, path))
+                self.into.declare(shown, [SAME.get(word, word) for word in path[:1]] + path[1:], line)
                 return
         if self.eat("*"):
             if path[:1] not in (["std"], ["serde"]):
@@ -114,19 +137,18 @@ class Reader(Parser):
         self.expect("{")
         self.listed("}", lambda: self.used(path))
 
-    def imported(self, root: bool = False) -> str:
-        """A name in a `use`: any, as a type may not need it."""
+    def any_name(self, *more: str) -> str:
+        """A name of what isn't written: any, or one of these words that stand for one."""
         token = self.take()
-        if token.sort != "name" or (token.text in KEYWORDS and not (root and token.text in ROOTS)):
+        if token.sort != "name" or (token.text in KEYWORDS | {"_"} and token.text not in more):
             raise NotRust(token.line, f"expected a name, found `{token.text}`")
         return token.text
 
     def alias(self, start: int) -> None:
         """An alias of a type, which is written in its place."""
         self.expect("type")
-        name = self.next.text
+        name = self.any_name()
         try:
-            self.name()
             if self.eat("="):
                 self.into.aliases[name] = self.type()
             else:
@@ -137,59 +159,50 @@ class Reader(Parser):
             self.into.aliases.pop(name, None)
             self.into.passed[name] = f"is an alias that is not covered (line {self.tokens[start].line}):" \
                                      " write the type that it stands for"
-        self.pass_to(";")
+        self.pass_item(braces=False)
         known = name in self.into.aliases
-        self.note_passed(start, ", whose type is written in its place" if known else "")
-        self.expect(";")
+        if known:
+            self.into.declare(name, self.into.aliases[name], self.tokens[start].line)
+        self.note_passed(start, self.place - 1, ", whose type is written in its place" if known else "")
 
     def plain(self, start: int) -> None:
         """A struct or an enum that derives neither of Serde's traits."""
         self.place += 1
-        name = self.take().text
+        name = self.any_name()
         end = self.place
         self.pass_item()
         self.into.passed[name] = f"derives neither Serialize nor Deserialize (line {self.tokens[start].line}): derive" \
                                  " what is derived here"
-        self.notes.append((self.tokens[start].line, f"passed over: `{self.shown_to(start, end)}`, which derives neither"
-                           " Serialize nor Deserialize"))
-
-    def shown_to(self, start: int, end: int) -> str:
-        """The tokens between two places, as a line."""
-        here, self.place = self.place, end
-        line = self.shown(start)
-        self.place = here
-        return line
+        self.note_passed(start, end, ", which derives neither Serialize nor Deserialize")
 
     def other(self, start: int) -> None:
         """Any other item, which is passed over."""
-        while self.next.text in BEFORE or (self.next.text == "const" and self.after().text in BEFORE | {"fn", "extern"}):
+        while (self.next.text in BEFORE and self.after().text not in ("!", "::")) or (
+                self.next.text == "const" and self.after().text in BEFORE | {"fn", "extern"}):
             self.take()
         word, line = self.next.text, self.next.line
         if word == "extern":
             self.take()
             self.place += self.next.sort == "text"
             word = self.next.text
-        if word in NAMED | {"crate"}:
+        if word in NAMED and self.after().text != "::":
             self.take()
-            self.eat("mut")
-            name, end = self.take().text, self.place
+            if word == "static":
+                self.eat("mut")
+            name, end = self.any_name(NAMELESS.get(word, "")), self.place
             if word == "mod":
                 self.into.passed[name] = (f"is a module that is passed over (line {line}): import the type by its path"
                                           " from `crate`")
         elif word in ("impl", "{"):
-            self.pass_to("{", "where")
+            self.pass_to("{", "where", angles=True)
             end = self.place
             self.note_impl(start)
         elif self.next.sort == "name" and (self.after().text == "!" or self.after().text == "::"):
             return self.macro(start)
         else:
             raise NotRust(line, f"expected an item, found `{word}`")
-        if word in WITH_SEMICOLON | {"crate", "const"}:
-            self.pass_to(";")
-            self.expect(";")
-        else:
-            self.pass_item()
-        self.notes.append((self.tokens[start].line, f"passed over: `{self.shown_to(start, end)}`"))
+        self.pass_item(braces=word not in WITH_SEMICOLON)
+        self.note_passed(start, end)
 
     def note_impl(self, start: int) -> None:
         """Keeps which trait an impl gives to which type."""
@@ -210,4 +223,4 @@ class Reader(Parser):
         self.pass_one()
         if not braces:
             self.expect(";")
-        self.notes.append((self.tokens[start].line, f"passed over: `{self.shown_to(start, end)}`"))
+        self.note_passed(start, end)

@@ -8,6 +8,7 @@ from .declarations import Field, Item, Refused
 from .files import File
 from .parser import DEEPEST, MOST_FIELDS
 from .types import HOLDERS, LEAVES, NUMBERS, Type, snake
+from .unique import fresh
 from .words import SEEN, TAKEN, WORDS
 
 STANDARD = {"std", "core", "alloc"}
@@ -49,6 +50,14 @@ def check_leaves(item: Item) -> Iterator[Refused]:
                       item.name)
 
 
+def from_crate(path: List[str], here: List[str]) -> List[str]:
+    """A path that may begin with `crate`, `self` or `super`, as it is from the crate on, from the module here."""
+    found = here
+    for word in path:
+        found = ["crate"] if word == "crate" else found[:-1] if word == "super" else found + [word] * (word != "self")
+    return found
+
+
 class Homes:
     """Finds where the own types of a file are declared, and refuses types that are not covered."""
 
@@ -57,6 +66,7 @@ class Homes:
         self.module = module.split("::")
         self.here = self.specs(crate, self.module)
         self.used: Set[str] = set()
+        self.looked_up: Set[str] = set()
         self.aliases: Dict[str, Type] = {}
         self.opened: Set[str] = set()
         self.declared: Dict[str, Tuple[str, str]] = {}
@@ -92,9 +102,6 @@ class Homes:
 
     def resolved(self, t: Type, holder: Item) -> Type:
         """The type with aliases written out and std's names short; a ValueError says why it is not covered."""
-        first = t.name.split("::")[0]
-        if first in self.file.passed:
-            raise ValueError(f"`{first}` {self.file.passed[first]}")
         name = holder.name if t.name == "Self" else self.short(t.name)
         if name in self.file.aliases and not t.arguments:
             return self.alias(name, holder)
@@ -120,21 +127,50 @@ class Homes:
         return self.aliases[name]
 
     def path(self, name: str) -> List[str]:
-        """The whole path of a name, by what the file uses."""
-        first, *rest = name.split("::")
-        return self.file.uses.get(first, [first]) + rest
+        """The whole path of a name, by what the file uses: from `crate` or the name of a crate on, or the name alone,
+        where this file or the prelude has it."""
+        path = name.split("::")
+        for _ in range(DEEPEST):
+            before, path = path, self.nearer(path)
+            if path == before:
+                return path
+        raise ValueError(f"`{name}` stands for itself: name the type from `crate` on")
+
+    def nearer(self, path: List[str]) -> List[str]:
+        """A path with what the file uses in the place of its first name, or without the way to this module."""
+        first, here = path[0], ["crate", *self.module]
+        if first in self.file.passed:
+            raise ValueError(f"`{first}` {self.file.passed[first]}")
+        if first in self.file.uses:
+            self.looked_up.add(first)
+            return self.file.uses[first] + path[1:]
+        whole = from_crate(path, here) if first in ("self", "super") else path
+        if first == "super" and whole[:1] != ["crate"]:
+            raise ValueError(f"`{'::'.join(path)}` is outside of this crate: name the type from `crate` on")
+        inside = whole[len(here):] if whole[:len(here)] == here else []
+        if len(inside) > 1 and inside[0] not in {*self.file.uses, *self.file.passed}:
+            raise ValueError(f"`{inside[0]}` is no module that this file has: name the type from `crate` on")
+        return inside or whole
+
+    def unused(self) -> Iterator[Tuple[int, str]]:
+        """Notes of what a `use` brings and nothing that is written names."""
+        for line, name, path in self.file.brought:
+            if name not in self.looked_up | self.file.derived:
+                renamed = f" as {name}" if name != path[-1] else ""
+                yield line, f"passed over: `use {'::'.join(path)}{renamed}`"
 
     def short(self, name: str) -> str:
-        """The short name of a type of this file, or of std, where it is covered or known not to be."""
+        """The name by which a type is written: the short one of a type of this file, or of std, where that is covered or
+        known not to be; for others what the file uses, or the whole path."""
         path = self.path(name)
-        if path[:-1] in (["self"], ["crate", *self.module]):
-            return path[-1]
+        if len(path) == 1:
+            return path[0]
         if path[0] in STANDARD and len(path) > 1:
             known = path[-1] in NOT_COVERED or "::".join(path[1:-1]) in MODULES.get(path[-1], [])
             return path[-1] if known else "::".join(path)
         if len(path) > 1 and name in (*LEAVES, *HOLDERS):
             raise ValueError(f"`{name}` is `{'::'.join(path)}` here, which is not covered: import it by another name")
-        return name
+        return name if name.split("::")[0] in self.file.uses else "::".join(path)
 
     def parts_of(self, item: Item) -> Iterator[Tuple[str, Field, str]]:
         """The names of this file's types in an item, each with the field and its path."""
@@ -169,7 +205,9 @@ class Homes:
 
     def settle(self) -> None:
         """Settles the types of all fields."""
-        for item in list(self.ordered()):
+        ordered = list(self.ordered())
+        known = {id(item) for item in ordered}
+        for item in ordered + [item for item in self.file.items if id(item) not in known]:
             for where, f in placed(item):
                 try:
                     f.type = self.settled(f.type, item)
@@ -237,15 +275,15 @@ class Homes:
         needed = SERDE & set(holder.derives)
         lacking = (needed | ({"PartialEq", "Eq"} if holder.derives_all() else set())) - set(part.derives)
         if not part.covered:
-            return Type(name, home=self.here, declared=name)
+            return Type(name, home=self.here, declared=name, called=snake(name))
         why = part.why_astray() if part.derives_all() else ""
         if why and holder.derives_all() and "untagged" not in holder.serde:
             raise ValueError(f"delete Eq here, as `{name}` does not come back: {why}")
         if lacking:
             raise ValueError(f"`{name}` does not derive {', '.join(sorted(lacking))}, as what holds it does: derive that too")
         law = ("records", "map_takes" if part.flattens() else "struct_takes")
-        self.known(name, self.here, name)
-        return Type(name, home=self.here, declared=name, plain=not part.asked(), astray=bool(why),
+        called = self.called(name, self.here, name)
+        return Type(name, home=self.here, declared=name, called=called, plain=not part.asked(), astray=bool(why),
                     lost=not part.comes_back_from_cbor(), null=part.may_be_null(),
                     record=law if part.data.named and not part.transparent() else None)
 
@@ -255,23 +293,28 @@ class Homes:
         if path[0] in STANDARD | {"serde"} and len(path) > 1:
             raise ValueError(f"the type `{'::'.join(path)}` is not covered: hold what it is made of, as a number or"
                              " a String")
-        if len(path) < 2 or path[0] in ("self", "super"):
+        if len(path) < 2:
             raise ValueError(f"the type `{name}` is not covered: declare it in this file, or name it by its full path")
         raw = [part for part in path if part.startswith("r#")]
         if raw:
             raise ValueError(f"the name `{raw[0]}` is not covered: give it a plain one")
         first = name.split("::")[0]
-        if first in TAKEN or path[-1] in (*WORDS, *SEEN):
-            raise ValueError(f"the name `{path[-1]}` is one that the module uses itself: call that type otherwise")
+        if first in TAKEN:
+            raise ValueError(f"the name `{first}` is one that the module uses itself: import that type by another name")
+        if path[-1] in (*WORDS, *SEEN):
+            raise ValueError(f"the name `{path[-1]}` is one that contracts use themselves: declare that type by another name")
         self.used.add(first)
         home = self.specs(self.crate if path[0] == "crate" else path[0], path[1:-1])
-        self.known(name, home, path[-1])
-        return Type(name, home=home, declared=path[-1])
+        return Type(name, home=home, declared=path[-1], called=self.called(name, home, path[-1]))
 
-    def known(self, name: str, home: str, declared: str) -> None:
-        """Refuses two types whose names in contracts would be one, as a ValueError."""
-        if self.declared.setdefault(snake(declared), (home, declared)) != (home, declared):
-            raise ValueError(f"`{name}` has the name of another type that is used here: call one of them otherwise")
+    def called(self, name: str, home: str, declared: str) -> str:
+        """What contracts call an own type by: as it is declared, or where that is another's name, as it is named here."""
+        own, word = (home, declared), snake(declared)
+        if self.declared.get(word, own) != own:
+            named = "_".join(map(snake, name.split("::")[-2:]))
+            word = fresh(named, "_type", lambda one: one == snake(declared) or self.declared.get(one, own) != own)
+        self.declared[word] = own
+        return word
 
     def check_key(self, key: Type) -> None:
         """Refuses a type that no key of a map has, as a ValueError."""

@@ -13,7 +13,7 @@ from .literals import with_names
 from .names import name_item
 from .structs import StructWriter, TransparentWriter
 from .tagged import TaggedWriter, check_tagged
-from .types import CBOR, NOT_NULL, READ, TRIP, snake
+from .types import CBOR, NOT_NULL, READ, TRIP
 from .unique import KINDS, name_cases, name_functions
 from .untagged import UntaggedWriter, check_untagged
 from .words import ALIASES, METHODS, SEEN, USES, WORDS, words_in, words_of
@@ -35,7 +35,7 @@ def impl(item: Item, trait: str, members: List[str], lifetime: str = "") -> str:
     body = "\n\n".join(members)
     laws = [f"ghost use {own.home.format('contracts')}.{own.declared}{kind}.TheImpl.Laws as {word};\n"
             for own in item.owns() for suffix, kind in TRAITS.items()
-            if names(body, word := f"{snake(own.declared)}_{suffix}")]
+            if names(body, word := f"{own.called}_{suffix}")]
     return f"impl{lifetime} {trait} for {item.name} {{\n{''.join(laws)}\n{body}\n}}\n"
 
 
@@ -106,7 +106,7 @@ def settled(file: File, homes: Homes) -> Dict[str, Writer]:
     if file.refused:
         raise Refusals(file.refused)
     name_functions(file.items)
-    name_cases(file.items, [declared for _, declared in homes.declared.values()])
+    name_cases(file.items, homes.declared)
     return {item.name: writer_of(item) for item in file.items}
 
 
@@ -120,18 +120,20 @@ def brought(words: Set[str], word: str, texts: List[str]) -> bool:
 def uses(file: File, homes: Homes, texts: List[str]) -> List[str]:
     """The lines that bring the words of contracts, and those that bring the items of code."""
     seen = [found for text in texts for found in re.findall(r"λ (?:o )?\([xz] : (.*?)\)\.\s", text, re.S)]
-    words, named = words_in(texts), words_in(seen)
-    owns = {own.declared: own for item in file.items for own in item.owns()}
+    words, named = words_in(texts), words_in(re.sub(r"(_as_seen)\.\w+", r"\1", text) for text in seen)
+    owns = {own.called: own for item in file.items for own in item.owns()}.values()
     ghosts = words_of(words, WORDS) + words_of(named, SEEN)
     ghosts += [f"ghost use Rattle.{path} as {name};" for name, path in ALIASES.items()
                if any(re.search(rf"\b{name}\.", text) for text in texts)]
-    ghosts += [f"ghost use {own.home.format('declared')}.{name}.{{{name}}};" for name, own in owns.items() if name in named]
+    ghosts += [f"ghost use {own.home.format('declared')}.{own.declared}.{{{own.declared}}};"
+               for own in owns if not own.module() and own.declared in named]
+    ghosts += [f"ghost use {own.home.format('declared')}.{own.declared} as {own.module()};" for own in owns if own.module() in named]
     ghosts += [f"ghost use {homes.here.format('declared')}.{item.name}.TheVariants as {item.cases};"
                for item in file.items if item.variants]
     code = [f"use {path}::{{{', '.join(used)}}};" for path, names in USES.items()
             if (used := [name for name in names.split() if brought(words, name, texts)])]
     code += [f"use {'::'.join(path)}{'' if path[-1] == shown else f' as {shown}'};"
-             for shown, path in file.uses.items() if shown in homes.used]
+             for shown, path in ((name, homes.path(name)) for name in file.uses if name in homes.used)]
     return [*ghosts, "", *code]
 
 
@@ -157,8 +159,10 @@ def module(source: str, name: str, crate: str, place: str, cbor: bool = False,
     homes = Homes(crate, place, file)
     writers = settled(file, homes)
     if notes is not None:
-        notes += sorted(file.notes) + [(item.line, f"no RoundTrip is written for `{item.name}`: {item.why_astray()}")
-                                       for item in file.items if item.derives_all() and not item.comes_back()]
+        notes += [*file.notes, *homes.unused()] + [
+            (item.line, f"no RoundTrip is written for `{item.name}`: {item.why_astray()}")
+            for item in file.items if item.derives_all() and not item.comes_back()]
+        notes.sort()
     texts = [text for item in file.items for text in texts_of(item, writers[item.name], cbor)]
     body = with_names("\n".join(texts), [item.name for item in file.items])
     docs = file.docs or ["//! Types that are sent and read."]

@@ -3,10 +3,13 @@ from typing import Callable, List, Optional, Tuple
 
 from .attributes import Attributes, Head
 from .declarations import Data, Field, Item, NotRust, Refused, Variant
+from .tokens import ROOTS
 from .types import Type
 
 DEEPEST = 48
 MOST_FIELDS, MOST_VARIANTS = 250, 500
+# keywords that begin an item, and are in none outside of brackets but before its name
+BEGIN_ITEMS = {"enum", "mod", "pub", "struct", "trait", "type"}
 BEGINS = {
     "&": "hold the value itself, as String for &str", "[": "write a Vec, or a tuple of up to four",
     "*": "hold the value itself", "dyn": "write an enum of the types that it may be",
@@ -32,12 +35,10 @@ class Parser(Attributes):
         one = self.place in self.pairs and self.pairs[self.place] == self.place + 2
         if self.next.text != "(" or not (inside.text == "in" or (one and inside.text in ("crate", "self", "super"))):
             return "pub "
-        start = self.place
         self.place += 2
-        if inside.text == "in":
-            self.path()
+        path = self.path() if inside.text == "in" else []
         self.expect(")")
-        return f"pub{self.shown(start)} "
+        return f"pub({' '.join([inside.text, '::'.join(path)]).strip()}) "
 
     def type(self, depth: int = 0) -> Type:
         """A type; those that aren't known yet have no home."""
@@ -52,6 +53,10 @@ class Parser(Attributes):
             return Type("tuple", tuple(arguments)) if arguments else Type("()")
         self.check_begins(line)
         path = self.path()
+        if path[-1] in ROOTS - {"Self"}:
+            raise NotRust(line, f"expected a type, found `{path[-1]}`")
+        if path[0] == "Self" and len(path) > 1:
+            raise Refused(line, "a type that begins with `Self::` is not covered: write the type itself")
         if self.eat("<") or (self.next.text == "::" and self.after().text == "<" and self.take() and self.take()):
             self.listed(">", lambda: arguments.append(self.type(depth + 1)))
         if self.next.text in ("::", "!", "="):
@@ -133,7 +138,7 @@ class Parser(Attributes):
                 self.pass_to(",")
                 if self.place == start + 1:
                     raise NotRust(self.next.line, f"expected a value, found `{self.next.text}`")
-                self.notes.append((line, f"left out: the discriminant `{into[-1].name} {self.shown(start)}`"))
+                self.notes.append((line, f"left out: the discriminant `{into[-1].name} {self.shown(start, self.place)}`"))
 
         self.guarded(into[-1].name, head, read)
 
@@ -169,10 +174,14 @@ class Parser(Attributes):
         if len(item.variants) > MOST_VARIANTS:
             raise Refused(line, f"more than {MOST_VARIANTS} variants are not covered: hold a text or a number")
 
-    def pass_item(self) -> None:
-        """Passes an item up to its end: a `;`, or what stands in braces."""
-        while self.next.sort != "end" and not self.eat(";"):
-            brace = self.next.text == "{"
+    def pass_item(self, braces: bool = True) -> None:
+        """Passes an item up to its end: a `;`, or what stands in braces, where its sort may end so."""
+        depth = 0
+        while not self.eat(";"):
+            if self.next.sort == "end" or self.next.text in BEGIN_ITEMS:
+                raise NotRust(self.next.line, f"expected {'`{` or ' * braces}`;`, found `{self.next.text}`")
+            depth += {"<": 1, ">": -1}.get(self.next.text, 0)
+            last = braces and self.next.text == "{" and depth <= 0
             self.pass_one()
-            if brace:
+            if last:
                 break

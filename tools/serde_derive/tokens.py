@@ -6,7 +6,7 @@ a build on each machine, where python3 alone has to do.
 import re
 from typing import Callable, Dict, List, NamedTuple
 
-from .declarations import NotRust, Refused
+from .declarations import MOST_QUOTED, NotRust, Refused, one_line
 
 
 class Token(NamedTuple):
@@ -18,7 +18,7 @@ class Token(NamedTuple):
 
 
 TOKEN = re.compile(r"""
-    (?P<blank>\s+|//(?![/!])[^\n]*|////[^\n]*)
+    (?P<blank>[\t-\r\ \x85\u200e\u200f\u2028\u2029]+|//(?![/!])[^\n]*|////[^\n]*)
   | (?P<doc>//[/!][^\n]*)
   | (?P<block>/\*)
   | (?P<raw>[bc]?r(?P<hashes>\#*)".*?"(?P=hashes))
@@ -71,7 +71,8 @@ def tokens_of(source: str) -> List[Token]:
         elif sort == "unclosed":
             raise NotRust(line, "the text that begins here is not closed")
         elif sort == "unknown":
-            raise NotRust(line, f"`{text}` begins no token of Rust")
+            shown = f"`{text}`" if text.isprintable() else f"U+{ord(text):04X}"
+            raise NotRust(line, f"{shown} begins no token of Rust")
         elif sort != "blank":
             tokens.append(Token("text" if sort == "raw" else sort, text, line))
         if "\n" in text:
@@ -89,8 +90,12 @@ def pairs_of(tokens: List[Token]) -> Dict[int, int]:
         if token.text in CLOSES:
             opened.append(place)
         elif token.text in ")]}":
-            if not opened or CLOSES[tokens[opened[-1]].text] != token.text:
+            if not opened:
                 raise NotRust(token.line, f"`{token.text}` closes nothing that is open")
+            opening = tokens[opened[-1]]
+            if CLOSES[opening.text] != token.text:
+                raise NotRust(token.line, f"expected `{CLOSES[opening.text]}` for the `{opening.text}` of line {opening.line},"
+                              f" found `{token.text}`")
             pairs[opened.pop()] = place
     if opened:
         raise NotRust(tokens[opened[-1]].line, f"`{tokens[opened[-1]].text}` is not closed")
@@ -205,8 +210,8 @@ class Cursor:
             depth += {"<": 1, ">": -1}.get(self.next.text, 0) * angles
             self.pass_one()
 
-    def shown(self, start: int, most: int = 16) -> str:
-        """The tokens from a place up to here, as a line."""
-        texts = [token.text for token in self.tokens[start:self.place][:most]]
+    def shown(self, start: int, end: int, most: int = 16) -> str:
+        """The tokens between two places, as a line."""
+        texts = [one_line(token.text) for token in self.tokens[start:end][:most]]
         line = "".join(text + " " * apart(text, after) for text, after in zip(texts, texts[1:] + [";"]))
-        return line + " .." * (self.place - start > most)
+        return line[:MOST_QUOTED] + " .." * (end - start > most or len(line) > MOST_QUOTED)

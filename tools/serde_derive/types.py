@@ -88,7 +88,7 @@ class Type:
     """A field's type: a leaf, a holder, a tuple, or one of the user's own.
 
     An own type has a `home`, the path of the specifications of the module that declares it under
-    the name `declared`. It is `plain` where contracts take each of its values for one that exists,
+    the name `declared`, and contracts call its laws by what it is `called`. It is `plain` where contracts take each of its values for one that exists,
     `astray` where its values don't come back, `lost` where they don't from CBOR, `null` where it may be read of null.
     One of the same file that is read as a struct or a map has a `record`, the law that it takes no others.
     """
@@ -97,6 +97,7 @@ class Type:
     arguments: Tuple["Type", ...] = ()
     home: str = ""
     declared: str = ""
+    called: str = ""
     plain: bool = False
     astray: bool = False
     lost: bool = False
@@ -129,12 +130,12 @@ class Type:
         if self.name == "Box":
             return self.arguments[0].lawful(f"{x}.value", h)
         inside = [f"(λ x h. {a.lawful('x', 'h')})" for a in self.arguments]
-        return self.laws.lawful.format(*inside, x=x, h=h, own=snake(self.declared))
+        return self.laws.lawful.format(*inside, x=x, h=h, own=self.called)
 
     def back(self) -> str:
         inside, count = [a.inner_back() for a in self.arguments], len(self.arguments)
         if self.name != "tuple":
-            return self.laws.back.format(*inside, own=snake(self.declared), **self.ordered())
+            return self.laws.back.format(*inside, own=self.called, **self.ordered())
         parts = nest([f"element_back {law} x.{i} real{f'.{i}' * (count > 1)} (λ y. y.{i}) {count} {i}"
                       for i, law in enumerate(inside)], f"(parts_end {count})")
         return f"(record {{ of_value = λ x real f. tuple_back{parts}\nf (λ y h. {both(count, 'h')}) }})"
@@ -143,7 +144,7 @@ class Type:
         inside, count = [a.inner_kept() for a in self.arguments], len(self.arguments)
         if self.name != "tuple":
             null = self.arguments[0].not_null() if self.name == "Option" else ""
-            return self.laws.kept.format(*inside, own=snake(self.declared), null=null, **self.ordered())
+            return self.laws.kept.format(*inside, own=self.called, null=null, **self.ordered())
         parts = nest([f"element_kept {law} x.{i} real{f'.{i}' * (count > 1)} (λ y. y.{i}) {count} {i}"
                       for i, law in enumerate(inside)], f"(parts_end_kept {count})")
         return f"(record {{ of_value = λ x real. tuple_kept{parts}\n(λ y h. {both(count, 'h')}) }})"
@@ -154,7 +155,7 @@ class Type:
             parts = nest([f"part_then {count} {i} ({refusal})" for i, refusal in enumerate(refusals)], f"(end_of_parts {count})")
             return f"(tuple_not_null {count}{parts})"
         null = self.arguments[0].not_null() if self.name == "Box" else ""
-        return self.laws.not_null.format(own=snake(self.declared), null=null, refusals=refusals)
+        return self.laws.not_null.format(own=self.called, null=null, refusals=refusals)
 
     def comes_back_from_cbor(self) -> bool:
         """Whether CBOR keeps its values; so it does an optional one of what is never null."""
@@ -172,7 +173,7 @@ class Type:
     def keeps(self) -> str:
         inside, count = [a.keeps() for a in self.arguments], len(self.arguments)
         if self.name != "tuple":
-            return self.laws.keeps.format(*inside, own=snake(self.declared), **self.ordered())
+            return self.laws.keeps.format(*inside, own=self.called, **self.ordered())
         return f"(tuple_keeps {count}" + nest(
             [f"part_keeps (λ y. y.{i}) {count} {i} {law}" for i, law in enumerate(inside)],
             f"(parts_end_keeps {count})") + ")"
@@ -204,7 +205,11 @@ class Type:
         inside = [a.seen() for a in self.arguments]
         if self.name == "tuple":
             return f"({' × '.join(inside)})" if len(inside) > 1 else f"(record {{0 : {inside[0]}}})"
-        return self.laws.seen.format(*inside, declared=self.declared)
+        return self.laws.seen.format(*inside, declared=f"{self.module()}.{self.declared}" if self.module() else self.declared)
+
+    def module(self) -> str:
+        """What contracts call the module of an own type by, whose name is another's in them too."""
+        return "" if self.called == snake(self.declared) else f"{self.called}_as_seen"
 
     def takes(self) -> Optional[Tuple[str, str]]:
         """The class of trees that it takes, where it takes one, and the law."""
@@ -230,7 +235,7 @@ class Type:
         if self.name != "BTreeMap":
             return {}
         key = self.arguments[0]
-        own = snake(key.declared)
+        own = key.called
         total, ties = (
             (f"{own}_ord.total-law", f"{own}_ord.matches_eq-law") if key.home else
             ("string_cmp_total", "(λ x y. texts_ties (string_bytes x) (string_bytes y))")

@@ -1,6 +1,6 @@
 """Names of functions and of contracts, each once in a module."""
 import re
-from typing import Callable, List, Set
+from typing import Callable, Dict, List, Set, Tuple
 
 from .cases import pascal
 from .declarations import Item
@@ -43,10 +43,10 @@ def name_functions(items: List[Item]) -> None:
             lists.add(pascal(one.owner).lower())
 
 
-def name_cases(items: List[Item], others: List[str]) -> None:
-    """Names what contracts call the cases of enums by; the others are own types that are declared elsewhere."""
-    declared = [item.name for item in items] + others
-    taken = set(declared) | {f"{snake(name)}_{kind}" for name in declared for kind in KINDS}
+def name_cases(items: List[Item], types: Dict[str, Tuple[str, str]]) -> None:
+    """Names what contracts call the cases of enums by, with the home and name of each own type by what it is called."""
+    taken = {item.name for item in items} | {declared for _, declared in types.values()}
+    taken |= {f"{word}_{kind}" for word in [*map(snake, taken), *types] for kind in (*KINDS, "as_seen")}
     for item in items:
         places = {place for v in item.variants if v.signed() or len(v.data.fields) > LONGEST_HELD for place in v.data.places()}
         item.cases = alias(item.name)
