@@ -53,6 +53,7 @@ def large() -> Iterator[Tuple[str, int, str]]:
     derive = "#[derive(Serialize, Deserialize)]\n"
     for opens, closes in (("Option<", ">"), ("(", ",)"), ("Vec<(u8, ", ")>")):
         yield f"1,000 of {opens}", 2, f"{derive}struct A({opens * 1000}u8{closes * 1000});\n"
+    yield "47 of Option<", 0, f"{derive}struct A({'Option<' * 47}u8{'>' * 47});\n"
     yield "1,000 aliases", 2, f"{derive}struct A(T999);\ntype T0 = u8;\n" + "".join(
         f"type T{i} = T{i - 1};\n" for i in range(1, 1000))
     yield "a chain of 1,000 structs", 0, "".join(
@@ -101,18 +102,21 @@ def slow_or_wrong() -> Iterator[str]:
             yield f"{what}: wanted {status}, found {got} in {seconds:.0f} seconds: {lines[-1:]}"
 
 
-def command(room: Path, *words: str) -> Tuple[int, str]:
-    """The status of the command and what it answers, with the room's path left out."""
+def command(room: Path, *words: str) -> Tuple[int, str, str]:
+    """The status of the command, what it answers, with the room's path left out, and what it prints."""
     done = subprocess.run([top / "tools" / "derive", "--crate", "a", "--module", "types", *words], cwd=room,
                           capture_output=True, text=True)
-    return done.returncode, done.stderr.replace(f"{room}/", "").strip()
+    return done.returncode, done.stderr.replace(f"{room}/", "").strip(), done.stdout
 
 
 def commands(room: Path) -> Iterator[str]:
     """What of the command itself is otherwise than it should be."""
     good, bad, out = room / "good.rs", room / "bad.rs", room / "out.rt"
-    good.write_text("\ufeff#[derive(Serialize)]\r\nstruct A(u8);\r\n", encoding="utf-8")
+    good.write_bytes("\ufeff#[derive(Serialize)]\r\n/// The\r\n/// number.\r\nstruct A(u8);\r\n".encode())
     bad.write_text("#[derive(Serialize)]\nstruct A(f32);\n")
+    (room / "empty.rs").write_text("")
+    (room / "comments.rs").write_text("// Nothing\n/* at all */\n")
+    nothing = "no struct or enum here derives Serialize or Deserialize: derive one of them"
     (room / "latin.rs").write_bytes(b"//! caf\xe9\n")
     out.write_text("what stood there\n")
     tries = [
@@ -121,6 +125,12 @@ def commands(room: Path) -> Iterator[str]:
         (["none.rs"], 1, "none.rs: can't be read: No such file or directory", None),
         (["."], 1, ".: can't be read: Is a directory", None),
         (["latin.rs"], 1, "latin.rs:1: is not UTF-8: store the file so", None),
+        (["latin.rs", "-o", "out.rt"], 1, "latin.rs:1: is not UTF-8: store the file so", "what stood there\n"),
+        (["empty.rs", "-o", "out.rt"], 2, f"empty.rs:1: {nothing}", "what stood there\n"),
+        (["comments.rs", "-o", "out.rt"], 2, f"comments.rs:1: {nothing}", "what stood there\n"),
+        (["good.rs", "-o", "."], 1, ".: can't be written: Is a directory", None),
+        (["good.rs", "-o", "../" + room.name + "/good.rs"], 1,
+         f"../{room.name}/good.rs: holds the declarations: write the module to another file", None),
         (["good.rs", "--check", "none.rt"], 1, "none.rt: can't be read: No such file or directory", None),
         (["good.rs", "-o", "out.rt"], 0, "", None),
         (["good.rs", "--check", "out.rt"], 0, "", None),
@@ -129,9 +139,11 @@ def commands(room: Path) -> Iterator[str]:
     ]
     for words, status, answer, stored in tries:
         got = command(room, *words)
-        if got != (status, answer) or (stored and out.read_text() != stored):
+        if got[:2] != (status, answer) or (stored and out.read_text() != stored):
             yield f"{' '.join(words)}: wanted {status} {answer}\nfound {got[0]} {got[1]}"
-    if sorted(path.name for path in room.iterdir()) != ["bad.rs", "good.rs", "latin.rs", "out.rt"]:
+    if out.read_text() != command(room, "good.rs")[2] or b"\r" in out.read_bytes() or "\ufeff" in out.read_text():
+        yield "the module is not as it is printed, or has line ends or a mark of its declarations"
+    if sorted(path.name for path in room.iterdir()) != ["bad.rs", "comments.rs", "empty.rs", "good.rs", "latin.rs", "out.rt"]:
         yield f"files were left: {sorted(path.name for path in room.iterdir())}"
 
 

@@ -199,3 +199,11 @@ use self as a;
 // 2: expected a type, found `super`
 #[derive(Serialize)]
 struct A(super);
+
+// 2: `[` is not closed
+#[derive(Serialize)]
+struct A[u8; 3
+
+// 3: expected `{` or `;`, found `the end of the file`
+struct B;
+struct A<T
