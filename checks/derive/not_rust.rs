@@ -207,3 +207,20 @@ struct A[u8; 3
 // 3: expected `{` or `;`, found `the end of the file`
 struct B;
 struct A<T
+
+// 2: "a\Hb" holds an escape for no character
+#[derive(Serialize)]
+#[serde(rename = "a\Hb")]
+struct A;
+
+// 2: "\xff" holds an escape for no character
+#[derive(Serialize)]
+#[serde(rename = "\xff")]
+struct A;
+
+// 3: expected `{` or `;`, found `struct`
+impl
+#[derive(Serialize)]
+struct A(u8);
+#[derive(Serialize)]
+struct B { x: u8 }

@@ -475,3 +475,14 @@ enum B { X { #[serde(default)] a: crate::other::deep::Thing, b: Thing } }
 #[deprecated = "two
     lines"]
 pub(in crate) struct A(pub(in self) u8);
+
+// + ghost use Rattle.a.specs.declared.other.Thing as other_as_seen;
+// - as thing_as_seen;
+// + (RowOrThen (name "y") (λ (x : (Vec other_as_seen.Thing Global)). x.items ≡ [])
+use crate::other::Thing as Other;
+#[derive(PartialEq, Eq, Serialize, Deserialize)]
+struct A(Option<Other>, Thing);
+#[derive(PartialEq, Eq, Serialize, Deserialize)]
+struct Thing { x: u8, #[serde(default)] y: Vec<Other> }
+#[derive(PartialEq, Eq, Serialize, Deserialize)]
+#[serde(tag = "t")] enum B { X(Thing), Y { #[serde(default)] a: Option<Thing>, b: Other } }

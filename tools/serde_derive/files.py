@@ -4,7 +4,7 @@ from typing import Dict, List, Set, Tuple
 
 from .attributes import SERDE, Head, doc_line
 from .declarations import Item, NotRust, Refused
-from .parser import Parser
+from .parser import BEGIN_ITEMS, Parser
 from .tokens import KEYWORDS, ROOTS, text_of
 from .types import Type
 
@@ -116,19 +116,17 @@ class Reader(Parser):
         path = before[:]
         self.eat("::")
         while self.next.sort == "name":
+            line = self.next.line
             path.append(self.any_name(*(ROOTS if ROOTS.issuperset(path[len(before):]) else ())))
             if not self.eat("::"):
-                name = path[-1]
-                if name == "self" and len(path) == 1:
-                    raise NotRust(self.next.line, "`self` is brought by a `use` in braces after a path alone")
-                if name == "self":
+                if path == ["self"]:
+                    raise NotRust(line, "`self` is brought by a `use` in braces after a path alone")
+                if path[-1] == "self":
                     path.pop()
-                    name = path[-1]
-                line = self.next.line
-                shown = self.any_name("_") if self.eat("as") else name
-                self.into.uses[shown] = path
-                self.into.brought.append((line, shown, path))
-                self.into.declare(shown, [SAME.get(word, word) for word in path[:1]] + path[1:], line)
+                name = self.any_name("_") if self.eat("as") else path[-1]
+                self.into.uses[name] = path
+                self.into.brought.append((line, name, path))
+                self.into.declare(name, [SAME.get(path[0], path[0]), *path[1:]], line)
                 return
         if self.eat("*"):
             if path[:1] not in (["std"], ["serde"]):
@@ -194,7 +192,7 @@ class Reader(Parser):
                 self.into.passed[name] = (f"is a module that is passed over (line {line}): import the type by its path"
                                           " from `crate`")
         elif word in ("impl", "{"):
-            self.pass_to("{", "where", angles=True)
+            self.pass_to("{", "where", *BEGIN_ITEMS, angles=True)
             end = self.place
             self.note_impl(start)
         elif self.next.sort == "name" and (self.after().text == "!" or self.after().text == "::"):

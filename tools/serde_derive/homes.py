@@ -71,6 +71,8 @@ class Homes:
         self.opened: Set[str] = set()
         self.declared: Dict[str, Tuple[str, str]] = {}
         self.told = {refused.where for refused in file.refused}
+        for item in file.items:
+            self.called(item.name, self.here, item.name)
 
     @staticmethod
     def specs(crate: str, modules: List[str]) -> str:
@@ -154,8 +156,9 @@ class Homes:
 
     def unused(self) -> Iterator[Tuple[int, str]]:
         """Notes of what a `use` brings and nothing that is written names."""
+        named = self.looked_up | self.file.derived
         for line, name, path in self.file.brought:
-            if name not in self.looked_up | self.file.derived:
+            if name not in named:
                 renamed = f" as {name}" if name != path[-1] else ""
                 yield line, f"passed over: `use {'::'.join(path)}{renamed}`"
 
@@ -165,10 +168,10 @@ class Homes:
         path = self.path(name)
         if len(path) == 1:
             return path[0]
-        if path[0] in STANDARD and len(path) > 1:
+        if path[0] in STANDARD:
             known = path[-1] in NOT_COVERED or "::".join(path[1:-1]) in MODULES.get(path[-1], [])
             return path[-1] if known else "::".join(path)
-        if len(path) > 1 and name in (*LEAVES, *HOLDERS):
+        if name in (*LEAVES, *HOLDERS):
             raise ValueError(f"`{name}` is `{'::'.join(path)}` here, which is not covered: import it by another name")
         return name if name.split("::")[0] in self.file.uses else "::".join(path)
 
@@ -207,7 +210,8 @@ class Homes:
         """Settles the types of all fields."""
         ordered = list(self.ordered())
         known = {id(item) for item in ordered}
-        for item in ordered + [item for item in self.file.items if id(item) not in known]:
+        twins = [item for item in self.file.items if id(item) not in known]
+        for item in ordered + twins:
             for where, f in placed(item):
                 try:
                     f.type = self.settled(f.type, item)
@@ -308,7 +312,8 @@ class Homes:
         return Type(name, home=home, declared=path[-1], called=self.called(name, home, path[-1]))
 
     def called(self, name: str, home: str, declared: str) -> str:
-        """What contracts call an own type by: as it is declared, or where that is another's name, as it is named here."""
+        """What contracts call an own type by: as it is declared, but where that is the name of another, which one of this
+        file always has, as it is named here."""
         own, word = (home, declared), snake(declared)
         if self.declared.get(word, own) != own:
             named = "_".join(map(snake, name.split("::")[-2:]))

@@ -36,7 +36,7 @@ abstract become box do final macro override priv try typeof unsized virtual yiel
 ROOTS = {"crate", "self", "super", "Self"}
 LONGEST = 100
 CLOSES = {"(": ")", "[": "]", "{": "}"}
-ESCAPES = {"n": "\n", "r": "\r", "t": "\t", "0": "\0", "\\": "\\", "'": "'", '"': '"'}
+ESCAPES = {"n": "\n", "r": "\r", "t": "\t", "0": "\0", "\\": "\\", "'": "'", '"': '"', "\n": ""}
 
 
 def block_end(source: str, start: int, line: int) -> int:
@@ -110,12 +110,12 @@ def apart(text: str, after: str) -> bool:
 
 
 def escaped(found: "re.Match[str]") -> str:
-    """What an escape in a text stands for."""
+    """What an escape in a text stands for; a ValueError says that it is none."""
     word = found.group(1)
-    if word[0] not in "ux":
-        return ESCAPES.get(word, "")
+    if word[0] in ESCAPES:
+        return ESCAPES[word[0]]
     number = int(re.sub(r"[{}_]", "", word[1:]), 16)
-    if number > 0x10FFFF or 0xD800 <= number < 0xE000:
+    if number > (0x7F if word[0] == "x" else 0x10FFFF) or 0xD800 <= number < 0xE000:
         raise ValueError
     return chr(number)
 
