@@ -10,7 +10,6 @@ from .words import NO_PLACES
 
 # paths, and names that may be those of a type
 NO_PLACE = re.compile(r".*\.|[A-Z]")
-MENTIONED = re.compile(r"(?:`\w+`: )?(?:(?:field|variant) `([\w.]+)`: )?")
 MOST_QUOTED = 100
 
 

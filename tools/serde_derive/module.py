@@ -159,8 +159,9 @@ def module(source: str, name: str, crate: str, place: str, cbor: bool = False,
     homes = Homes(crate, place, file)
     writers = settled(file, homes)
     if notes is not None:
-        notes += [*file.notes, *homes.unused()] + [(item.line, f"no RoundTrip is written for `{item.name}`: {item.why_astray()}")
-                                                   for item in file.items if item.derives_all() and not item.comes_back()]
+        notes += [*file.notes, *homes.unused()] + [
+            (item.line, f"no RoundTrip is written for `{item.name}`: {item.why_astray()}")
+            for item in file.items if item.derives_all() and not item.comes_back()]
         notes.sort()
     texts = [text for item in file.items for text in texts_of(item, writers[item.name], cbor)]
     body = with_names("\n".join(texts), [item.name for item in file.items])
