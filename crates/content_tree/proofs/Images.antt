@@ -1,13 +1,16 @@
 -- Lists of values, each as its image.
-use Rattle.std.proofs.Common.{◌≡◌, ℕ, List, [], ◌∷◌, map, refl, ap}
+use Rattle.std.proofs.Common.{◌≡◌, ℕ, List, [], ◌∷◌, String, Global, string_bytes, map, refl, ap, rules}
 use Rattle.content_tree.specs.Values.Text.{text_of}
 use Rattle.content_tree.specs.Values.Value.{tree_of, trees_view, pairs_view, fields_view}
 use Rattle.content_tree.specs.declared.cow.CowStr.{CowStr}
+use Rattle.content_tree.specs.declared.found.Found as found
+use Rattle.content_tree.specs.declared.number.Number.{Number}
+use Rattle.content_tree.specs.declared.value.NamedValue as value
 use Rattle.content_tree.specs.declared.value.NamedValue.{NamedValue}
 use Rattle.content_tree.specs.Images.Image as image
 use Rattle.content_tree.specs.Images.Image.{Image, Images, ImagePairs, ImageFields, image}
 use Rattle.content_tree.specs.Images.Image.{image_each, image_pairs, image_fields}
-use Rattle.content_tree.specs.Images.Found.{images_of, image_pairs_of, image_fields_of}
+use Rattle.content_tree.specs.Images.Found.{image_view, images_of, image_pairs_of, image_fields_of}
 
 -- the image of a value
 abbrev pub value_image : NamedValue → Image
@@ -47,3 +50,11 @@ pairs_found (p ∷ ps) = ap (image.image_pair_then (image (tree_of p.0)) (image 
 pub fields_found : (fs : List (CowStr × NamedValue)) → image_fields_of (map value_field_image fs) ≡ image_fields (fields_view fs)
 fields_found [] = refl
 fields_found (f ∷ fs) = ap (image.image_field_then (text_of f.0).content (image (tree_of f.1))) (fields_found fs)
+
+-- the image of a number
+pub number_found : (n : Number) → image_view (found.Number n) ≡ value_image (value.Number n)
+number_found n = search (rules, value.the_lemmas, found.the_lemmas)
+
+-- the image of a text
+pub text_found : (t : CowStr) (s : String Global) → string_bytes s ≡ (text_of t).content → image_view (found.String s) ≡ value_image (value.String t)
+text_found t s same = search (rules, value.the_lemmas, found.the_lemmas, same)

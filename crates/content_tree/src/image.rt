@@ -210,7 +210,11 @@ fn found_items<'a, 'n>(
 {
     let mut found = Vec::with_capacity(alloc, items.len())?;
     for item in items.iter_mut() {
-        found.push_reserved(found_value(alloc, item)?);
+        match item {
+            // The commonest leaf is copied with no answer on the way.
+            NamedValue::Number(number) => found.push_reserved(Found::Number(*number)),
+            item => found.push_reserved(found_value(alloc, item)?),
+        }
     }
     Ok(found)
 }
@@ -226,9 +230,14 @@ fn found_pairs<'a, 'n>(
 {
     let mut found = Vec::with_capacity(alloc, pairs.len())?;
     for (key, value) in pairs.iter_mut() {
-        let key = found_value(alloc, key)?;
-        let value = found_value(alloc, value)?;
-        found.push_reserved((key, value));
+        let key = match key {
+            NamedValue::String(text) => Found::String(text.take(alloc)?),
+            key => found_value(alloc, key)?,
+        };
+        match value {
+            NamedValue::Number(number) => found.push_reserved((key, Found::Number(*number))),
+            value => found.push_reserved((key, found_value(alloc, value)?)),
+        }
     }
     Ok(found)
 }
@@ -245,8 +254,10 @@ fn found_fields<'a, 'n>(
     let mut found = Vec::with_capacity(alloc, fields.len())?;
     for (key, value) in fields.iter_mut() {
         let key = key.take(alloc)?;
-        let value = found_value(alloc, value)?;
-        found.push_reserved((key, value));
+        match value {
+            NamedValue::Number(number) => found.push_reserved((key, Found::Number(*number))),
+            value => found.push_reserved((key, found_value(alloc, value)?)),
+        }
     }
     Ok(found)
 }
