@@ -202,10 +202,12 @@ struct A {
 #[serde(rename = "é")]
 struct A(u8);
 
-// 3: A.r#type: the name `r#type` is not covered: give it a plain name, and its own by `#[serde(rename = "type")]`
+// 3: written as `type_`: the name `r#type`
+// 4: A.type_: two are written as `type_`: give one another name
 #[derive(Serialize)]
 struct A {
     r#type: u8,
+    type_: u8,
 }
 
 // 1: passed over: `struct A`, which derives neither Serialize nor Deserialize

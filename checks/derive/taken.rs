@@ -386,3 +386,15 @@ struct B { x: String }
 enum A { X { q: String }, #[default] Y }
 #[derive(PartialEq, Eq, Serialize, Deserialize)]
 enum B { Z { #[serde(default)] a: A, b: i8 } }
+
+// 3: written as `type_`: the name `r#type`
+// 5: written as `in_`: the name `r#in`
+// + struct A { type_: u8, plain: u8, }
+// + (name "TYPE")
+// + (name "PLAIN")
+// + in_(u8)
+#[derive(Serialize, Deserialize)]
+#[serde(rename_all = "UPPERCASE")]
+struct A { r#type: u8, r#plain: u8 }
+#[derive(Serialize, Deserialize)]
+enum B { r#in(u8) }

@@ -118,11 +118,13 @@ def check_parts(item: Item) -> Iterator[Refused]:
     groups = [[(v, f"{item.name}.{v.name}") for v in item.variants], [(f, f"{item.name}.{f.name}") for f in item.data.fields]]
     groups += [[(f, f"{item.name}.{v.name}.{f.name}") for f in v.data.fields] for v in item.variants]
     for group in groups:
-        seen = set()
+        seen = {}
         for one, where in group:
-            if one.name in seen:
+            other = seen.setdefault(one.name, one)
+            if other is not one and (one.raw or one.name) == (other.raw or other.name):
                 yield NotRust(one.line, f"two are called `{one.name}`", where)
-            seen.add(one.name)
+            elif other is not one:
+                yield Refused(one.line, f"two are written as `{one.name}`: give one another name", where)
 
 
 def check_work(items: List[Item]) -> Iterator[Refused]:

@@ -53,13 +53,14 @@ class Refusals(Exception):
 @dataclass
 class Named:
     """What has a name, with the lines that stand before it and Serde's attributes; `wire` is the
-    name that is sent."""
+    name that is sent. Where it has a raw name, `raw` is that."""
 
     name: str
     line: int
     head: List[str]
     serde: Dict[str, str]
     wire: str = ""
+    raw: str = ""
 
 
 @dataclass

@@ -65,7 +65,7 @@ def name_each(all_named: List[Named], by_case: Callable[[str], str]) -> None:
     """Names things of one place, which have to differ."""
     taken = set()
     for one in all_named:
-        one.wire = one.serde.get("rename", by_case(one.name))
+        one.wire = one.serde.get("rename", by_case(one.raw or one.name))
         where = "" if isinstance(one, Item) else one.name
         check_sent(one.wire, one.line, where)
         if one.wire in taken:

@@ -60,7 +60,7 @@ class TaggedWriter(EnumWriter):
             raise Refused(v.line, f"variant `{v.name}`: a field is called as the tag, `{self.tag}`")
         if not self.content:
             return beside
-        return [Field("x1", f.line, [], {}, self.content, f.type, missing=DEFAULTS["Option"] if f.type.name == "Option" else "")
+        return [Field("x1", f.line, [], {}, self.content, type=f.type, missing=DEFAULTS["Option"] if f.type.name == "Option" else "")
                 for f in v.data.fields]
 
     def names_list(self) -> List[str]:
