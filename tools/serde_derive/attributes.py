@@ -152,7 +152,7 @@ class Attributes(Cursor):
         if self.next.text == "(":
             raise Refused(line, f"serde's `{key}` by direction is not covered: one name goes both ways")
         valued = self.eat("=")
-        if valued != (key in ("tag", "content", "skip_serializing_if") or key.startswith("rename")):
+        if key != "default" and valued != (key in ("tag", "content", "skip_serializing_if") or key.startswith("rename")):
             why = NOT_COVERED["with"] if valued else "it lacks a value"
             raise Refused(line, f"serde's `{key}` so is not covered: {why}")
         if key in into:

@@ -2,9 +2,9 @@
 import re
 from dataclasses import dataclass, field, replace
 from itertools import combinations, islice
-from typing import Dict, List, Optional, Tuple
+from typing import Dict, List, NamedTuple, Optional, Tuple
 
-from .types import SIGNED, Type, in_term
+from .types import DEFAULTS, SIGNED, Type, in_term
 from .words import NO_PLACES
 
 
@@ -50,6 +50,16 @@ class Refusals(Exception):
         self.status = min(refused.status for refused in each)
 
 
+class Test(NamedTuple):
+    """A test of the user's own: whether {x} passes, as contracts see it, the code that says so of `value`, what contracts say
+    of an `x` that passes, and that one that is read in place of {x} equals it."""
+
+    term: str
+    code: str
+    fact: str
+    alike: str
+
+
 @dataclass
 class Named:
     """What has a name, with the lines that stand before it and Serde's attributes; `wire` is the
@@ -66,18 +76,27 @@ class Named:
 @dataclass
 class Field(Named):
     """A field; one by place has its place as its name. Where it may be missing, `missing` is what
-    contracts say of what is read then. It `skips` where it isn't sent if it is empty.
+    contracts say of what is read then, and `made` the code that makes a Result of it, where it isn't that of its type.
+    It `skips` where it isn't sent if it is empty, or passes a `test` of the user's.
     Where it is flattened, `inside` is what its type holds."""
 
     type: Type = Type("()")
     visible: str = ""
     missing: str = ""
+    made: str = ""
     skips: bool = False
+    test: Optional[Test] = None
     inside: Optional["Data"] = None
 
     def skipped(self, value: str) -> str:
         """Whether it is left out where it has this value."""
+        if self.test:
+            return self.test.term.format(x=value)
         return f"({self.type.member('Skip', 'is_empty')} {value})"
+
+    def lost(self) -> bool:
+        """Whether what is read in its place may not equal what was left out."""
+        return self.skips and self.missing != (self.test.fact if self.test else DEFAULTS[self.type.name])
 
     def absent(self) -> str:
         """What may be given where it is missing, after a blank."""
@@ -219,8 +238,8 @@ class Item(Named):
         return [f for v in self.variants if v.beside for f in v.beside.data.leaves()] + self.fields()
 
     def lost(self) -> List[Field]:
-        """The fields that aren't read where they are left out."""
-        return [f for f in self.sent_fields() if f.skips and not f.missing]
+        """The fields that are left out, and not read as what they were."""
+        return [f for f in self.sent_fields() if f.lost()]
 
     def comes_back(self) -> bool:
         """Whether RoundTrip is written: not where what it holds doesn't come back. A value of an untagged enum may be

@@ -4,6 +4,7 @@ from typing import Dict, List, Set, Tuple
 
 from .attributes import SERDE, Head, doc_line
 from .declarations import Item, NotRust, Refused
+from .functions import Functions
 from .parser import Parser
 from .tokens import KEYWORDS, ROOTS, text_of
 from .types import Type
@@ -17,7 +18,7 @@ NAMED = {"fn", "trait", "mod", "const", "static", "type", "struct", "enum", "uni
 @dataclass
 class File:
     """What a file holds: its documentation, the paths that it uses, its types, by what aliases stand
-    for, the types that are passed over with the reason, the traits that impls give to types, and notes."""
+    for, the types that are passed over with the reason, the traits that impls give to types, functions, and notes."""
 
     docs: List[str] = field(default_factory=list)
     uses: Dict[str, List[str]] = field(default_factory=dict)
@@ -25,6 +26,7 @@ class File:
     aliases: Dict[str, Type] = field(default_factory=dict)
     passed: Dict[str, str] = field(default_factory=dict)
     impls: Set[Tuple[str, str]] = field(default_factory=set)
+    functions: Functions = field(default_factory=Functions)
     notes: List[Tuple[int, str]] = field(default_factory=list)
     refused: List[Refused] = field(default_factory=list)
 
@@ -189,6 +191,7 @@ class Reader(Parser):
             self.expect(";")
         else:
             self.pass_item()
+        self.into.functions.collect(self.tokens, self.pairs, start, self.place)
         self.notes.append((self.tokens[start].line, f"passed over: `{self.shown_to(start, end)}`"))
 
     def note_impl(self, start: int) -> None:

@@ -126,10 +126,39 @@ class Holder:
         if not self.many or not self.fields:
             return []
         parts = [f"ReadPart<{self.count}, {place}" if not self.data.named else
-                 f"ReadField{'Or' * bool(f.missing)}<{self.list}, {self.index(f)}" for place, f in enumerate(self.fields)]
+                 f"{self.sort(f)}<{self.list}, {self.index(f)}{f', {self.default_of(place)}' * bool(f.made)}"
+                 for place, f in enumerate(self.fields)]
         rows = "".join(f"type {self.row_type(place)} = {part}, {f.type.rust()}, {self.after(place + 1)}>;\n"
                        for place, (part, f) in enumerate(zip(parts, self.fields)))
-        return [rows] + [self.run_read(start) for start in self.starts()]
+        defaults = [self.default_impl(place) for place, f in enumerate(self.fields) if f.made]
+        return defaults + [rows] + [self.run_read(start) for start in self.starts()]
+
+    @staticmethod
+    def sort(f: Field) -> str:
+        """What a field is read as."""
+        return "ReadFieldElse" if f.made else f"ReadField{'Or' * bool(f.missing)}"
+
+    def default_of(self, place: int) -> str:
+        """The type that stands for what is read where the field at a place is missing."""
+        return f"Default{place + 1}Of{self.owner}"
+
+    def default_impl(self, place: int) -> str:
+        """That type, which makes such a value."""
+        f, owner = self.fields[place], self.default_of(place)
+        make = function(f"fn make(alloc: Global) -> Result<{f.type.rust()}>", f.made)
+        return (f"/// What is read where the field `{f.wire}` is missing.\n#[derive(Drop)]\nstruct {owner};\n\n"
+                f"impl DefaultOf<{f.type.rust()}> for {owner} {{\n{ghost('is_default', f'λ x. {f.missing}')}\n\n{make}\n}}\n")
+
+    def test_of(self, f: Field) -> str:
+        """The type that stands for the test by which a field is left out."""
+        return f"Unless{self.fields.index(f) + 1}Of{self.owner}"
+
+    def test_impl(self, f: Field) -> str:
+        """That type, which tests a value."""
+        owner, t = self.test_of(f), f.type.rust()
+        return (f"/// When the field `{f.wire}` is left out.\n#[derive(Drop)]\nstruct {owner};\n\n"
+                f"impl SkipIf<{t}> for {owner} {{\n{ghost('is_skipped', f'λ x. {f.skipped(chr(120))}')}\n\n"
+                f"{function(f'fn is_skipped(value: &{t}) -> bool', f.test.code)}\n}}\n")
 
     def run_read(self, start: int) -> str:
         """The struct of the values from a place on, how many a row may have and the rest as one, and how it is read.
@@ -172,7 +201,7 @@ class Holder:
         follows them."""
         lines = [f"let row: {self.row_type(start)} = {trait}::read(alloc, {source})?;"]
         for at, value in enumerate(places, start):
-            sort = f"ReadField{'Or' * bool(self.fields[at].missing)}" if self.data.named else "ReadPart"
+            sort = self.sort(self.fields[at]) if self.data.named else "ReadPart"
             rest = "_" if at + 1 == self.count else "row"
             lines.append(f"let {sort}({value}, {rest}{', _' * self.data.named}) = row;")
         return lines
@@ -220,7 +249,8 @@ class Holder:
         """Of a field that isn't sent where it is empty: whether it is, that what is read in its place equals it, and
         that those after it have other names."""
         f, others = self.fields[place], [one.wire for one in self.fields[place + 1:]]
-        return {"skipped": f.skipped(value), "alike": f"(λ e y a. {ALIKE[f.type.name].format(x=value)})",
+        alike = f.test.alike if f.test else ALIKE[f.type.name]
+        return {"skipped": f.skipped(value), "alike": f"(λ e y a. {alike.format(x=value)})",
                 "others": list_term(others), "apart": f"(unfold name in {'(refl, ' * len(others)}tt{')' * len(others)})"}
 
     def end(self, member: str) -> str:
@@ -247,7 +277,8 @@ class Holder:
         """The call that opens it, of these values."""
         head, _, count = self.call[:-1].rpartition(", ")
         for f, value in zip(self.fields, values):
-            count = f"count_unless({value}, {count})" if f.skips else count
+            if f.skips:
+                count = f"count_if(&{self.test_of(f)}, {value}, {count})" if f.test else f"count_unless({value}, {count})"
         return f"{head}, {count})" if self.skips else self.call
 
     def by_name(self, word: str, row: str) -> str:
@@ -287,7 +318,8 @@ class Holder:
 
     def sent_types(self) -> List[str]:
         """The declarations of such structs, and how they are sent."""
-        return [self.run_sent(start) for start in range(LONGEST_SENT, self.count, LONGEST_SENT)] if self.many else []
+        tests = [self.test_impl(f) for f in self.fields if f.test]
+        return tests + [self.run_sent(start) for start in range(LONGEST_SENT, self.count, LONGEST_SENT)] if self.many else []
 
     def run_sent(self, start: int) -> str:
         """The struct of references to the values from a place on, and how it is sent."""
@@ -308,6 +340,8 @@ class Holder:
     def sent(self, f: Field, value: str) -> str:
         """A value as a row has it, before those after it."""
         unless = "Unless" * f.skips
+        if f.test:
+            return f"SendFieldIf({self.list}, {self.test_of(f)}, {self.index(f)}, {value}, row)"
         return f"SendField{unless}({self.list}, {self.index(f)}, {value}, row)" if self.data.named else f"SendPart({value}, row)"
 
     def refusal_row(self) -> str:

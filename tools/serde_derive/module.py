@@ -8,6 +8,7 @@ from .declarations import Item, Refusals, Refused
 from .derives import check_derives, check_missing, settle_defaults
 from .enums import EnumWriter
 from .files import File, Reader
+from .functions import CASES
 from .homes import Homes
 from .literals import with_names
 from .names import name_item
@@ -92,7 +93,9 @@ def settled(file: File, homes: Homes) -> Dict[str, Writer]:
         homes.items[why.where.split(".")[0]].covered = False
     homes.resolve()
     for item in file.items:
-        tried(item, refused, name_item)
+        file.functions.units[item.name] = [v.name for v in item.variants if v.data.style == "Unit"]
+    for item in file.items:
+        tried(item, refused, lambda item: name_item(item, file.functions))
     homes.settle()
     settle_defaults(list(homes.ordered()), homes.items, file)
     for item in file.items:
@@ -164,7 +167,10 @@ def module(source: str, name: str, crate: str, place: str, cbor: bool = False,
                    " where it is missing: give it `default` too") for item in file.items if item.derives_all()
                   for f in item.lost()[:1]]
     texts = [text for item in file.items for text in texts_of(item, writers[item.name], cbor)]
-    body = with_names("\n".join(texts), [item.name for item in file.items])
+    text = "\n".join(texts)
+    for item in file.items:
+        text = text.replace(CASES.format(item.name), item.cases)
+    body = with_names(text, [item.name for item in file.items])
     docs = file.docs or ["//! Types that are sent and read."]
     docs += ["//!", f"//! Written by `tools/derive` from `{doc_line(name)}`: change that file, and write this one anew."]
     return "\n".join([*docs, "", *uses(file, homes, [body]), "", body])

@@ -4,16 +4,16 @@ from typing import Callable, List, Optional
 
 from .cases import CASES, same
 from .declarations import Data, Field, Item, Named, Refused
+from .functions import EMPTY, Functions, Value
 from .tokens import LONGEST
 from .types import DEFAULTS, SKIPS
 
 
-def name_item(item: Item) -> None:
+def name_item(item: Item, functions: Functions) -> None:
     """Gives an item, its variants and its fields the names that are sent."""
     case = item.serde.get("rename_all")
     if "default" in item.serde:
-        for f in item.data.fields:
-            f.serde.setdefault("default", "")
+        default_fields(item, functions)
     for data in item.parts():
         data.closed = "deny_unknown_fields" in item.serde
     for key in ("tag", "content"):
@@ -23,32 +23,54 @@ def name_item(item: Item) -> None:
     name_each(item.variants, CASES[case][1] if case else same)
     for v in item.variants:
         try:
-            name_fields(v.data, v.serde.get("rename_all", item.serde.get("rename_all_fields")))
+            name_fields(v.data, v.serde.get("rename_all", item.serde.get("rename_all_fields")), functions)
         except Refused as refused:
             raise refused.inside(v.name)
-    name_fields(item.data, case)
+    name_fields(item.data, case, functions)
 
 
-def name_fields(data: Data, case: Optional[str]) -> None:
+def default_fields(item: Item, functions: Functions) -> None:
+    """Gives the fields of a struct the defaults that it has: those of their types where it derives Default."""
+    path = item.serde["default"] or f"{item.name}::default"
+    given = {} if item.defaults and not item.serde["default"] else functions.fields_given(path)
+    for f in item.data.fields:
+        if "default" not in f.serde:
+            f.serde["default"] = ""
+            if not item.defaults or item.serde["default"]:
+                default_by(f, functions.value(given[f.name][0], f.type, given[f.name][1]) if f.name in given else None, path)
+
+
+def default_by(f: Field, value: Optional[Value], path: str) -> None:
+    """Gives a field the value that a function gives for it."""
+    if not value:
+        raise Refused(f.line, f"its default is not covered, as `{path}` is no function of this file that gives one value, such as"
+                      " `8080`, `\"text\".to_owned()`, `Vec::new()` or a variant of an enum of this file", f.name)
+    f.missing, f.made = value.fact, value.code * (value != EMPTY.get(f.type.name))
+
+
+def name_fields(data: Data, case: Optional[str], functions: Functions) -> None:
     """Names the fields, and gives those that may be missing what stands for them."""
     for f in data.fields:
         if "default" in f.serde and not data.named:
             raise Refused(f.line, "its default is not covered: it is in fields with names", f.name)
-        if "default" in f.serde or (data.named and f.type.name == "Option"):
+        if f.serde.get("default"):
+            default_by(f, functions.given(f.serde["default"], f.type), f.serde["default"])
+        elif not f.missing and ("default" in f.serde or (data.named and f.type.name == "Option")):
             f.missing = DEFAULTS.get(f.type.name, f"⟦<{f.type.rust()} as Absent>⟧.is_absent x")
         if "skip_serializing_if" in f.serde:
-            check_skipped(f, data)
+            check_skipped(f, data, functions)
             f.skips = True
     name_each(data.fields if data.named else [], CASES[case][0] if case else same)
 
 
-def check_skipped(f: Field, data: Data) -> None:
-    """Refuses a test of what is left out that isn't the one of the field's type."""
+def check_skipped(f: Field, data: Data, functions: Functions) -> None:
+    """Finds the test of what is left out, and refuses one that isn't that of the field's type, and is no function of the file."""
     test = re.sub(r"^(?:::)?(?:std|core|alloc)::(?:\w+::)+(?=[A-Z])", "", f.serde["skip_serializing_if"].replace(" ", ""))
     known = SKIPS.get(f.type.name)
     if not data.named:
         raise Refused(f.line, "serde's `skip_serializing_if` is covered in fields with names: give them names", f.name)
-    if not known or (test != known and (test, f.type.name) != ("str::is_empty", "String")):
+    f.test = functions.tested(f.serde["skip_serializing_if"], f.type)
+    if not f.test and (not known or (test != known and (test, f.type.name) != ("str::is_empty", "String"))):
         raise Refused(f.line, f"serde's `skip_serializing_if` so is not covered: {', '.join(SKIPS.values())} are, each on a"
                       " field of its type", f.name)
 

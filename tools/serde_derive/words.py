@@ -18,7 +18,9 @@ def word_table(text: str) -> Dict[str, str]:
 STYLES = [f"{style}_{sort}" for style in ("unit", "newtype", "tuple", "struct") for sort in ("struct", "variant")]
 STYLES[STYLES.index("struct_struct")] = "struct"
 WORDS = word_table(f"""
-std.specs.Prelude ◌≡◌ ◌∷◌ [] ℕ ℤ Bool Option None Some IsSome true false pos codes string_bytes refl ⊤
+std.specs.Prelude ◌≡◌ ◌∷◌ [] ℕ ℤ Bool Option None Some IsSome true false pos negsuc not nat_eq codes string_bytes refl ⊤
+std.specs.Ordering int_eq
+std.specs.Str bytes_eq
 std.specs.Cmp nat_cmp_total int_cmp_total unsigned_ties
 std.specs.Cmp.Lexicographic texts_ties
 std.specs.String string_cmp_total
@@ -60,6 +62,7 @@ serde_content.specs.Laws.ByName by_name_back named_back named_or_back skipped_ba
 serde_content.specs.Laws.ByName by_name_keeps named_keeps named_or_keeps skipped_keeps closed_keeps
 serde_content.specs.Laws.Skips field_unless_fits keyed_back keyed_or_back keyed_unless_back keyed_skipped_back
 serde_content.specs.Laws.Skips keyed_closed_back keyed_named none_alike no_items_alike
+serde_content.specs.Laws.OwnFunctions false_alike true_alike equal_alike text_alike
 serde_content.specs.Laws.Flattened flattened_script flattened_first flattened_fits flattened_end_fits
 serde_content.specs.Laws.Flattened flattened_lawful flattened_refusal FlattenedGives flattened_end_back
 serde_content.specs.Laws.Flattened flattened_named_back flattened_named_or_back flattened_back flattened_keeps
@@ -100,9 +103,9 @@ USES = {
     "serde_content": "CowStr Deserializer Error Result RoundTrip",
     "serde_content::de": "Deserialize FieldsByName VariantAccess attempt",
     "serde_content::derive_support":
-        f"Absent Names {' '.join(sorted(one for _, one in CHOICES))} OthersRefused OthersSkipped PartsEnd ReadField ReadFieldOr ReadFields"
-        f" ReadPart ReadParts ReadStruct SendElement SendEnd SendEntry SendField SendFieldUnless SendOpen SendPart SendTag Skip TaggedVariants Variants"
-        f" {' '.join(sorted(first for first, _ in CHOICES))} count_unless no_such_variant read_adjacent read_enum read_flattened read_struct read_tagged send_row"
+        f"Absent DefaultOf Names {' '.join(sorted(one for _, one in CHOICES))} OthersRefused OthersSkipped PartsEnd ReadField ReadFieldElse ReadFieldOr ReadFields"
+        f" ReadPart ReadParts ReadStruct SendElement SendEnd SendEntry SendField SendFieldIf SendFieldUnless SendOpen SendPart SendTag Skip SkipIf TaggedVariants Variants"
+        f" {' '.join(sorted(first for first, _ in CHOICES))} count_if count_unless default_text no_such_variant read_adjacent read_enum read_flattened read_struct read_tagged send_row"
         " variant_index",
     "serde_content::ser": "Call Parts Serialize Serializer",
     "std::alloc": "Global",
@@ -111,7 +114,7 @@ USES = {
 NO_PLACES = RESERVED | {"alloc", "fields", "serializer", "result", "row"} | {
     name for names in USES.values() for name in names.split() if name.islower()}
 IN_TEXT = {"[]": r"\[\]", "form": r"\(form t\)", "custom": r"\(custom ", "Some": r"\(Some \(", "None": "≡ None",
-           "true": r"(?:fits|λ b\.) true", "false": "≡ false", "name": 'name "', "variants": r"variants \( \(name"}
+           "true": r"(?:fits|λ b\.) true", "false": "≡ false", "name": 'name "', "not": r"\(not ", "variants": r"variants \( \(name"}
 METHODS = {"Parts": r"\.(?:with|around)\("}
 # what no own type is called; `S` is the type of a serialiser, and contracts name the two traits
 TAKEN = {name for names in USES.values() for name in names.split()} | set(HOLDERS) | {

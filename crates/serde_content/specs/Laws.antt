@@ -10,4 +10,5 @@ pub mod Tagged
 pub mod Flattened
 pub mod Untagged
 pub mod Lookups
+pub mod OwnFunctions
 pub mod Skips

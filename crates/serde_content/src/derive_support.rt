@@ -13,5 +13,8 @@ pub use crate::name_lists::{Names, no_such_variant, variant_index};
 pub use crate::one_of::{
     OneOfFour, OneOfThree, OneOfTwo, first_of_four, first_of_three, first_of_two,
 };
+pub use crate::own_functions::{
+    DefaultOf, ReadFieldElse, SendFieldIf, SkipIf, count_if, default_text,
+};
 pub use crate::skips::{Skip, count_unless};
 pub use crate::variants::{TaggedVariants, Variants, read_adjacent, read_enum, read_tagged};

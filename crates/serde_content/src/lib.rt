@@ -43,6 +43,7 @@ pub mod laws;
 mod literals;
 mod name_lists;
 mod one_of;
+mod own_functions;
 mod round;
 pub mod samples;
 pub mod ser;
