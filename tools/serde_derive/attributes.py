@@ -10,17 +10,15 @@ from .tokens import Cursor, text_of
 COVERED = {
     "a container": {"rename", "rename_all", "rename_all_fields", "deny_unknown_fields", "untagged",
                     "tag", "content", "transparent", "default"},
-    "a variant": {"rename", "rename_all"},
-    "a field": {"rename", "default", "flatten", "skip_serializing_if"},
+    "a variant": {"rename", "rename_all", "alias", "other", "skip", "skip_serializing", "skip_deserializing"},
+    "a field": {"rename", "default", "flatten", "skip_serializing_if", "skip", "skip_serializing", "skip_deserializing"},
 }
 NOT_COVERED = {
     "f32": "floats are not covered", "f64": "floats are not covered",
     "HashMap": "a HashMap is not covered: a BTreeMap is",
-    "skip": "what is left out would not come back",
-    "skip_serializing": "what is left out would not come back",
-    "skip_deserializing": "what is left unread would not come back",
     "with": "a function of your own has no contract here",
 }
+VALUED = {"tag", "content", "skip_serializing_if", "alias"}
 DERIVES = set("Clone Copy Debug Default Drop Eq Hash Ord PartialEq PartialOrd Serialize Deserialize".split())
 SERDE = {"Serialize", "Deserialize"}
 CRATES = {"std", "core", "alloc", "serde", "serde_derive"}
@@ -152,11 +150,12 @@ class Attributes(Cursor):
         if self.next.text == "(":
             raise Refused(line, f"serde's `{key}` by direction is not covered: one name goes both ways")
         valued = self.eat("=")
-        if key != "default" and valued != (key in ("tag", "content", "skip_serializing_if") or key.startswith("rename")):
+        if key != "default" and valued != (key in VALUED or key.startswith("rename")):
             why = NOT_COVERED["with"] if valued else "it lacks a value"
             raise Refused(line, f"serde's `{key}` so is not covered: {why}")
-        if key in into:
+        if key in into and key != "alias":
             raise Refused(line, f"serde's `{key}` stands twice")
-        into[key] = text_of(self.take()) if valued else ""
+        before = [into[key]] if key in into else []
+        into[key] = "\n".join([*before, text_of(self.take()) if valued else ""])
         if key.startswith("rename_all") and into[key] not in CASES:
             raise Refused(line, f"serde's `{key}` knows no case `{into[key]}`: it has {', '.join(CASES)}")

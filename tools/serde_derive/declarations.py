@@ -72,6 +72,18 @@ class Named:
     wire: str = ""
     raw: str = ""
 
+    @property
+    def sent(self) -> bool:
+        return not {"skip", "skip_serializing"} & set(self.serde)
+
+    @property
+    def read(self) -> bool:
+        return not {"skip", "skip_deserializing"} & set(self.serde)
+
+    def aliases(self) -> List[str]:
+        """The other names by which it is read."""
+        return self.serde["alias"].split("\n") if "alias" in self.serde else []
+
 
 @dataclass
 class Field(Named):
@@ -239,13 +251,17 @@ class Item(Named):
 
     def lost(self) -> List[Field]:
         """The fields that are left out, and not read as what they were."""
-        return [f for f in self.sent_fields() if f.lost()]
+        return [f for f in self.sent_fields() if f.lost() or not (f.sent and f.read)]
+
+    def one_way(self) -> List[Variant]:
+        """The variants that aren't both sent and read."""
+        return [v for v in self.variants if not (v.sent and v.read)]
 
     def comes_back(self) -> bool:
         """Whether RoundTrip is written: not where what it holds doesn't come back. A value of an untagged enum may be
         read as another variant's, where two take trees of one class, and not each of a length of its own."""
         held = [v.held() for v in self.variants] if "untagged" in self.serde else []
-        kept = not self.lost() and not any(own.astray for own in self.owns())
+        kept = not self.lost() and not self.one_way() and not any(own.astray for own in self.owns())
         return self.derives_all() and kept and all(one.takes() for one in held) and all(
             one.is_apart(other) for one, other in combinations(held, 2))
 
@@ -254,7 +270,8 @@ class Item(Named):
         it does what they hold."""
         held = [f for v in self.variants if v.beside for f in v.beside.data.leaves()]
         held += [f for v in self.variants if not v.beside for f in v.data.leaves()] + self.data.leaves()
-        return self.comes_back() and bool(self.variants or held) and all(
+        return self.comes_back() and not any(v.aliases() or "other" in v.serde for v in self.variants) and bool(
+            self.variants or held) and all(
             f.type.comes_back_from_cbor() and not f.skips for f in held)
 
     def may_be_null(self) -> bool:

@@ -80,15 +80,19 @@ class Holder:
         self.camel = "Struct" if data.named and sort == "Struct" else data.style + sort
         self.word = snake(self.camel)
         self.names = " ".join(str(n) if isinstance(n, int) else name_term(n) for n in names)
-        written = [str(n) if isinstance(n, int) else name_call(n) for n in names + [self.count] * self.many]
+        written = [str(n) if isinstance(n, int) else name_call(n) for n in names + [self.sent_count()] * self.many]
         self.call = f"Call::{self.camel}({', '.join(written)})"
         self.of_variant, self.wire = sort == "Variant", names[0] if names else ""
         self.reader, self.owner = f"read_{owner}", pascal(owner)
         self.list = f"FieldsOf{self.owner}"
-        self.names_known = [f.wire for f in data.fields]
+        self.names_known = [f.wire for f in data.fields if f.read]
+        self.names_sent = self.names_known
+        if any(f.sent and not f.read for f in data.fields):
+            self.names_sent = [f.wire for f in data.fields if f.sent]
+        self.sent_list = self.list if self.names_sent is self.names_known else f"SentOf{self.owner}"
         self.before: List[str] = []
         self.big = self.many and self.count > self.room()
-        self.skips = any(f.skips for f in data.fields)
+        self.skips = any(f.skips for f in data.fields if f.sent)
         self.head = "" if self.of_variant else " " + self.names
         self.name = "" if self.of_variant else written[0]
 
@@ -96,10 +100,16 @@ class Holder:
         """How many values are read with no struct of them all."""
         return LONGEST_HELD if self.of_variant else LONGEST_ROW
 
+    def sent_count(self) -> int:
+        """How many values are sent, where none is left out."""
+        return sum(f.sent for f in self.fields)
+
     def names_list(self) -> List[str]:
-        """The type that stands for the names of its fields."""
+        """The types that stand for the names of its fields: one more where fields are sent that aren't read."""
         known = self.data.named and self.names_known
-        return [list_impl(self.list, "The names of its fields.", self.names_known)] if known else []
+        lists = [list_impl(self.list, "The names of its fields.", self.names_known)] if known else []
+        return lists + [list_impl(self.sent_list, "The names of the fields that are sent.", self.names_sent)] * (
+            self.sent_list != self.list)
 
     def row_type(self, place: int) -> str:
         """What the value at a place and those after it are read as; after the last, the end."""
@@ -126,9 +136,9 @@ class Holder:
         if not self.many or not self.fields:
             return []
         parts = [f"ReadPart<{self.count}, {place}" if not self.data.named else
-                 f"{self.sort(f)}<{self.list}, {self.index(f)}{f', {self.default_of(place)}' * bool(f.made)}"
-                 for place, f in enumerate(self.fields)]
-        rows = "".join(f"type {self.row_type(place)} = {part}, {f.type.rust()}, {self.after(place + 1)}>;\n"
+                 ", ".join([self.sort(f) + "<" + (f"{self.list}, {self.index(f)}" if f.read else "")]
+                           + [self.default_of(place)] * bool(f.made)).replace("<, ", "<") for place, f in enumerate(self.fields)]
+        rows = "".join(f"type {self.row_type(place)} = {part}{', ' * (part[-1] != '<')}{f.type.rust()}, {self.after(place + 1)}>;\n"
                        for place, (part, f) in enumerate(zip(parts, self.fields)))
         defaults = [self.default_impl(place) for place, f in enumerate(self.fields) if f.made]
         return defaults + [rows] + [self.run_read(start) for start in self.starts()]
@@ -136,6 +146,8 @@ class Holder:
     @staticmethod
     def sort(f: Field) -> str:
         """What a field is read as."""
+        if not f.read:
+            return "ReadMade" if f.made else "ReadAbsent"
         return "ReadFieldElse" if f.made else f"ReadField{'Or' * bool(f.missing)}"
 
     def default_of(self, place: int) -> str:
@@ -196,6 +208,10 @@ class Holder:
         """The index of a field's name among all."""
         return self.names_known.index(f.wire)
 
+    def announced(self, f: Field) -> str:
+        """The names of which a field's is one as it is sent, and its index."""
+        return f"{self.sent_list}, {self.names_sent.index(f.wire)}"
+
     def taken(self, trait: str, source: str, places: List[str], start: int = 0) -> List[str]:
         """The statements that read the values from a place on as a row, and take it apart into these, and what
         follows them."""
@@ -203,7 +219,8 @@ class Holder:
         for at, value in enumerate(places, start):
             sort = self.sort(self.fields[at]) if self.data.named else "ReadPart"
             rest = "_" if at + 1 == self.count else "row"
-            lines.append(f"let {sort}({value}, {rest}{', _' * self.data.named}) = row;")
+            marked = self.data.named and sort != "ReadAbsent"
+            lines.append(f"let {sort}({value}, {rest}{', _' * marked}) = row;")
         return lines
 
     def all_taken(self, trait: str, source: str) -> List[str]:
@@ -238,12 +255,20 @@ class Holder:
 
     def parts(self, member: str, inners: List[str], sees: Optional[List[str]] = None,
               values: Optional[List[str]] = None) -> List[str]:
-        """What stands for each of its values in a member of the impls."""
-        return [(UNLESS.get(member) if f.skips and member in UNLESS else self.words(member)[0]).format(
+        """What stands for each of its values in a member of the impls; for one that isn't sent or read perhaps nothing."""
+        return [self.word_of(f, member).format(
             inner=inner, see=see, place=place, count=self.count, name=name_term(f.wire),
             or_="_or" * bool(f.missing), Or="Or" * bool(f.missing), missing=f.absent(),
             **self.unless(place, value) if f.skips else {})
             for place, (f, inner, see, value) in enumerate(zip(self.fields, inners, sees or inners, values or inners))]
+
+    def word_of(self, f: Field, member: str) -> str:
+        """What stands for such a value, with places."""
+        if not (f.sent if member in ("script", "lawful") else f.read or member == "gives"):
+            return ""
+        if not f.read and member == "gives":
+            return "UnreadThen{missing} {inner}"
+        return UNLESS[member] if f.skips and member in UNLESS else self.words(member)[0]
 
     def unless(self, place: int, value: str) -> Dict[str, str]:
         """Of a field that isn't sent where it is empty: whether it is, that what is read in its place equals it, and
@@ -264,11 +289,11 @@ class Holder:
         """All its values from a place on in a member of the impls, or the one, after a blank or a line's end."""
         if not self.many:
             return "".join(f" {inner}" for inner in inners)
-        return nest(self.parts(member, inners, sees, values)[start:], self.end(member))
+        return nest(list(filter(None, self.parts(member, inners, sees, values)[start:])), self.end(member))
 
     def length(self, values: List[str], more: int = 0) -> str:
         """How many fields are sent, as contracts see it."""
-        term = str(self.count + more)
+        term = str(self.sent_count() + more)
         for f, value in zip(self.fields, values):
             term = f"(fields_less {f.skipped(value)} {term})" if f.skips else term
         return term
@@ -305,7 +330,7 @@ class Holder:
 
     def sent_row(self, values: List[str], start: int) -> List[str]:
         """The values from a place on as a row has them, as many as it has room for."""
-        return [self.sent(f, value) for f, value in list(zip(self.fields, values))[start:start + LONGEST_SENT]]
+        return [self.sent(f, value) for f, value in list(zip(self.fields, values))[start:start + LONGEST_SENT] if f.sent]
 
     def sent_last(self, values: List[str], start: int) -> str:
         """What follows them: a struct of references to the others, or the end."""
@@ -341,8 +366,9 @@ class Holder:
         """A value as a row has it, before those after it."""
         unless = "Unless" * f.skips
         if f.test:
-            return f"SendFieldIf({self.list}, {self.test_of(f)}, {self.index(f)}, {value}, row)"
-        return f"SendField{unless}({self.list}, {self.index(f)}, {value}, row)" if self.data.named else f"SendPart({value}, row)"
+            names, index = self.announced(f).split(", ")
+            return f"SendFieldIf({names}, {self.test_of(f)}, {index}, {value}, row)"
+        return f"SendField{unless}({self.announced(f)}, {value}, row)" if self.data.named else f"SendPart({value}, row)"
 
     def refusal_row(self) -> str:
         if self.big:
@@ -355,7 +381,7 @@ class Holder:
 
     def given(self, values: List[str]) -> List[str]:
         """What each of them may give."""
-        return [f"({f.type.member(READ, 'gives')}) {v}" for f, v in zip(self.fields, values)]
+        return [f"({f.type.member(READ, 'gives')}) {v}" if f.read else v for f, v in zip(self.fields, values)]
 
     def gives_row(self, values: List[str]) -> str:
         if self.big:

@@ -162,7 +162,7 @@ class Homes:
                     f.inside, item.levels = part.data, max(item.levels, part.levels + 1)
                     item.covered &= part.covered
             for v in item.variants:
-                if v.data.style == "Newtype" and "tag" in item.serde and "content" not in item.serde:
+                if v.data.style == "Newtype" and "tag" in item.serde and "content" not in item.serde and (v.sent or v.read):
                     v.beside = self.inlined(v.data.fields[0], f"variant `{v.name}`: what stands beside a tag")
                     item.covered &= v.beside.covered
             self.check_leaves(item)
@@ -217,10 +217,6 @@ class Homes:
         if not part.covered:
             return Type(name, home=self.here, declared=name)
         astray = part.derives_all() and not part.comes_back()
-        if astray and holder.derives_all() and "untagged" not in holder.serde:
-            raise ValueError(
-                f"`{name}` does not come back, as `{part.lost()[0].name}` may be left out: give that `default` too"
-                if part.lost() else f"`{name}` is untagged and does not come back, so what holds it derives no Eq")
         if lacking:
             raise ValueError(f"`{name}` does not derive {', '.join(sorted(lacking))}, as what holds it does: derive that too")
         law = ("records", "map_takes" if part.flattens() else "struct_takes")

@@ -149,6 +149,23 @@ def texts_of(item: Item, writer: Writer, cbor: bool) -> List[str]:
         raise Refusals([Refused(item.line, "what it holds has too many or too long names: divide it", item.name)]) from None
 
 
+def lost(item: Item) -> str:
+    """Why values of a type that derives all that RoundTrip stands on don't come back, where it tells."""
+    if not item.derives_all():
+        return ""
+    for f in item.lost():
+        if not (f.sent and f.read):
+            return f"`{f.name}` is not {'read' if f.sent else 'sent'}"
+        return (f"`{f.name}` may be left out, and " + ("what is read in its place may be another value" if f.missing else
+                "is not read where it is missing: give it `default` too"))
+    for v in item.one_way():
+        return f"variant `{v.name}` is not {'read' if v.sent else 'sent'}"
+    for own in item.owns():
+        if own.astray:
+            return f"`{own.name}` does not come back"
+    return ""
+
+
 def module(source: str, name: str, crate: str, place: str, cbor: bool = False,
            notes: Optional[List[Tuple[int, str]]] = None) -> str:
     """The module for a file of declarations, not yet laid out; into the notes goes what was left out.
@@ -163,9 +180,8 @@ def module(source: str, name: str, crate: str, place: str, cbor: bool = False,
     homes = Homes(crate, place, file)
     writers = settled(file, homes)
     if notes is not None:
-        notes += sorted(file.notes) + [(item.line, f"no RoundTrip is written for `{item.name}`: `{f.name}` may be left out, and is not read"
-                   " where it is missing: give it `default` too") for item in file.items if item.derives_all()
-                  for f in item.lost()[:1]]
+        notes += sorted(file.notes) + [(item.line, f"no RoundTrip is written for `{item.name}`: {why}")
+                                       for item in file.items if (why := lost(item))]
     texts = [text for item in file.items for text in texts_of(item, writers[item.name], cbor)]
     text = "\n".join(texts)
     for item in file.items:

@@ -21,12 +21,30 @@ def name_item(item: Item, functions: Functions) -> None:
             check_sent(item.serde[key], item.line, "")
     name_each([item], same)
     name_each(item.variants, CASES[case][1] if case else same)
+    check_tags(item)
     for v in item.variants:
         try:
             name_fields(v.data, v.serde.get("rename_all", item.serde.get("rename_all_fields")), functions)
         except Refused as refused:
             raise refused.inside(v.name)
     name_fields(item.data, case, functions)
+
+
+def check_tags(item: Item) -> None:
+    """Refuses aliases that are names too, and a variant for other tags that holds something, or isn't alone."""
+    taken = {v.wire for v in item.variants}
+    for v in item.variants:
+        for alias in v.aliases():
+            check_sent(alias, v.line, v.name)
+            if alias in taken:
+                raise Refused(v.line, f"two are called `{alias}`: give one another name", v.name)
+            taken.add(alias)
+    others = [v for v in item.variants if "other" in v.serde]
+    for v in others:
+        if v.data.fields or len(others) > 1 or not v.read:
+            raise Refused(v.line, "serde's `other` is for one variant that holds nothing, and is read", v.name)
+    if item.variants and not any(v.read for v in item.variants):
+        raise Refused(item.line, "an enum of which no variant is read is not covered")
 
 
 def default_fields(item: Item, functions: Functions) -> None:
@@ -51,15 +69,21 @@ def default_by(f: Field, value: Optional[Value], path: str) -> None:
 def name_fields(data: Data, case: Optional[str], functions: Functions) -> None:
     """Names the fields, and gives those that may be missing what stands for them."""
     for f in data.fields:
+        if not (f.sent and f.read) and not data.named:
+            raise Refused(f.line, "serde's `skip` is covered in fields with names: give them names", f.name)
         if "default" in f.serde and not data.named:
             raise Refused(f.line, "its default is not covered: it is in fields with names", f.name)
+        if not f.read:
+            f.serde.setdefault("default", "")
         if f.serde.get("default"):
             default_by(f, functions.given(f.serde["default"], f.type), f.serde["default"])
         elif not f.missing and ("default" in f.serde or (data.named and f.type.name == "Option")):
             f.missing = DEFAULTS.get(f.type.name, f"⟦<{f.type.rust()} as Absent>⟧.is_absent x")
         if "skip_serializing_if" in f.serde:
             check_skipped(f, data, functions)
-            f.skips = True
+            f.skips = f.sent
+    if data.fields and not any(f.read for f in data.fields):
+        raise Refused(data.fields[0].line, "what has no fields that are read is not covered: write it without fields")
     name_each(data.fields if data.named else [], CASES[case][0] if case else same)
 
 

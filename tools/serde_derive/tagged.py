@@ -20,10 +20,12 @@ class TaggedHolder(Holder):
     def __init__(self, item: Item, tag: str, v: Variant, fields: List[Field]):
         data, name = Data("Struct", fields, v.data.closed), (v.beside or item).wire
         super().__init__("Struct", [name], data, v.owner)
-        self.names_known = [tag] + self.names_known
+        if self.sent_list != self.list:
+            raise Refused(v.line, f"variant `{v.name}`: serde's `skip_deserializing` is not covered beside a tag")
+        self.names_known = self.names_sent = [tag] + self.names_known
         self.tag, self.variant = tag, v.wire
-        self.call = f"Call::Struct({name_call(name)}, {self.count + 1})"
-        self.before = [f"SendTag({self.list}, NamesOf{pascal(item.owner)}, {item.variants.index(v)}, row)"]
+        self.call = f"Call::Struct({name_call(name)}, {self.sent_count() + 1})"
+        self.before = [f"SendTag({self.list}, NamesOf{pascal(item.owner)}, {[one for one in item.variants if one.read].index(v) if v.read else 0}, row)"]
 
     def room(self) -> int:
         return LONGEST_HELD
@@ -36,7 +38,7 @@ class TaggedHolder(Holder):
 
     def lawful(self, values: List[str]) -> str:
         laws = [f"({f.type.lawful(v)})" for f, v in zip(self.fields, values)]
-        return "struct_lawful" + nest(["field_fits (leaf_lawful refl)", *self.parts("lawful", laws, values=values)],
+        return "struct_lawful" + nest(["field_fits (leaf_lawful refl)", *filter(None, self.parts("lawful", laws, values=values))],
                                       "struct_end_fits")
 
 
@@ -46,7 +48,11 @@ class TaggedWriter(EnumWriter):
     def __init__(self, item: Item):
         super().__init__(item)
         self.tag, self.content = item.serde["tag"], item.serde.get("content")
-        self.variants = [(v, TaggedHolder(item, self.tag, v, self.fields_of(v))) for v in item.variants]
+        self.variants = [(v, TaggedHolder(item, self.tag, v, self.fields_of(v) if v.sent or v.read else [])) for v in item.variants]
+        for v in item.variants:
+            if v.aliases() or "other" in v.serde or (v.sent and not v.read):
+                raise Refused(v.line, f"variant `{v.name}`: `alias`, `other` and `skip_deserializing` are covered in enums that are"
+                              " tagged externally")
 
     def fields_of(self, v: Variant) -> List[Field]:
         """The fields beside the tag: the variant's own, or the one that holds its value."""
@@ -64,7 +70,7 @@ class TaggedWriter(EnumWriter):
                 for f in v.data.fields]
 
     def names_list(self) -> List[str]:
-        return [list_impl(self.list, "The names of its variants.", [v.wire for v in self.item.variants])]
+        return [list_impl(self.list, "The names of its variants.", [v.wire for v, _ in self.readable()])]
 
     def alone(self, v: Variant) -> bool:
         return False

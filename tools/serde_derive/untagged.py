@@ -16,6 +16,8 @@ class UntaggedWriter(EnumWriter):
     def __init__(self, item: Item):
         super().__init__(item)
         for v in item.variants:
+            if v.aliases() or "other" in v.serde or not (v.sent and v.read):
+                raise Refused(v.line, f"variant `{v.name}`: of an untagged enum no variant is skipped, or has another name")
             if v.data.named or not v.data.fields or len(v.data.fields) > 4:
                 raise Refused(v.line, f"variant `{v.name}`: of an untagged enum, only one to four values"
                               " by place are covered")

@@ -12,3 +12,4 @@ pub mod Untagged
 pub mod Lookups
 pub mod OwnFunctions
 pub mod Skips
+pub mod Tags

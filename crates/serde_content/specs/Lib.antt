@@ -5,3 +5,4 @@ pub mod Choices
 pub mod Literals
 pub mod Variants
 pub mod Skips
+pub mod Tags

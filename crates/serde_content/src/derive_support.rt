@@ -14,7 +14,8 @@ pub use crate::one_of::{
     OneOfFour, OneOfThree, OneOfTwo, first_of_four, first_of_three, first_of_two,
 };
 pub use crate::own_functions::{
-    DefaultOf, ReadFieldElse, SendFieldIf, SkipIf, count_if, default_text,
+    DefaultOf, ReadAbsent, ReadFieldElse, ReadMade, SendFieldIf, SkipIf, count_if, default_text,
 };
 pub use crate::skips::{Skip, count_unless};
+pub use crate::tags::{Aliases, OtherAt, OwnNames, Tags, read_enum_by};
 pub use crate::variants::{TaggedVariants, Variants, read_adjacent, read_enum, read_tagged};

@@ -48,5 +48,6 @@ mod round;
 pub mod samples;
 pub mod ser;
 mod skips;
+mod tags;
 mod values;
 mod variants;
