@@ -32,7 +32,8 @@ def names_of(item):
     """The names that are sent of a type, of its variants and fields, and one that none has."""
     named = [item, *item.variants, *(field for field in item.fields() if field.wire)]
     tags = [item.serde[key] for key in ("tag", "content") if key in item.serde]
-    return [*(one.wire for one in named), *tags, "zz"]
+    aliases = [alias for variant in item.variants for alias in variant.aliases()]
+    return [*(one.wire for one in named), *tags, *aliases, "zz"]
 
 
 def within(kind):
@@ -114,7 +115,7 @@ class Maker:
     def field(self, field):
         """A field with its value; none where it may be missing, or is left out, at times."""
         value = self.value(field.type)
-        is_out = (field.missing or (field.skips and value in EMPTY)) and chance() < 0.3
+        is_out = (field.missing or (field.skips and value in EMPTY)) and chance() < 0.3 or not (field.read or chance() < 0.2)
         return () if is_out else ((field.wire, value),)
 
 
