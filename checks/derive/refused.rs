@@ -135,7 +135,7 @@ struct B {
     y: u8,
 }
 
-// 3: A.x: serde's `default` so is not covered: a function of your own has no contract here
+// 4: A.x: its default is not covered, as `one` is no function of this file that gives one value, such as `8080`, `"text".to_owned()`, `Vec::new()` or a variant of an enum of this file
 #[derive(Serialize)]
 struct A {
     #[serde(default = "one")]
@@ -215,7 +215,7 @@ struct A {
 struct A(u8);
 
 // 3: A.x: floats are not covered
-// 4: A.y: serde's `skip` on a field is not covered: what is left out would not come back
+// 4: A.y: serde's `with` on a field is not covered: a function of your own has no contract here
 // 6: A.z: `#[cfg(unix)]` is not covered, as the module is written once for all: delete it, or move what it is about to a file of its own
 // 7: A.z: a type that begins with `&` is not covered: hold the value itself, as String for &str
 // 9: A.größe: the name `größe` is not covered, as Rattle takes names in ASCII alone: give it another
@@ -581,18 +581,6 @@ struct A { #[serde(default)] x: u8 }
 struct B { x: u8 }
 #[derive(Serialize)]
 struct A { #[serde(flatten)] b: B }
-
-// 4: B.a: `A` does not come back, as `x` may be left out: give that `default` too
-#[derive(PartialEq, Eq, Serialize, Deserialize)]
-struct A { #[serde(skip_serializing_if = "Vec::is_empty")] x: Vec<u8> }
-#[derive(PartialEq, Eq, Serialize, Deserialize)]
-struct B { a: A }
-
-// 4: B.A.0: `A` does not come back, as `x` may be left out: give that `default` too
-#[derive(PartialEq, Eq, Serialize, Deserialize)]
-struct A { #[serde(skip_serializing_if = "String::is_empty")] x: String, y: u8 }
-#[derive(PartialEq, Eq, Serialize, Deserialize)]
-#[serde(tag = "t")] enum B { A(A), C }
 
 // 2: A.b: `derive(Default)` is not covered beside `B`, which takes an allocator: delete Default, and write a `new(alloc)`
 #[derive(Default, Serialize, Deserialize)]

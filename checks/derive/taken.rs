@@ -315,6 +315,8 @@ enum C { X(u8), #[default] Y }
 struct A { x: Vec<u8> }
 
 // 2: no RoundTrip is written for `A`: `x` may be left out, and is not read where it is missing: give it `default` too
+// 4: no RoundTrip is written for `B`: `A` does not come back
+// 6: no RoundTrip is written for `D`: `A` does not come back
 // + impl<'de> Deserialize<'de> for B
 // - RoundTrip
 #[derive(PartialEq, Eq, Serialize, Deserialize)]
@@ -324,6 +326,7 @@ struct A { #[serde(skip_serializing_if = "Vec::is_empty")] x: Vec<u8> }
 #[derive(PartialEq, Eq, Serialize, Deserialize)]
 #[serde(untagged)] enum D { A(BTreeMap<String, A>), C(u8) }
 
+// 4: no RoundTrip is written for `B`: `A` does not come back
 // + impl<'de> Deserialize<'de> for B
 // - RoundTrip
 #[derive(PartialEq, Eq, Serialize, Deserialize)]
@@ -398,3 +401,17 @@ enum B { Z { #[serde(default)] a: A, b: i8 } }
 struct A { r#type: u8, r#plain: u8 }
 #[derive(Serialize, Deserialize)]
 enum B { r#in(u8) }
+
+// 2: no RoundTrip is written for `A`: `x` may be left out, and is not read where it is missing: give it `default` too
+// 4: no RoundTrip is written for `B`: `A` does not come back
+#[derive(PartialEq, Eq, Serialize, Deserialize)]
+struct A { #[serde(skip_serializing_if = "Vec::is_empty")] x: Vec<u8> }
+#[derive(PartialEq, Eq, Serialize, Deserialize)]
+struct B { a: A }
+
+// 2: no RoundTrip is written for `A`: `x` may be left out, and is not read where it is missing: give it `default` too
+// 4: no RoundTrip is written for `B`: `x` may be left out, and is not read where it is missing: give it `default` too
+#[derive(PartialEq, Eq, Serialize, Deserialize)]
+struct A { #[serde(skip_serializing_if = "String::is_empty")] x: String, y: u8 }
+#[derive(PartialEq, Eq, Serialize, Deserialize)]
+#[serde(tag = "t")] enum B { A(A), C }

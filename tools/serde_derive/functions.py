@@ -72,7 +72,7 @@ class Functions:
         """Takes in a function."""
         opened = self.to(tokens, pairs, place, body, "(")
         if opened < body and tokens[body].text == "{":
-            parameters = [token.text for token, after in zip(tokens[opened:pairs[opened]], tokens[opened + 1:])
+            parameters = [token.text for token, after in zip(tokens[opened:pairs[opened]], tokens[opened + 1:pairs[opened] + 1])
                           if after.text == ":" and token.sort == "name"]
             self.named[owner + tokens[place + 1].text] = Function(owner[:-2], parameters, tokens[body + 1:pairs[body]])
 
