@@ -128,7 +128,7 @@ fn first() -> u8 {
 
 /// A message, of which some variants are skipped.
 #[derive(PartialEq, Eq, Serialize, Deserialize)]
-pub enum Event {
+pub enum Notice {
     /// Both ways.
     Opened(u8),
     /// Neither.

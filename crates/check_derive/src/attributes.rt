@@ -56,7 +56,7 @@ ghost use Rattle.std.specs.declared.vec.Vec.{Vec};
 ghost use Rattle.content_tree.specs.Values.Ranges as kind;
 ghost use Rattle.check_derive.specs.declared.attributes.Grade.{Grade};
 ghost use Rattle.check_derive.specs.declared.attributes.Grade.TheVariants as grade;
-ghost use Rattle.check_derive.specs.declared.attributes.Event.TheVariants as event;
+ghost use Rattle.check_derive.specs.declared.attributes.Notice.TheVariants as notice;
 
 use content_cbor::{CborRoundTrip, NotNull};
 use serde_content::de::{Deserialize, FieldsByName, VariantAccess};
@@ -1071,7 +1071,7 @@ impl<'de> Deserialize<'de> for Account {
 
 /// A message, of which some variants are skipped.
 #[derive(Drop, PartialEq, Eq)]
-pub enum Event {
+pub enum Notice {
     /// Both ways.
     Opened(u8),
     /// Neither.
@@ -1087,9 +1087,9 @@ pub enum Event {
 
 /// The names of its fields.
 #[derive(Drop)]
-struct FieldsOfEventOld;
+struct FieldsOfNoticeOld;
 
-impl Names for FieldsOfEventOld {
+impl Names for FieldsOfNoticeOld {
     ghost names = { name "id" ∷ [] };
 
     #[tactic(auto, unfolding(serde_content::specs::Literals::name))]
@@ -1098,10 +1098,10 @@ impl Names for FieldsOfEventOld {
     }
 }
 
-type Field1OfEventOld = ReadField<FieldsOfEventOld, 0, u8, OthersSkipped<FieldsOfEventOld>>;
+type Field1OfNoticeOld = ReadField<FieldsOfNoticeOld, 0, u8, OthersSkipped<FieldsOfNoticeOld>>;
 
 /// Reads the fields, in any order.
-fn read_event_old<'de, 'n: 'de>(alloc: Global, fields: FieldsByName<'de, 'n>) -> Result<u8>
+fn read_notice_old<'de, 'n: 'de>(alloc: Global, fields: FieldsByName<'de, 'n>) -> Result<u8>
     ensures { Reads (
         (row_then (name "id") (⟦<u8 as Deserialize<'de>>⟧.refusal)
         (others_left (name "id" ∷ [])))
@@ -1111,16 +1111,16 @@ fn read_event_old<'de, 'n: 'de>(alloc: Global, fields: FieldsByName<'de, 'n>) ->
         NoOthers)
         (fields_left fields.entry)) result }
 {
-    let row: Field1OfEventOld = ReadFields::read(alloc, fields)?;
+    let row: Field1OfNoticeOld = ReadFields::read(alloc, fields)?;
     let ReadField(id, _, _) = row;
     Ok(id)
 }
 
 /// The names of its variants.
 #[derive(Drop)]
-struct NamesOfEvent;
+struct NamesOfNotice;
 
-impl Names for NamesOfEvent {
+impl Names for NamesOfNotice {
     ghost names = { name "Opened" ∷ name "Old" ∷ [] };
 
     #[tactic(auto, unfolding(serde_content::specs::Literals::name))]
@@ -1129,42 +1129,42 @@ impl Names for NamesOfEvent {
     }
 }
 
-impl Serialize for Event {
+impl Serialize for Notice {
     ghost script = { elim [
-      | event.Opened x1 ↦ newtype_variant_script (name "Event") 0 (name "Opened")
+      | notice.Opened x1 ↦ newtype_variant_script (name "Notice") 0 (name "Opened")
           (⟦<u8 as Serialize>⟧.script x1)
-      | event.Line x1 ↦ unsent_script
-          (codes "the enum variant Event::Line cannot be serialized")
-      | event.Old x1 ↦ unsent_script
-          (codes "the enum variant Event::Old cannot be serialized")
-      | event.Closed ↦ unit_variant_script (name "Event") 3 (name "Closed")
+      | notice.Line x1 ↦ unsent_script
+          (codes "the enum variant Notice::Line cannot be serialized")
+      | notice.Old x1 ↦ unsent_script
+          (codes "the enum variant Notice::Old cannot be serialized")
+      | notice.Closed ↦ unit_variant_script (name "Notice") 3 (name "Closed")
     ] };
 
     ghost lawful = { elim [
-      | event.Opened x1 ↦ λ readable. newtype_variant_lawful (leaf_lawful refl)
-      | event.Line x1 ↦ λ readable. unsent_lawful _
-      | event.Old x1 ↦ λ readable. unsent_lawful _
-      | event.Closed ↦ λ readable. unit_variant_lawful
+      | notice.Opened x1 ↦ λ readable. newtype_variant_lawful (leaf_lawful refl)
+      | notice.Line x1 ↦ λ readable. unsent_lawful _
+      | notice.Old x1 ↦ λ readable. unsent_lawful _
+      | notice.Closed ↦ λ readable. unit_variant_lawful
     ] };
 
     fn serialize<S: Serializer>(&self, alloc: Global, serializer: &mut S) -> Result<()> {
         match self {
-            Event::Opened(x1) => {
-                Call::NewtypeVariant(name_event(), 0, name_opened()).around(x1, alloc, serializer)
+            Notice::Opened(x1) => {
+                Call::NewtypeVariant(name_notice(), 0, name_opened()).around(x1, alloc, serializer)
             }
-            Event::Line(_) => {
-                Err(Error::custom(alloc, "the enum variant Event::Line cannot be serialized"))
+            Notice::Line(_) => {
+                Err(Error::custom(alloc, "the enum variant Notice::Line cannot be serialized"))
             }
-            Event::Old { id: _ } => {
-                Err(Error::custom(alloc, "the enum variant Event::Old cannot be serialized"))
+            Notice::Old { id: _ } => {
+                Err(Error::custom(alloc, "the enum variant Notice::Old cannot be serialized"))
             }
-            Event::Closed => Call::UnitVariant(name_event(), 3, name_closed()).send(serializer),
+            Notice::Closed => Call::UnitVariant(name_notice(), 3, name_closed()).send(serializer),
         }
     }
 }
 
-impl<'de> Variants<'de> for Event {
-    ghost name = { name "Event" };
+impl<'de> Variants<'de> for Notice {
+    ghost name = { name "Notice" };
 
     ghost refusal = { variants (
         (name "Opened", newtype_variant_refusal (⟦<u8 as Deserialize<'de>>⟧.refusal))
@@ -1177,57 +1177,57 @@ impl<'de> Variants<'de> for Event {
         ∷ []) };
 
     ghost named = { elim [
-      | event.Opened x1 ↦ name "Opened"
-      | event.Line x1 ↦ name "Line"
-      | event.Old x1 ↦ name "Old"
-      | event.Closed ↦ name "Closed"
+      | notice.Opened x1 ↦ name "Opened"
+      | notice.Line x1 ↦ name "Line"
+      | notice.Old x1 ↦ name "Old"
+      | notice.Closed ↦ name "Closed"
     ] };
 
     ghost held = { elim [
-      | event.Opened x1 ↦ NewtypeVariantGives (⟦<u8 as Deserialize<'de>>⟧.gives) x1
-      | event.Line x1 ↦ λ v. ⊥
-      | event.Old x1 ↦ StructVariantGives (ReadByName
+      | notice.Opened x1 ↦ NewtypeVariantGives (⟦<u8 as Deserialize<'de>>⟧.gives) x1
+      | notice.Line x1 ↦ λ v. ⊥
+      | notice.Old x1 ↦ StructVariantGives (ReadByName
           (RowThen (name "id") (⟦<u8 as Deserialize<'de>>⟧.gives) x1
           NoOthers))
-      | event.Closed ↦ λ v. ⊥
+      | notice.Closed ↦ λ v. ⊥
     ] };
 
     #[tactic(auto, unfolding(serde_content::specs::Literals::name))]
     fn name() -> &'static str {
-        "Event"
+        "Notice"
     }
 
     fn names() -> &'static [&'static str] {
-        NamesOfEvent::names()
+        NamesOfNotice::names()
     }
 
     fn read_variant<'n: 'de>(
         alloc: Global,
         tag: &str,
         variant: VariantAccess<'de, 'n>,
-    ) -> Result<Event> {
-        match variant_index(tag, &NamesOfEvent) {
-            Some(0) => Ok(Event::Opened(variant.newtype_variant(alloc)?)),
+    ) -> Result<Notice> {
+        match variant_index(tag, &NamesOfNotice) {
+            Some(0) => Ok(Notice::Opened(variant.newtype_variant(alloc)?)),
             Some(1) => {
                 let fields = variant
-                    .struct_variant(alloc, FieldsOfEventOld::names())?
+                    .struct_variant(alloc, FieldsOfNoticeOld::names())?
                     .by_name();
-                let id = read_event_old(alloc, fields)?;
-                Ok(Event::Old { id })
+                let id = read_notice_old(alloc, fields)?;
+                Ok(Notice::Old { id })
             }
-            _ => Err(no_such_variant(alloc, tag, &NamesOfEvent)),
+            _ => Err(no_such_variant(alloc, tag, &NamesOfNotice)),
         }
     }
 }
 
-impl<'de> Deserialize<'de> for Event {
-    ghost refusal = { enum_refusal (name "Event") ⟦<Event as Variants<'de>>⟧.refusal };
+impl<'de> Deserialize<'de> for Notice {
+    ghost refusal = { enum_refusal (name "Notice") ⟦<Notice as Variants<'de>>⟧.refusal };
 
-    ghost gives = { λ s y. EnumGives (name "Event")
-        (⟦<Event as Variants<'de>>⟧.named y)
-        (⟦<Event as Variants<'de>>⟧.held y) s };
+    ghost gives = { λ s y. EnumGives (name "Notice")
+        (⟦<Notice as Variants<'de>>⟧.named y)
+        (⟦<Notice as Variants<'de>>⟧.held y) s };
 
-    fn deserialize<'n: 'de>(alloc: Global, from: Deserializer<'de, 'n>) -> Result<Event> {
+    fn deserialize<'n: 'de>(alloc: Global, from: Deserializer<'de, 'n>) -> Result<Notice> {
         read_enum(alloc, from)
     }
 }
@@ -1312,12 +1312,12 @@ fn name_account() -> &'static str
     "Account"
 }
 
-/// The name `Event`.
+/// The name `Notice`.
 #[tactic(auto, unfolding(serde_content::specs::Literals::name))]
-fn name_event() -> &'static str
-    ensures { result.now ≡ name "Event" }
+fn name_notice() -> &'static str
+    ensures { result.now ≡ name "Notice" }
 {
-    "Event"
+    "Notice"
 }
 
 /// The name `Opened`.
