@@ -187,6 +187,9 @@ def own_rules() -> Dict[str, str]:
         made[f"other_{count}"] = f"{ALL}\npub enum Tried {{ {variants}, #[serde(other)] Other }}"
         made[f"unsent_variants_{count}"] = (f"{ALL}\npub enum Tried {{ A(u8), #[serde(skip)] B(String), "
                                             + ", ".join(f"#[serde(skip_serializing)] V{i}(u8)" for i in range(count)) + " }")
+        fields = ", ".join(f'#[serde(alias = "a{i}", alias = "b{i}"{said})] pub f{i}: {one}' for i, (said, one) in enumerate(
+            islice(cycle([("", "u8"), (", default", "String"), (', default = "five"', "i32"), ("", "Option<u8>")]), count)))
+        made[f"aliased_{count}"] = f"{ALL}\npub struct Tried {{ {fields} }}{functions}"
     made["default_by_hand"] = (f"{ALL}\n#[serde(default)]\npub struct Tried {{ pub a: u8, pub b: String }}\n\nimpl Default for Tried {{"
                                " fn default() -> Self { Self { a: 5, b: String::new() } } }")
     made["raw"] = f"{ALL}\npub struct Tried {{ pub r#type: u8, pub r#match: i32 }}"

@@ -32,7 +32,7 @@ def names_of(item):
     """The names that are sent of a type, of its variants and fields, and one that none has."""
     named = [item, *item.variants, *(field for field in item.fields() if field.wire)]
     tags = [item.serde[key] for key in ("tag", "content") if key in item.serde]
-    aliases = [alias for variant in item.variants for alias in variant.aliases()]
+    aliases = [alias for one in [*item.variants, *item.fields()] for alias in one.aliases()]
     return [*(one.wire for one in named), *tags, *aliases, "zz"]
 
 
@@ -116,7 +116,8 @@ class Maker:
         """A field with its value; none where it may be missing, or is left out, at times."""
         value = self.value(field.type)
         is_out = (field.missing or (field.skips and value in EMPTY)) and chance() < 0.3 or not (field.read or chance() < 0.2)
-        return () if is_out else ((field.wire, value),)
+        name = pick([field.wire, *field.aliases()]) if chance() < 0.5 else field.wire
+        return () if is_out else ((name, value),)
 
 
 # What trees hold, as a list of trees and a way to put others in their places.

@@ -99,6 +99,7 @@ class Structs(Leaves):
         """The field that a key names, or none that is known."""
         names = [field.wire for field in fields if field.read]
         name = self.name(source, names, "field")
+        name = next((field.wire for field in fields if name in field.aliases()), name)
         if closed and name not in names:
             raise self.unknown(name, source, names, before)
         return name if name in names else None
@@ -142,9 +143,11 @@ class Structs(Leaves):
         names, values = [field.wire for field in fields if field.read], []
         left = [(self.name(source.of(key), names, "field"), key, tree) for key, tree in entries]
         for field in fields:
-            place = place_of(left, field.wire) if field.read else None
+            place = place_by(left, field) if field.read else None
             value = self.missing(field) if place is None else self.read(field.type, source.of(left.pop(place)[2]))
             values.append((field.wire, value))
+            if field.aliases() and place_by(left, field) is not None:
+                raise Refused(f"duplicate field `{field.wire}`")
         self.check_left(names, source, left, closed, before)
         return sent(fields, values)
 
@@ -294,6 +297,12 @@ def kind_of(fields, name):
 def place_of(entries, name):
     """Where the first entry of this name is, or none."""
     return next((place for place, (found, _, _) in enumerate(entries) if found == name), None)
+
+
+def place_by(entries, field):
+    """Where the first entry is that has the first of a field's names which any has, or none."""
+    places = [place_of(entries, name) for name in [field.wire, *field.aliases()]]
+    return next((place for place in places if place is not None), None)
 
 
 def sent(fields, values):

@@ -144,3 +144,19 @@ pub enum Notice {
     #[serde(skip_deserializing)]
     Closed,
 }
+
+/// A task, of which some fields have further names.
+#[derive(PartialEq, Eq, Serialize, Deserialize)]
+pub struct Task {
+    /// What is done first.
+    #[serde(alias = "before-all", alias = "before")]
+    pub setup: String,
+    /// Its marks.
+    #[serde(default, alias = "marks")]
+    pub tags: Vec<u8>,
+    /// How often it is done.
+    #[serde(alias = "count", default = "first")]
+    pub times: u8,
+    /// Whether it is done at all.
+    pub wanted: Option<bool>,
+}

@@ -11,7 +11,7 @@ COVERED = {
     "a container": {"rename", "rename_all", "rename_all_fields", "deny_unknown_fields", "untagged",
                     "tag", "content", "transparent", "default"},
     "a variant": {"rename", "rename_all", "alias", "other", "skip", "skip_serializing", "skip_deserializing"},
-    "a field": {"rename", "default", "flatten", "skip_serializing_if", "skip", "skip_serializing", "skip_deserializing"},
+    "a field": {"rename", "alias", "default", "flatten", "skip_serializing_if", "skip", "skip_serializing", "skip_deserializing"},
 }
 NOT_COVERED = {
     "f32": "floats are not covered", "f64": "floats are not covered",

@@ -250,8 +250,8 @@ class Item(Named):
         return [f for v in self.variants if v.beside for f in v.beside.data.leaves()] + self.fields()
 
     def lost(self) -> List[Field]:
-        """The fields that are left out, and not read as what they were."""
-        return [f for f in self.sent_fields() if f.lost() or not (f.sent and f.read)]
+        """The fields that are left out, and not read as what they were, or read by several names."""
+        return [f for f in self.sent_fields() if f.lost() or f.aliases() or not (f.sent and f.read)]
 
     def one_way(self) -> List[Variant]:
         """The variants that aren't both sent and read."""

@@ -100,6 +100,15 @@ class Holder:
         """How many values are read with no struct of them all."""
         return LONGEST_HELD if self.of_variant else LONGEST_ROW
 
+    def aliases(self) -> List[str]:
+        """The further names of its fields."""
+        return [alias for f in self.fields for alias in f.aliases()]
+
+    @property
+    def alias_list(self) -> str:
+        """The type that stands for them."""
+        return f"AliasesOf{self.owner}"
+
     def sent_count(self) -> int:
         """How many values are sent, where none is left out."""
         return sum(f.sent for f in self.fields)
@@ -108,6 +117,8 @@ class Holder:
         """The types that stand for the names of its fields: one more where fields are sent that aren't read."""
         known = self.data.named and self.names_known
         lists = [list_impl(self.list, "The names of its fields.", self.names_known)] if known else []
+        if self.aliases():
+            lists.append(list_impl(self.alias_list, "Further names of its fields.", self.aliases()))
         return lists + [list_impl(self.sent_list, "The names of the fields that are sent.", self.names_sent)] * (
             self.sent_list != self.list)
 
@@ -136,16 +147,31 @@ class Holder:
         if not self.many or not self.fields:
             return []
         parts = [f"ReadPart<{self.count}, {place}" if not self.data.named else
-                 ", ".join([self.sort(f) + "<" + (f"{self.list}, {self.index(f)}" if f.read else "")]
-                           + [self.default_of(place)] * bool(f.made)).replace("<, ", "<") for place, f in enumerate(self.fields)]
+                 f"{self.sort(f)}<{', '.join(self.read_by_names(f, place))}" for place, f in enumerate(self.fields)]
         rows = "".join(f"type {self.row_type(place)} = {part}{', ' * (part[-1] != '<')}{f.type.rust()}, {self.after(place + 1)}>;\n"
                        for place, (part, f) in enumerate(zip(parts, self.fields)))
         defaults = [self.default_impl(place) for place, f in enumerate(self.fields) if f.made]
         return defaults + [rows] + [self.run_read(start) for start in self.starts()]
 
+    def read_by_names(self, f: Field, place: int) -> List[str]:
+        """The arguments of what a field is read as, but its type and what follows it."""
+        arguments = [self.list, str(self.index(f))] if f.read else []
+        if f.aliases():
+            names = "NoName"
+            for alias in reversed(f.aliases()):
+                names = f"NameAt<{self.alias_list}, {self.aliases().index(alias)}, {names}>"
+            arguments.append(f"NameAt<{self.list}, {self.index(f)}, {names}>")
+        if f.made:
+            arguments.append(self.default_of(place))
+        elif f.aliases() and f.missing:
+            arguments.append("OfType")
+        return arguments
+
     @staticmethod
     def sort(f: Field) -> str:
         """What a field is read as."""
+        if f.aliases():
+            return "ReadAliasedElse" if f.missing else "ReadAliased"
         if not f.read:
             return "ReadMade" if f.made else "ReadAbsent"
         return "ReadFieldElse" if f.made else f"ReadField{'Or' * bool(f.missing)}"
@@ -268,6 +294,11 @@ class Holder:
             return ""
         if not f.read and member == "gives":
             return "UnreadThen{missing} {inner}"
+        if f.aliases() and member in ("refusal", "gives"):
+            names, first = list_term([f.wire, *f.aliases()]), name_term(f.wire)
+            if member == "gives":
+                return f"AliasedThen {names}{f.absent() or ' (λ b. ⊥)'} {{inner}}"
+            return f"aliased_then {first} {names} {'None' if f.missing else f'(Some (missing_field {first}))'} {{inner}}"
         return UNLESS[member] if f.skips and member in UNLESS else self.words(member)[0]
 
     def unless(self, place: int, value: str) -> Dict[str, str]:

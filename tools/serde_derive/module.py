@@ -154,6 +154,8 @@ def lost(item: Item) -> str:
     if not item.derives_all():
         return ""
     for f in item.lost():
+        if f.aliases():
+            return f"`{f.name}` has an `alias`"
         if not (f.sent and f.read):
             return f"`{f.name}` is not {'read' if f.sent else 'sent'}"
         return (f"`{f.name}` may be left out, and " + ("what is read in its place may be another value" if f.missing else

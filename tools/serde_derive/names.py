@@ -30,6 +30,18 @@ def name_item(item: Item, functions: Functions) -> None:
     name_fields(item.data, case, functions)
 
 
+def check_aliases(data: Data) -> None:
+    """Refuses aliases that are names too, or of what isn't read by name."""
+    taken = {f.wire for f in data.fields}
+    for f in data.fields:
+        for alias in f.aliases():
+            check_sent(alias, f.line, f.name)
+            if alias in taken or not (data.named and f.read):
+                raise Refused(f.line, f"two are called `{alias}`: give one another name" if alias in taken else
+                              "serde's `alias` is for fields with names that are read", f.name)
+            taken.add(alias)
+
+
 def check_tags(item: Item) -> None:
     """Refuses aliases that are names too, and a variant for other tags that holds something, or isn't alone."""
     taken = {v.wire for v in item.variants}
@@ -85,6 +97,7 @@ def name_fields(data: Data, case: Optional[str], functions: Functions) -> None:
     if data.fields and not any(f.read for f in data.fields):
         raise Refused(data.fields[0].line, "what has no fields that are read is not covered: write it without fields")
     name_each(data.fields if data.named else [], CASES[case][0] if case else same)
+    check_aliases(data)
 
 
 def check_skipped(f: Field, data: Data, functions: Functions) -> None:

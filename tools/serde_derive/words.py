@@ -41,13 +41,14 @@ content_de.specs.Reads.Tuples part_then end_of_parts PartThen NoPart
 content_de.specs.Accesses.ByName fields_left
 content_de.specs.Reads.Read Reads
 content_de.specs.Reads.Attempts IsTakenAs or_next
-content_de.specs.Reads.ByName read_by_name no_others
+content_de.specs.Reads.ByName read_by_name no_others missing_field
 content_de.specs.Reads.ByName ReadByName NoOthers
 content_de.specs.Reads.Tagged tag_then TagThen tag_then_buffered TagThenBuffered
 content_de.specs.Reads.Own enum_refusal EnumGives
 content_de.specs.Reads.Own {' '.join(f'{s}_refusal {pascal(s)}Gives' for s in STYLES)}
 serde_content.specs.Literals name row_then row_or_then RowThen RowOrThen others_left
 serde_content.specs.Skips fields_less field_unless UnreadThen unsent_script
+serde_content.specs.Aliases aliased_then AliasedThen
 serde_content.specs.Tags meant meant_among EnumGivesBy
 serde_content.specs.Variants index_among variants
 serde_content.specs.RoundTrip ComesBack CoercionKeeps
@@ -105,7 +106,7 @@ USES = {
     "serde_content": "CowStr Deserializer Error Result RoundTrip",
     "serde_content::de": "Deserialize FieldsByName VariantAccess attempt",
     "serde_content::derive_support":
-        f"Absent Aliases DefaultOf Names OtherAt OwnNames {' '.join(sorted(one for _, one in CHOICES))} OthersRefused OthersSkipped PartsEnd ReadAbsent ReadField ReadFieldElse ReadFieldOr ReadFields"
+        f"Absent Aliases DefaultOf NameAt Names NoName OfType OtherAt OwnNames {' '.join(sorted(one for _, one in CHOICES))} OthersRefused OthersSkipped PartsEnd ReadAbsent ReadAliased ReadAliasedElse ReadField ReadFieldElse ReadFieldOr ReadFields"
         f" ReadMade ReadPart ReadParts ReadStruct SendElement SendEnd SendEntry SendField SendFieldIf SendFieldUnless SendOpen SendPart SendTag Skip SkipIf TaggedVariants Variants"
         f" {' '.join(sorted(first for first, _ in CHOICES))} count_if count_unless default_text no_such_variant read_adjacent read_enum read_enum_by read_flattened read_struct read_tagged send_row"
         " variant_index",
@@ -115,7 +116,7 @@ USES = {
 }
 NO_PLACES = RESERVED | {"alloc", "fields", "serializer", "result", "row"} | {
     name for names in USES.values() for name in names.split() if name.islower()}
-IN_TEXT = {"[]": r"\[\]", "form": r"\(form t\)", "custom": r"\(custom ", "Some": r"(?:\(|≡ )Some \(", "None": "≡ None",
+IN_TEXT = {"[]": r"\[\]", "form": r"\(form t\)", "custom": r"\(custom ", "Some": r"(?:\(|≡ )Some \(", "None": r"(?:≡|\[\]\)) None",
            "true": r"(?:fits|λ b\.|≡) true", "false": "≡ false", "name": 'name "', "not": r"\(not ", "variants": r"variants \( \(name"}
 METHODS = {"Parts": r"\.(?:with|around)\("}
 # what no own type is called; `S` is the type of a serialiser, and contracts name the two traits

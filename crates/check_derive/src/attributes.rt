@@ -2,12 +2,12 @@
 //!
 //! Written by `tools/derive` from `attributes.rs`: change that file, and write this one anew.
 
-ghost use Rattle.std.specs.Prelude.{◌≡◌, ◌∷◌, [], ℕ, ℤ, Bool, Option, None, true, false, negsuc};
-ghost use Rattle.std.specs.Prelude.{not, nat_eq, codes, string_bytes, refl};
+ghost use Rattle.std.specs.Prelude.{◌≡◌, ◌∷◌, [], ℕ, ℤ, Bool, Option, None, Some, true, false};
+ghost use Rattle.std.specs.Prelude.{negsuc, not, nat_eq, codes, string_bytes, refl};
 ghost use Rattle.content_ser.specs.Scripts.Own.{field_first, end_script, unit_variant_script};
 ghost use Rattle.content_ser.specs.Scripts.Own.{newtype_variant_script, struct_script};
 ghost use Rattle.content_ser.specs.Scripts.Own.{struct_variant_script};
-ghost use Rattle.content_ser.specs.Laws.StandardScripts.{leaf_lawful, option_lawful};
+ghost use Rattle.content_ser.specs.Laws.StandardScripts.{leaf_lawful, option_lawful, seq_lawful};
 ghost use Rattle.content_ser.specs.Laws.OwnScripts.{field_fits, struct_end_fits};
 ghost use Rattle.content_ser.specs.Laws.OwnScripts.{unit_variant_lawful, newtype_variant_lawful};
 ghost use Rattle.content_ser.specs.Laws.OwnScripts.{struct_lawful, struct_variant_lawful};
@@ -16,7 +16,8 @@ ghost use Rattle.content_de.specs.Requests.Leaves.{bool_from, text_from};
 ghost use Rattle.content_de.specs.Reads.Standard.{HasContent};
 ghost use Rattle.content_de.specs.Accesses.ByName.{fields_left};
 ghost use Rattle.content_de.specs.Reads.Read.{Reads};
-ghost use Rattle.content_de.specs.Reads.ByName.{read_by_name, no_others, ReadByName, NoOthers};
+ghost use Rattle.content_de.specs.Reads.ByName.{read_by_name, no_others, missing_field, ReadByName};
+ghost use Rattle.content_de.specs.Reads.ByName.{NoOthers};
 ghost use Rattle.content_de.specs.Reads.Own.{enum_refusal, EnumGives, unit_variant_refusal};
 ghost use Rattle.content_de.specs.Reads.Own.{UnitVariantGives, newtype_variant_refusal};
 ghost use Rattle.content_de.specs.Reads.Own.{NewtypeVariantGives, struct_refusal, StructGives};
@@ -24,6 +25,7 @@ ghost use Rattle.content_de.specs.Reads.Own.{struct_variant_refusal, StructVaria
 ghost use Rattle.serde_content.specs.Literals.{name, row_then, row_or_then, RowThen, RowOrThen};
 ghost use Rattle.serde_content.specs.Literals.{others_left};
 ghost use Rattle.serde_content.specs.Skips.{fields_less, field_unless, UnreadThen, unsent_script};
+ghost use Rattle.serde_content.specs.Aliases.{aliased_then, AliasedThen};
 ghost use Rattle.serde_content.specs.Tags.{meant, meant_among, EnumGivesBy};
 ghost use Rattle.serde_content.specs.Variants.{index_among, variants};
 ghost use Rattle.serde_content.specs.RoundTrip.{ComesBack, CoercionKeeps};
@@ -61,10 +63,10 @@ ghost use Rattle.check_derive.specs.declared.attributes.Notice.TheVariants as no
 use content_cbor::{CborRoundTrip, NotNull};
 use serde_content::de::{Deserialize, FieldsByName, VariantAccess};
 use serde_content::derive_support::{
-    Aliases, DefaultOf, Names, OtherAt, OthersRefused, OthersSkipped, ReadAbsent, ReadField,
-    ReadFieldElse, ReadFieldOr, ReadFields, ReadMade, ReadStruct, SendEnd, SendField, SendFieldIf,
-    SendOpen, SkipIf, Variants, count_if, default_text, no_such_variant, read_enum, read_enum_by,
-    read_struct, send_row, variant_index,
+    Aliases, DefaultOf, NameAt, Names, NoName, OfType, OtherAt, OthersRefused, OthersSkipped,
+    ReadAbsent, ReadAliased, ReadAliasedElse, ReadField, ReadFieldElse, ReadFieldOr, ReadFields,
+    ReadMade, ReadStruct, SendEnd, SendField, SendFieldIf, SendOpen, SkipIf, Variants, count_if,
+    default_text, no_such_variant, read_enum, read_enum_by, read_struct, send_row, variant_index,
 };
 use serde_content::ser::{Call, Parts, Serialize, Serializer};
 use serde_content::{Deserializer, Error, Result, RoundTrip};
@@ -1232,6 +1234,184 @@ impl<'de> Deserialize<'de> for Notice {
     }
 }
 
+/// A task, of which some fields have further names.
+#[derive(Drop, PartialEq, Eq)]
+pub struct Task {
+    /// What is done first.
+    pub setup: String,
+    /// Its marks.
+    pub tags: Vec<u8>,
+    /// How often it is done.
+    pub times: u8,
+    /// Whether it is done at all.
+    pub wanted: Option<bool>,
+}
+
+/// The names of its fields.
+#[derive(Drop)]
+struct FieldsOfTask;
+
+impl Names for FieldsOfTask {
+    ghost names = { name "setup" ∷ name "tags" ∷ name "times" ∷ name "wanted" ∷ [] };
+
+    #[tactic(auto, unfolding(serde_content::specs::Literals::name))]
+    fn names() -> &'static [&'static str] {
+        &["setup", "tags", "times", "wanted"]
+    }
+}
+
+/// Further names of its fields.
+#[derive(Drop)]
+struct AliasesOfTask;
+
+impl Names for AliasesOfTask {
+    ghost names = { name "before-all" ∷ name "before" ∷ name "marks" ∷ name "count" ∷ [] };
+
+    #[tactic(auto, unfolding(serde_content::specs::Literals::name))]
+    fn names() -> &'static [&'static str] {
+        &["before-all", "before", "marks", "count"]
+    }
+}
+
+/// What is read where the field `times` is missing.
+#[derive(Drop)]
+struct Default3OfTask;
+
+impl DefaultOf<u8> for Default3OfTask {
+    ghost is_default = { λ x. x ≡ 1 };
+
+    fn make(_alloc: Global) -> Result<u8> {
+        Ok(1)
+    }
+}
+
+type Field1OfTask = ReadAliased<
+    FieldsOfTask,
+    0,
+    NameAt<FieldsOfTask, 0, NameAt<AliasesOfTask, 0, NameAt<AliasesOfTask, 1, NoName>>>,
+    String,
+    Field2OfTask,
+>;
+
+type Field2OfTask = ReadAliasedElse<
+    FieldsOfTask,
+    1,
+    NameAt<FieldsOfTask, 1, NameAt<AliasesOfTask, 2, NoName>>,
+    OfType,
+    Vec<u8>,
+    Field3OfTask,
+>;
+
+type Field3OfTask = ReadAliasedElse<
+    FieldsOfTask,
+    2,
+    NameAt<FieldsOfTask, 2, NameAt<AliasesOfTask, 3, NoName>>,
+    Default3OfTask,
+    u8,
+    Field4OfTask,
+>;
+
+type Field4OfTask = ReadFieldOr<FieldsOfTask, 3, Option<bool>, OthersSkipped<FieldsOfTask>>;
+
+impl<'de> ReadStruct<'de> for Task {
+    ghost name = { name "Task" };
+
+    ghost refusal = { aliased_then (name "setup")
+        (name "setup" ∷ name "before-all" ∷ name "before" ∷ [])
+        (Some (missing_field (name "setup"))) (⟦<String as Deserialize<'de>>⟧.refusal)
+        (aliased_then (name "tags") (name "tags" ∷ name "marks" ∷ []) None
+        (⟦<Vec<u8> as Deserialize<'de>>⟧.refusal)
+        (aliased_then (name "times") (name "times" ∷ name "count" ∷ []) None
+        (⟦<u8 as Deserialize<'de>>⟧.refusal)
+        (row_or_then (name "wanted") (⟦<Option<bool> as Deserialize<'de>>⟧.refusal)
+        (others_left (name "setup" ∷ name "tags" ∷ name "times" ∷ name "wanted" ∷ []))))) };
+
+    ghost gives = { λ z.
+        (AliasedThen (name "setup" ∷ name "before-all" ∷ name "before" ∷ []) (λ b. ⊥)
+        (⟦<String as Deserialize<'de>>⟧.gives) z.setup
+        (AliasedThen (name "tags" ∷ name "marks" ∷ [])
+        (λ (x : (Vec ℕ Global)). x.items ≡ []) (⟦<Vec<u8> as Deserialize<'de>>⟧.gives)
+        z.tags
+        (AliasedThen (name "times" ∷ name "count" ∷ []) (λ (x : ℕ). x ≡ 1)
+        (⟦<u8 as Deserialize<'de>>⟧.gives) z.times
+        (RowOrThen (name "wanted") (λ (x : (Option Bool)). x ≡ None)
+        (⟦<Option<bool> as Deserialize<'de>>⟧.gives) z.wanted
+        NoOthers)))) };
+
+    #[tactic(auto, unfolding(serde_content::specs::Literals::name))]
+    fn name() -> &'static str {
+        "Task"
+    }
+
+    fn read<'n: 'de>(alloc: Global, fields: FieldsByName<'de, 'n>) -> Result<Task> {
+        let row: Field1OfTask = ReadFields::read(alloc, fields)?;
+        let ReadAliased(setup, row, _) = row;
+        let ReadAliasedElse(tags, row, _) = row;
+        let ReadAliasedElse(times, row, _) = row;
+        let ReadFieldOr(wanted, _, _) = row;
+        Ok(Task {
+            setup,
+            tags,
+            times,
+            wanted,
+        })
+    }
+}
+
+impl Serialize for Task {
+    ghost script = { λ p. struct_script (name "Task") 4
+        (field_first (name "setup") (⟦<String as Serialize>⟧.script p.setup)
+        (field_first (name "tags") (⟦<Vec<u8> as Serialize>⟧.script p.tags)
+        (field_first (name "times") (⟦<u8 as Serialize>⟧.script p.times)
+        (field_first (name "wanted") (⟦<Option<bool> as Serialize>⟧.script p.wanted)
+        end_script)))) };
+
+    ghost lawful = { λ p readable. struct_lawful
+        (field_fits (leaf_lawful refl)
+        (field_fits (seq_lawful (λ x h. leaf_lawful refl) p.tags.items readable)
+        (field_fits (leaf_lawful refl)
+        (field_fits (option_lawful (λ x h. leaf_lawful refl) p.wanted readable)
+        struct_end_fits)))) };
+
+    fn serialize<S: Serializer>(&self, alloc: Global, serializer: &mut S) -> Result<()> {
+        let row = SendEnd;
+        let row = SendField(FieldsOfTask, 3, &self.wanted, row);
+        let row = SendField(FieldsOfTask, 2, &self.times, row);
+        let row = SendField(FieldsOfTask, 1, &self.tags, row);
+        let row = SendField(FieldsOfTask, 0, &self.setup, row);
+        let row = SendOpen(Call::Struct(name_task(), 4), row);
+        send_row(alloc, serializer, &row)
+    }
+}
+
+impl<'de> Deserialize<'de> for Task {
+    ghost refusal = { struct_refusal (name "Task") (read_by_name
+        (aliased_then (name "setup") (name "setup" ∷ name "before-all" ∷ name "before" ∷ [])
+        (Some (missing_field (name "setup"))) (⟦<String as Deserialize<'de>>⟧.refusal)
+        (aliased_then (name "tags") (name "tags" ∷ name "marks" ∷ []) None
+        (⟦<Vec<u8> as Deserialize<'de>>⟧.refusal)
+        (aliased_then (name "times") (name "times" ∷ name "count" ∷ []) None
+        (⟦<u8 as Deserialize<'de>>⟧.refusal)
+        (row_or_then (name "wanted") (⟦<Option<bool> as Deserialize<'de>>⟧.refusal)
+        (others_left (name "setup" ∷ name "tags" ∷ name "times" ∷ name "wanted" ∷ []))))))) };
+
+    ghost gives = { λ s p. StructGives (name "Task") (ReadByName
+        (AliasedThen (name "setup" ∷ name "before-all" ∷ name "before" ∷ []) (λ b. ⊥)
+        (⟦<String as Deserialize<'de>>⟧.gives) p.setup
+        (AliasedThen (name "tags" ∷ name "marks" ∷ [])
+        (λ (x : (Vec ℕ Global)). x.items ≡ []) (⟦<Vec<u8> as Deserialize<'de>>⟧.gives)
+        p.tags
+        (AliasedThen (name "times" ∷ name "count" ∷ []) (λ (x : ℕ). x ≡ 1)
+        (⟦<u8 as Deserialize<'de>>⟧.gives) p.times
+        (RowOrThen (name "wanted") (λ (x : (Option Bool)). x ≡ None)
+        (⟦<Option<bool> as Deserialize<'de>>⟧.gives) p.wanted
+        NoOthers))))) s };
+
+    fn deserialize<'n: 'de>(alloc: Global, from: Deserializer<'de, 'n>) -> Result<Task> {
+        read_struct::<FieldsOfTask, Self>(alloc, from)
+    }
+}
+
 /// The name `Grade`.
 #[tactic(auto, unfolding(serde_content::specs::Literals::name))]
 fn name_grade() -> &'static str
@@ -1334,4 +1514,12 @@ fn name_closed() -> &'static str
     ensures { result.now ≡ name "Closed" }
 {
     "Closed"
+}
+
+/// The name `Task`.
+#[tactic(auto, unfolding(serde_content::specs::Literals::name))]
+fn name_task() -> &'static str
+    ensures { result.now ≡ name "Task" }
+{
+    "Task"
 }

@@ -1,6 +1,7 @@
 //! What code calls that `tools/derive` writes. Call none of it by hand: it changes with that tool.
 
 pub use crate::absent::Absent;
+pub use crate::aliases::{FieldNames, NameAt, NoName, OfType, ReadAliased, ReadAliasedElse};
 pub use crate::fields_read::{
     OthersRefused, OthersSkipped, PartsEnd, ReadField, ReadFieldOr, ReadFields, ReadPart,
     ReadParts, ReadStruct, read_flattened, read_struct,

@@ -35,6 +35,7 @@ pub use round::{RoundTrip, round_trip};
 pub use values::{from_value, to_value};
 
 mod absent;
+mod aliases;
 pub mod de;
 pub mod derive_support;
 mod fields_read;
