@@ -142,7 +142,7 @@ struct A {
     x: u8,
 }
 
-// 2: A: serde's `rename` by direction is not covered: one name goes both ways
+// 3: A: serde's `rename` by direction is covered on fields and variants: give one name
 #[derive(Serialize)]
 #[serde(rename(serialize = "B"))]
 struct A(u8);

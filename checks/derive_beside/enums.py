@@ -26,9 +26,9 @@ class Enums(Structs):
     def variant_of(self, item, source):
         """The variant that a tag names, with its index."""
         readable = [variant for variant in item.variants if variant.read]
-        names = [variant.wire for variant in readable]
+        names = [variant.known for variant in readable]
         name = self.name(source, names, "variant")
-        meant = [variant for variant in readable if name == variant.wire or name in variant.aliases()]
+        meant = [variant for variant in readable if name == variant.known or name in variant.aliases()]
         meant += [variant for variant in readable if "other" in variant.serde]
         if not meant:
             raise Refused(f"unknown variant `{name}`, expected {one_of(names)}")

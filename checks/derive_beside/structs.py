@@ -69,12 +69,12 @@ class Structs(Leaves):
         values, place, count = [], 0, sum(field.read for field in fields)
         for field in fields:
             if not field.read:
-                values.append((field.wire, self.default_of(field)))
+                values.append((field.known, self.default_of(field)))
                 continue
             if place < len(items):
-                values.append((field.wire, self.read(field.type, source.of(items[place]))))
+                values.append((field.known, self.read(field.type, source.of(items[place]))))
             elif field.serde.get("default", WHOLE) != WHOLE:
-                values.append((field.wire, self.default_of(field)))
+                values.append((field.known, self.default_of(field)))
             else:
                 raise Refused(f"invalid length {place}, expected {expecting} with {counted(count)}")
             place += 1
@@ -92,14 +92,14 @@ class Structs(Leaves):
                 raise Refused(f"duplicate field `{name}`")
             if name is not None:
                 values[name] = self.read(kind_of(fields, name), source.of(tree))
-        return sent(fields, [(field.wire, values[field.wire] if field.wire in values else self.missing(field))
+        return sent(fields, [(field.known, values[field.known] if field.known in values else self.missing(field))
                              for field in fields])
 
     def field_name(self, fields, source, closed, before):
         """The field that a key names, or none that is known."""
-        names = [field.wire for field in fields if field.read]
+        names = [field.known for field in fields if field.read]
         name = self.name(source, names, "field")
-        name = next((field.wire for field in fields if name in field.aliases()), name)
+        name = next((field.known for field in fields if name in field.aliases()), name)
         if closed and name not in names:
             raise self.unknown(name, source, names, before)
         return name if name in names else None
@@ -140,14 +140,14 @@ class Structs(Leaves):
 
     def in_order(self, fields, source, entries, closed, before=()):
         """The fields in their order, and then what is left."""
-        names, values = [field.wire for field in fields if field.read], []
+        names, values = [field.known for field in fields if field.read], []
         left = [(self.name(source.of(key), names, "field"), key, tree) for key, tree in entries]
         for field in fields:
             place = place_by(left, field) if field.read else None
             value = self.missing(field) if place is None else self.read(field.type, source.of(left.pop(place)[2]))
-            values.append((field.wire, value))
+            values.append((field.known, value))
             if field.aliases() and place_by(left, field) is not None:
-                raise Refused(f"duplicate field `{field.wire}`")
+                raise Refused(f"duplicate field `{field.known}`")
         self.check_left(names, source, left, closed, before)
         return sent(fields, values)
 
@@ -168,7 +168,7 @@ class Structs(Leaves):
             kind = self.around(kind)
         if kind.name == "Option":
             return NONE
-        raise Refused(f"missing field `{field.wire}`")
+        raise Refused(f"missing field `{field.known}`")
 
     def around(self, kind):
         """What a type is read as where it adds nothing: what a Box or a transparent struct holds, else none."""
@@ -291,7 +291,7 @@ class Structs(Leaves):
 
 def kind_of(fields, name):
     """The type of the field of this name."""
-    return next(field.type for field in fields if field.wire == name)
+    return next(field.type for field in fields if field.known == name)
 
 
 def place_of(entries, name):
@@ -301,13 +301,13 @@ def place_of(entries, name):
 
 def place_by(entries, field):
     """Where the first entry is that has the first of a field's names which any has, or none."""
-    places = [place_of(entries, name) for name in [field.wire, *field.aliases()]]
+    places = [place_of(entries, name) for name in [field.known, *field.aliases()]]
     return next((place for place in places if place is not None), None)
 
 
 def sent(fields, values):
     """The fields that are sent again: all but those that are left out."""
-    return tuple(entry for field, entry in zip(fields, values) if field.sent and not (field.skips and is_left_out(field, entry[1])))
+    return tuple((field.wire, entry[1]) for field, entry in zip(fields, values) if field.sent and not (field.skips and is_left_out(field, entry[1])))
 
 
 def is_left_out(field, value):

@@ -160,3 +160,27 @@ pub struct Task {
     /// Whether it is done at all.
     pub wanted: Option<bool>,
 }
+
+/// A label, which is sent by other names than it is read by.
+#[derive(PartialEq, Eq, Serialize, Deserialize)]
+#[serde(rename_all(serialize = "camelCase", deserialize = "kebab-case"))]
+pub struct Sticker {
+    /// The first line.
+    pub first_line: String,
+    /// Its sort.
+    #[serde(rename(deserialize = "kind"))]
+    pub sort_of: u8,
+    /// Where it goes.
+    #[serde(rename = "to")]
+    pub way: Way,
+}
+
+/// A way.
+#[derive(PartialEq, Eq, Serialize, Deserialize)]
+pub enum Way {
+    /// Upwards.
+    #[serde(rename(serialize = "up", deserialize = "north"))]
+    Up,
+    /// Downwards, so far.
+    Down(u8),
+}

@@ -147,15 +147,39 @@ class Attributes(Cursor):
         if key not in COVERED[level]:
             why = NOT_COVERED.get(key)
             raise Refused(line, f"serde's `{key}` on {level} is not covered" + (f": {why}" if why else ""))
-        if self.next.text == "(":
-            raise Refused(line, f"serde's `{key}` by direction is not covered: one name goes both ways")
+        if self.next.text == "(" and key.startswith("rename"):
+            into[key] = self.directions(line, key)
+            return
         valued = self.eat("=")
         if key != "default" and valued != (key in VALUED or key.startswith("rename")):
             why = NOT_COVERED["with"] if valued else "it lacks a value"
             raise Refused(line, f"serde's `{key}` so is not covered: {why}")
         if key in into and key != "alias":
             raise Refused(line, f"serde's `{key}` stands twice")
-        before = [into[key]] if key in into else []
-        into[key] = "\n".join([*before, text_of(self.take()) if valued else ""])
-        if key.startswith("rename_all") and into[key] not in CASES:
-            raise Refused(line, f"serde's `{key}` knows no case `{into[key]}`: it has {', '.join(CASES)}")
+        value = text_of(self.take()) if valued else ""
+        if "\n" in value:
+            raise Refused(line, f"the name `{ascii(value)[1:-1]}` is not covered: printable ASCII but \" and \\ is")
+        into[key] = f"{into[key]}\n{value}" if key in into else value
+        self.check_case(line, key, into[key])
+
+    @staticmethod
+    def check_case(line: int, key: str, case: str) -> None:
+        """Refuses a case that Serde doesn't know."""
+        if key.startswith("rename_all") and case not in CASES:
+            raise Refused(line, f"serde's `{key}` knows no case `{case}`: it has {', '.join(CASES)}")
+
+    def directions(self, line: int, key: str) -> str:
+        """The name or case for sending and the one for reading, a line each; one that isn't given is empty."""
+        given = {"serialize": "", "deserialize": ""}
+
+        def one() -> None:
+            direction = self.take().text
+            self.expect("=")
+            if given.get(direction) != "":
+                raise Refused(line, f"serde's `{key}` knows `serialize` and `deserialize`, each once")
+            given[direction] = text_of(self.take())
+            self.check_case(line, key, given[direction])
+
+        self.expect("(")
+        self.listed(")", one)
+        return "\n".join(given.values())

@@ -63,13 +63,14 @@ class Test(NamedTuple):
 @dataclass
 class Named:
     """What has a name, with the lines that stand before it and Serde's attributes; `wire` is the
-    name that is sent. Where it has a raw name, `raw` is that."""
+    name that is sent, `known` the one by which it is read. Where it has a raw name, `raw` is that."""
 
     name: str
     line: int
     head: List[str]
     serde: Dict[str, str]
     wire: str = ""
+    known: str = ""
     raw: str = ""
 
     @property
@@ -251,11 +252,11 @@ class Item(Named):
 
     def lost(self) -> List[Field]:
         """The fields that are left out, and not read as what they were, or read by several names."""
-        return [f for f in self.sent_fields() if f.lost() or f.aliases() or not (f.sent and f.read)]
+        return [f for f in self.sent_fields() if f.lost() or f.aliases() or f.wire != f.known or not (f.sent and f.read)]
 
     def one_way(self) -> List[Variant]:
-        """The variants that aren't both sent and read."""
-        return [v for v in self.variants if not (v.sent and v.read)]
+        """The variants that aren't both sent and read, by one name."""
+        return [v for v in self.variants if v.wire != v.known or not (v.sent and v.read)]
 
     def comes_back(self) -> bool:
         """Whether RoundTrip is written: not where what it holds doesn't come back. A value of an untagged enum may be

@@ -28,9 +28,9 @@ class EnumWriter:
 
     def tag_names(self) -> Tuple[str, str]:
         """The type that stands for what tags mean, where some mean other names, and what contracts see of it."""
-        pairs = [(alias, v.wire) for v in self.item.variants for alias in v.aliases()]
+        pairs = [(alias, v.known) for v in self.item.variants for alias in v.aliases()]
         other = [i for i, v in enumerate(v for v in self.item.variants if v.read) if "other" in v.serde]
-        named = [v.wire for v in self.item.variants if v.read]
+        named = [v.known for v in self.item.variants if v.read]
         owner = pascal(self.item.owner)
         tags, meant = "OwnNames", "tag"
         if pairs:
@@ -43,7 +43,7 @@ class EnumWriter:
 
     def tag_types(self) -> List[str]:
         """The declarations of that type, and of the names in it."""
-        pairs = [(alias, v.wire) for v in self.item.variants for alias in v.aliases()]
+        pairs = [(alias, v.known) for v in self.item.variants for alias in v.aliases()]
         owner = pascal(self.item.owner)
         lists = [list_impl(f"AliasesOf{owner}", "Further names of its variants.", [alias for alias, _ in pairs]),
                  list_impl(f"MeantOf{owner}", "What each of them stands for.", [name for _, name in pairs])] * bool(pairs)
@@ -116,7 +116,7 @@ class EnumWriter:
 
     def names_list(self) -> List[str]:
         """The type that stands for the names of the variants, where it is used."""
-        return [list_impl(self.list, "The names of its variants.", [v.wire for v, _ in self.readable()])] * self.reads
+        return [list_impl(self.list, "The names of its variants.", [v.known for v, _ in self.readable()])] * self.reads
 
     def reader(self, v: Variant, holder: Holder) -> List[str]:
         """The function that reads a variant's fields, all values as one, where it needs one."""
@@ -176,7 +176,7 @@ class EnumWriter:
 
     def refusals(self) -> str:
         """What each variant refuses, by name."""
-        each = [f"({name_term(v.wire)[1:-1]}, {self.refusal_of(holder).strip()})" for v, holder in self.readable()]
+        each = [f"({name_term(v.known)[1:-1]}, {self.refusal_of(holder).strip()})" for v, holder in self.readable()]
         return "(variants (\n" + "\n∷ ".join(each + ["[]))"])
 
     def gives(self, holder: Holder, values: List[str]) -> str:
@@ -197,7 +197,7 @@ class EnumWriter:
         """What contracts see of the variants."""
         return [ghost("name", self.name[1:-1]),
                 ghost("refusal", self.refusals()[1:-1]),
-                ghost("named", self.each(lambda v, holder, x: name_term(v.wire)[1:-1])),
+                ghost("named", self.each(lambda v, holder, x: name_term(v.known)[1:-1])),
                 ghost("held", self.each(lambda v, holder, x: self.gives(holder, x) if v.read else "λ v. ⊥"))]
 
     def variants_impl(self) -> List[str]:

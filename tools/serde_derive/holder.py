@@ -85,9 +85,9 @@ class Holder:
         self.of_variant, self.wire = sort == "Variant", names[0] if names else ""
         self.reader, self.owner = f"read_{owner}", pascal(owner)
         self.list = f"FieldsOf{self.owner}"
-        self.names_known = [f.wire for f in data.fields if f.read]
+        self.names_known = [f.known for f in data.fields if f.read]
         self.names_sent = self.names_known
-        if any(f.sent and not f.read for f in data.fields):
+        if any(f.sent and (f.wire != f.known or not f.read) for f in data.fields):
             self.names_sent = [f.wire for f in data.fields if f.sent]
         self.sent_list = self.list if self.names_sent is self.names_known else f"SentOf{self.owner}"
         self.before: List[str] = []
@@ -184,7 +184,7 @@ class Holder:
         """That type, which makes such a value."""
         f, owner = self.fields[place], self.default_of(place)
         make = function(f"fn make(alloc: Global) -> Result<{f.type.rust()}>", f.made)
-        return (f"/// What is read where the field `{f.wire}` is missing.\n#[derive(Drop)]\nstruct {owner};\n\n"
+        return (f"/// What is read where the field `{f.known}` is missing.\n#[derive(Drop)]\nstruct {owner};\n\n"
                 f"impl DefaultOf<{f.type.rust()}> for {owner} {{\n{ghost('is_default', f'λ x. {f.missing}')}\n\n{make}\n}}\n")
 
     def test_of(self, f: Field) -> str:
@@ -232,7 +232,7 @@ class Holder:
 
     def index(self, f: Field) -> int:
         """The index of a field's name among all."""
-        return self.names_known.index(f.wire)
+        return self.names_known.index(f.known)
 
     def announced(self, f: Field) -> str:
         """The names of which a field's is one as it is sent, and its index."""
@@ -283,7 +283,7 @@ class Holder:
               values: Optional[List[str]] = None) -> List[str]:
         """What stands for each of its values in a member of the impls; for one that isn't sent or read perhaps nothing."""
         return [self.word_of(f, member).format(
-            inner=inner, see=see, place=place, count=self.count, name=name_term(f.wire),
+            inner=inner, see=see, place=place, count=self.count, name=name_term(f.wire if member in ("script", "lawful") else f.known),
             or_="_or" * bool(f.missing), Or="Or" * bool(f.missing), missing=f.absent(),
             **self.unless(place, value) if f.skips else {})
             for place, (f, inner, see, value) in enumerate(zip(self.fields, inners, sees or inners, values or inners))]
@@ -295,7 +295,7 @@ class Holder:
         if not f.read and member == "gives":
             return "UnreadThen{missing} {inner}"
         if f.aliases() and member in ("refusal", "gives"):
-            names, first = list_term([f.wire, *f.aliases()]), name_term(f.wire)
+            names, first = list_term([f.known, *f.aliases()]), name_term(f.known)
             if member == "gives":
                 return f"AliasedThen {names}{f.absent() or ' (λ b. ⊥)'} {{inner}}"
             return f"aliased_then {first} {names} {'None' if f.missing else f'(Some (missing_field {first}))'} {{inner}}"

@@ -156,11 +156,15 @@ def lost(item: Item) -> str:
     for f in item.lost():
         if f.aliases():
             return f"`{f.name}` has an `alias`"
+        if f.wire != f.known:
+            return f"`{f.name}` is read by another name than it is sent by"
         if not (f.sent and f.read):
             return f"`{f.name}` is not {'read' if f.sent else 'sent'}"
         return (f"`{f.name}` may be left out, and " + ("what is read in its place may be another value" if f.missing else
                 "is not read where it is missing: give it `default` too"))
     for v in item.one_way():
+        if v.wire != v.known:
+            return f"variant `{v.name}` is read by another name than it is sent by"
         return f"variant `{v.name}` is not {'read' if v.sent else 'sent'}"
     for own in item.owns():
         if own.astray:

@@ -1,6 +1,6 @@
 """The names that are sent, and what stands for a field that is missing."""
 import re
-from typing import Callable, List, Optional
+from typing import List, Optional, Tuple
 
 from .cases import CASES, same
 from .declarations import Data, Field, Item, Named, Refused
@@ -19,8 +19,10 @@ def name_item(item: Item, functions: Functions) -> None:
     for key in ("tag", "content"):
         if key in item.serde:
             check_sent(item.serde[key], item.line, "")
-    name_each([item], same)
-    name_each(item.variants, CASES[case][1] if case else same)
+    name_each([item], None, 0)
+    if item.wire != item.known:
+        raise Refused(item.line, "serde's `rename` by direction is covered on fields and variants: give one name")
+    name_each(item.variants, case, 1)
     check_tags(item)
     for v in item.variants:
         try:
@@ -32,7 +34,7 @@ def name_item(item: Item, functions: Functions) -> None:
 
 def check_aliases(data: Data) -> None:
     """Refuses aliases that are names too, or of what isn't read by name."""
-    taken = {f.wire for f in data.fields}
+    taken = {f.known for f in data.fields}
     for f in data.fields:
         for alias in f.aliases():
             check_sent(alias, f.line, f.name)
@@ -44,7 +46,7 @@ def check_aliases(data: Data) -> None:
 
 def check_tags(item: Item) -> None:
     """Refuses aliases that are names too, and a variant for other tags that holds something, or isn't alone."""
-    taken = {v.wire for v in item.variants}
+    taken = {v.known for v in item.variants}
     for v in item.variants:
         for alias in v.aliases():
             check_sent(alias, v.line, v.name)
@@ -96,7 +98,7 @@ def name_fields(data: Data, case: Optional[str], functions: Functions) -> None:
             f.skips = f.sent
     if data.fields and not any(f.read for f in data.fields):
         raise Refused(data.fields[0].line, "what has no fields that are read is not covered: write it without fields")
-    name_each(data.fields if data.named else [], CASES[case][0] if case else same)
+    name_each(data.fields if data.named else [], case, 0)
     check_aliases(data)
 
 
@@ -120,13 +122,21 @@ def check_sent(name: str, line: int, where: str) -> None:
         raise Refused(line, f"a name of more than {LONGEST} letters is not covered: shorten it", where)
 
 
-def name_each(all_named: List[Named], by_case: Callable[[str], str]) -> None:
-    """Names things of one place, which have to differ."""
-    taken = set()
-    for one in all_named:
-        one.wire = one.serde.get("rename", by_case(one.raw or one.name))
-        where = "" if isinstance(one, Item) else one.name
-        check_sent(one.wire, one.line, where)
-        if one.wire in taken:
-            raise Refused(one.line, f"two are called `{one.wire}`: give one another name by `rename`", where)
-        taken.add(one.wire)
+def directions(value: Optional[str]) -> Tuple[str, str]:
+    """The name or case for sending, and the one for reading; empty where there is none."""
+    parts = (value or "").split("\n")
+    return parts[0], parts[-1]
+
+
+def name_each(all_named: List[Named], case: Optional[str], place: int) -> None:
+    """Names things of one place, which have to differ; the place is where CASES has what cases make of them."""
+    for way, attribute in enumerate(("wire", "known")):
+        by_case, taken = CASES[directions(case)[way]][place] if directions(case)[way] else same, set()
+        for one in all_named:
+            name = directions(one.serde.get("rename"))[way] or by_case(one.raw or one.name)
+            where = "" if isinstance(one, Item) else one.name
+            check_sent(name, one.line, where)
+            if name in taken:
+                raise Refused(one.line, f"two are called `{name}`: give one another name by `rename`", where)
+            taken.add(name)
+            setattr(one, attribute, name)

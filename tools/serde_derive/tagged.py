@@ -20,8 +20,8 @@ class TaggedHolder(Holder):
     def __init__(self, item: Item, tag: str, v: Variant, fields: List[Field]):
         data, name = Data("Struct", fields, v.data.closed), (v.beside or item).wire
         super().__init__("Struct", [name], data, v.owner)
-        if self.sent_list != self.list:
-            raise Refused(v.line, f"variant `{v.name}`: serde's `skip_deserializing` is not covered beside a tag")
+        if self.sent_list != self.list or v.wire != v.known:
+            raise Refused(v.line, f"variant `{v.name}`: `skip_deserializing` and names by direction are not covered beside a tag")
         self.names_known = self.names_sent = [tag] + self.names_known
         self.tag, self.variant = tag, v.wire
         self.call = f"Call::Struct({name_call(name)}, {self.sent_count() + 1})"
@@ -66,7 +66,7 @@ class TaggedWriter(EnumWriter):
             raise Refused(v.line, f"variant `{v.name}`: a field is called as the tag, `{self.tag}`")
         if not self.content:
             return beside
-        return [Field("x1", f.line, [], {}, self.content, type=f.type, missing=DEFAULTS["Option"] if f.type.name == "Option" else "")
+        return [Field("x1", f.line, [], {}, self.content, self.content, type=f.type, missing=DEFAULTS["Option"] if f.type.name == "Option" else "")
                 for f in v.data.fields]
 
     def names_list(self) -> List[str]:

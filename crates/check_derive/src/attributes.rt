@@ -59,6 +59,7 @@ ghost use Rattle.content_tree.specs.Values.Ranges as kind;
 ghost use Rattle.check_derive.specs.declared.attributes.Grade.{Grade};
 ghost use Rattle.check_derive.specs.declared.attributes.Grade.TheVariants as grade;
 ghost use Rattle.check_derive.specs.declared.attributes.Notice.TheVariants as notice;
+ghost use Rattle.check_derive.specs.declared.attributes.Way.TheVariants as way;
 
 use content_cbor::{CborRoundTrip, NotNull};
 use serde_content::de::{Deserialize, FieldsByName, VariantAccess};
@@ -1412,6 +1413,224 @@ impl<'de> Deserialize<'de> for Task {
     }
 }
 
+/// A label, which is sent by other names than it is read by.
+#[derive(Drop, PartialEq, Eq)]
+pub struct Sticker {
+    /// The first line.
+    pub first_line: String,
+    /// Its sort.
+    pub sort_of: u8,
+    /// Where it goes.
+    pub way: Way,
+}
+
+/// The names of its fields.
+#[derive(Drop)]
+struct FieldsOfSticker;
+
+impl Names for FieldsOfSticker {
+    ghost names = { name "first-line" ∷ name "kind" ∷ name "to" ∷ [] };
+
+    #[tactic(auto, unfolding(serde_content::specs::Literals::name))]
+    fn names() -> &'static [&'static str] {
+        &["first-line", "kind", "to"]
+    }
+}
+
+/// The names of the fields that are sent.
+#[derive(Drop)]
+struct SentOfSticker;
+
+impl Names for SentOfSticker {
+    ghost names = { name "firstLine" ∷ name "sortOf" ∷ name "to" ∷ [] };
+
+    #[tactic(auto, unfolding(serde_content::specs::Literals::name))]
+    fn names() -> &'static [&'static str] {
+        &["firstLine", "sortOf", "to"]
+    }
+}
+
+type Field1OfSticker = ReadField<FieldsOfSticker, 0, String, Field2OfSticker>;
+
+type Field2OfSticker = ReadField<FieldsOfSticker, 1, u8, Field3OfSticker>;
+
+type Field3OfSticker = ReadField<FieldsOfSticker, 2, Way, OthersSkipped<FieldsOfSticker>>;
+
+impl<'de> ReadStruct<'de> for Sticker {
+    ghost name = { name "Sticker" };
+
+    ghost refusal = { row_then (name "first-line")
+        (⟦<String as Deserialize<'de>>⟧.refusal)
+        (row_then (name "kind") (⟦<u8 as Deserialize<'de>>⟧.refusal)
+        (row_then (name "to") (⟦<Way as Deserialize<'de>>⟧.refusal)
+        (others_left (name "first-line" ∷ name "kind" ∷ name "to" ∷ [])))) };
+
+    ghost gives = { λ z.
+        (RowThen (name "first-line") (⟦<String as Deserialize<'de>>⟧.gives) z.first_line
+        (RowThen (name "kind") (⟦<u8 as Deserialize<'de>>⟧.gives) z.sort_of
+        (RowThen (name "to") (⟦<Way as Deserialize<'de>>⟧.gives) z.way
+        NoOthers))) };
+
+    #[tactic(auto, unfolding(serde_content::specs::Literals::name))]
+    fn name() -> &'static str {
+        "Sticker"
+    }
+
+    fn read<'n: 'de>(alloc: Global, fields: FieldsByName<'de, 'n>) -> Result<Sticker> {
+        let row: Field1OfSticker = ReadFields::read(alloc, fields)?;
+        let ReadField(first_line, row, _) = row;
+        let ReadField(sort_of, row, _) = row;
+        let ReadField(way, _, _) = row;
+        Ok(Sticker {
+            first_line,
+            sort_of,
+            way,
+        })
+    }
+}
+
+impl Serialize for Sticker {
+    ghost use Rattle.check_derive.specs.contracts.attributes.WaySerialize.TheImpl.Laws as way_serialize;
+
+    ghost script = { λ p. struct_script (name "Sticker") 3
+        (field_first (name "firstLine") (⟦<String as Serialize>⟧.script p.first_line)
+        (field_first (name "sortOf") (⟦<u8 as Serialize>⟧.script p.sort_of)
+        (field_first (name "to") (⟦<Way as Serialize>⟧.script p.way)
+        end_script))) };
+
+    ghost lawful = { λ p readable. struct_lawful
+        (field_fits (leaf_lawful refl)
+        (field_fits (leaf_lawful refl)
+        (field_fits (way_serialize.lawful-law p.way readable)
+        struct_end_fits))) };
+
+    fn serialize<S: Serializer>(&self, alloc: Global, serializer: &mut S) -> Result<()> {
+        let row = SendEnd;
+        let row = SendField(SentOfSticker, 2, &self.way, row);
+        let row = SendField(SentOfSticker, 1, &self.sort_of, row);
+        let row = SendField(SentOfSticker, 0, &self.first_line, row);
+        let row = SendOpen(Call::Struct(name_sticker(), 3), row);
+        send_row(alloc, serializer, &row)
+    }
+}
+
+impl<'de> Deserialize<'de> for Sticker {
+    ghost refusal = { struct_refusal (name "Sticker") (read_by_name
+        (row_then (name "first-line") (⟦<String as Deserialize<'de>>⟧.refusal)
+        (row_then (name "kind") (⟦<u8 as Deserialize<'de>>⟧.refusal)
+        (row_then (name "to") (⟦<Way as Deserialize<'de>>⟧.refusal)
+        (others_left (name "first-line" ∷ name "kind" ∷ name "to" ∷ [])))))) };
+
+    ghost gives = { λ s p. StructGives (name "Sticker") (ReadByName
+        (RowThen (name "first-line") (⟦<String as Deserialize<'de>>⟧.gives) p.first_line
+        (RowThen (name "kind") (⟦<u8 as Deserialize<'de>>⟧.gives) p.sort_of
+        (RowThen (name "to") (⟦<Way as Deserialize<'de>>⟧.gives) p.way
+        NoOthers)))) s };
+
+    fn deserialize<'n: 'de>(alloc: Global, from: Deserializer<'de, 'n>) -> Result<Sticker> {
+        read_struct::<FieldsOfSticker, Self>(alloc, from)
+    }
+}
+
+/// A way.
+#[derive(Drop, PartialEq, Eq)]
+pub enum Way {
+    /// Upwards.
+    Up,
+    /// Downwards, so far.
+    Down(u8),
+}
+
+/// The names of its variants.
+#[derive(Drop)]
+struct NamesOfWay;
+
+impl Names for NamesOfWay {
+    ghost names = { name "north" ∷ name "Down" ∷ [] };
+
+    #[tactic(auto, unfolding(serde_content::specs::Literals::name))]
+    fn names() -> &'static [&'static str] {
+        &["north", "Down"]
+    }
+}
+
+impl Serialize for Way {
+    ghost script = { elim [
+      | way.Up ↦ unit_variant_script (name "Way") 0 (name "up")
+      | way.Down x1 ↦ newtype_variant_script (name "Way") 1 (name "Down")
+          (⟦<u8 as Serialize>⟧.script x1)
+    ] };
+
+    ghost lawful = { elim [
+      | way.Up ↦ λ readable. unit_variant_lawful
+      | way.Down x1 ↦ λ readable. newtype_variant_lawful (leaf_lawful refl)
+    ] };
+
+    fn serialize<S: Serializer>(&self, alloc: Global, serializer: &mut S) -> Result<()> {
+        match self {
+            Way::Up => Call::UnitVariant(name_way(), 0, name_up()).send(serializer),
+            Way::Down(x1) => Call::NewtypeVariant(name_way(), 1, name_down()).around(
+                x1, alloc, serializer,
+            ),
+        }
+    }
+}
+
+impl<'de> Variants<'de> for Way {
+    ghost name = { name "Way" };
+
+    ghost refusal = { variants (
+        (name "north", unit_variant_refusal)
+        ∷ (name "Down", newtype_variant_refusal (⟦<u8 as Deserialize<'de>>⟧.refusal))
+        ∷ []) };
+
+    ghost named = { elim [
+      | way.Up ↦ name "north"
+      | way.Down x1 ↦ name "Down"
+    ] };
+
+    ghost held = { elim [
+      | way.Up ↦ UnitVariantGives
+      | way.Down x1 ↦ NewtypeVariantGives (⟦<u8 as Deserialize<'de>>⟧.gives) x1
+    ] };
+
+    #[tactic(auto, unfolding(serde_content::specs::Literals::name))]
+    fn name() -> &'static str {
+        "Way"
+    }
+
+    fn names() -> &'static [&'static str] {
+        NamesOfWay::names()
+    }
+
+    fn read_variant<'n: 'de>(
+        alloc: Global,
+        tag: &str,
+        variant: VariantAccess<'de, 'n>,
+    ) -> Result<Way> {
+        match variant_index(tag, &NamesOfWay) {
+            Some(0) => {
+                variant.unit_variant(alloc)?;
+                Ok(Way::Up)
+            }
+            Some(1) => Ok(Way::Down(variant.newtype_variant(alloc)?)),
+            _ => Err(no_such_variant(alloc, tag, &NamesOfWay)),
+        }
+    }
+}
+
+impl<'de> Deserialize<'de> for Way {
+    ghost refusal = { enum_refusal (name "Way") ⟦<Way as Variants<'de>>⟧.refusal };
+
+    ghost gives = { λ s y. EnumGives (name "Way")
+        (⟦<Way as Variants<'de>>⟧.named y)
+        (⟦<Way as Variants<'de>>⟧.held y) s };
+
+    fn deserialize<'n: 'de>(alloc: Global, from: Deserializer<'de, 'n>) -> Result<Way> {
+        read_enum(alloc, from)
+    }
+}
+
 /// The name `Grade`.
 #[tactic(auto, unfolding(serde_content::specs::Literals::name))]
 fn name_grade() -> &'static str
@@ -1522,4 +1741,36 @@ fn name_task() -> &'static str
     ensures { result.now ≡ name "Task" }
 {
     "Task"
+}
+
+/// The name `Sticker`.
+#[tactic(auto, unfolding(serde_content::specs::Literals::name))]
+fn name_sticker() -> &'static str
+    ensures { result.now ≡ name "Sticker" }
+{
+    "Sticker"
+}
+
+/// The name `Way`.
+#[tactic(auto, unfolding(serde_content::specs::Literals::name))]
+fn name_way() -> &'static str
+    ensures { result.now ≡ name "Way" }
+{
+    "Way"
+}
+
+/// The name `up`.
+#[tactic(auto, unfolding(serde_content::specs::Literals::name))]
+fn name_up() -> &'static str
+    ensures { result.now ≡ name "up" }
+{
+    "up"
+}
+
+/// The name `Down`.
+#[tactic(auto, unfolding(serde_content::specs::Literals::name))]
+fn name_down() -> &'static str
+    ensures { result.now ≡ name "Down" }
+{
+    "Down"
 }
