@@ -193,7 +193,7 @@ def own_rules() -> Dict[str, str]:
     made["default_by_hand"] = (f"{ALL}\n#[serde(default)]\npub struct Tried {{ pub a: u8, pub b: String }}\n\nimpl Default for Tried {{"
                                " fn default() -> Self { Self { a: 5, b: String::new() } } }")
     made["two_ways"] = (f'{ALL}\n#[serde(rename_all(serialize = "camelCase", deserialize = "kebab-case"))]\npub struct Tried {{ pub first_name:'
-                        ' u8, #[serde(rename(deserialize = "other"))] pub second_name: String }}')
+                        ' u8, #[serde(rename(deserialize = "other"))] pub second_name: String }')
     made["two_ways_of_variants"] = (f'{ALL}\npub enum Tried {{ #[serde(rename(serialize = "a", deserialize = "b"))] A(u8),'
                                     ' #[serde(rename(serialize = "c"))] B { x: u8, y: i32 }, C }')
     made["raw"] = f"{ALL}\npub struct Tried {{ pub r#type: u8, pub r#match: i32 }}"

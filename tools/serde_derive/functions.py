@@ -9,7 +9,10 @@ from .literals import name_call, name_term
 from .tokens import Token, text_of
 from .types import DEFAULTS, NUMBERS, SIGNED, Type
 
-EMPTIES = re.compile(r"None|vec!\[\]|(?:\w+::)+(?:new|default)\(\)")
+# what makes the value that `Absent` gives, of any type, and of one that is named
+EMPTIES = r"(?:(?:std|core)::default::)?Default::default\(\)|(?:\w+::)*{}::default\(\)"
+MADE_EMPTY = {"Option": r"|None", "Vec": r"|vec!\[\]|Vec::new\(\)", "String": r"|String::new\(\)", "BTreeMap": r"|BTreeMap::new\(\)"}
+MOST_NAMED = 16  # how often a constant may name another
 NOT = re.compile(r"(?:(?:std|core)::ops::)?Not::not|bool::not")
 CASES = "\x04{}\x05"  # stands for what contracts call the cases of an enum, which are named later
 
@@ -74,12 +77,23 @@ class Functions:
         if opened < body and tokens[body].text == "{":
             parameters = [token.text for token, after in zip(tokens[opened:pairs[opened]], tokens[opened + 1:pairs[opened] + 1])
                           if after.text == ":" and token.sort == "name"]
-            self.named[owner + tokens[place + 1].text] = Function(owner[:-2], parameters, tokens[body + 1:pairs[body]])
+            path = owner + tokens[place + 1].text
+            twice = path in self.named
+            self.named[path] = Function(owner[:-2], parameters, tokens[body + 1:pairs[body]] * (not twice))
 
     def given(self, path: str, t: Type) -> Optional[Value]:
-        """What a function gives of this type, where its body is one value."""
+        """What a function gives of this type, where its body is one value; one that has two bodies gives none."""
         found = self.named.get(path)
-        return self.value(found.body, t, found.owner) if found and not found.parameters else None
+        if not found:
+            return self.empty(f"{path}()", t)
+        return self.value(found.body, t, found.owner) if not found.parameters else None
+
+    @staticmethod
+    def empty(text: str, t: Type) -> Optional[Value]:
+        """The value that `Absent` gives, where an expression makes that."""
+        if t.name in DEFAULTS and re.fullmatch(EMPTIES.format(t.name) + MADE_EMPTY.get(t.name, ""), text):
+            return EMPTY[t.name]
+        return None
 
     def fields_given(self, path: str) -> Dict[str, Tuple[List[Token], str]]:
         """By name what a function gives for the fields of a struct, where its body is one, each with the owner."""
@@ -95,11 +109,11 @@ class Functions:
 
     def value(self, tokens: List[Token], t: Type, owner: str) -> Optional[Value]:
         """The value that an expression is."""
-        text = "".join(token.text for token in tokens)
-        if len(tokens) == 1 and text in self.constants:
-            return self.value(self.constants[text], t, owner)
-        if EMPTIES.fullmatch(text) and t.name in DEFAULTS and (text == "None") <= (t.name == "Option"):
-            return EMPTY[t.name]
+        for _ in range(MOST_NAMED):
+            text = "".join(token.text for token in tokens)
+            tokens = self.constants.get(text, tokens) if len(tokens) == 1 else tokens
+        if self.empty(text, t):
+            return self.empty(text, t)
         if t.name == "bool" and text in ("true", "false"):
             return Value(f"x ≡ {text}", f"Ok({text})")
         if t.name in NUMBERS:
@@ -138,6 +152,8 @@ class Functions:
         if not re.fullmatch(r'"\.(?:to_owned|to_string|into)\(\)|String::from\("\)', shape):
             return None
         text = text_of(next(token for token in tokens if token.sort == "text"))
+        if not text:
+            return EMPTY["String"]
         if not re.fullmatch(r"[ !#-\[\]-~]+", text):
             return None
         return Value(f"string_bytes x ≡ {name_term(text)}", f"default_text(alloc, {name_call(text)})")
@@ -173,7 +189,7 @@ class Functions:
         if t.name == "String" and [token.sort for token in tokens] == ["text"]:
             tokens = tokens + [Token("sign", sign, 0) for sign in (".", "into", "(", ")")]
         value = self.given(text[:-2], t) if text.endswith("()") and text[:-2] in self.named else self.value(tokens, t, owner)
-        if EMPTIES.fullmatch(text) and t.name in NUMBERS:
+        if value == EMPTY.get(t.name) and t.name in NUMBERS:
             value = Value(DEFAULTS[t.name], "Ok(0)")
         if not value:
             return None
