@@ -607,3 +607,36 @@ struct B { x: u8 }
 #[derive(Serialize)]
 #[serde(transparent)]
 enum A { B(u8) }
+
+// 3: passed over: `fn f`
+// 4: passed over: `fn f`
+// 2: A.x: its default is not covered, as `f` is no function of this file that gives one value, such as `8080`, `"text".to_owned()`, `Vec::new()` or a variant of an enum of this file
+#[derive(Serialize, Deserialize)]
+struct A { #[serde(default = "f")] x: u8, #[serde(alias = "x")] y: u8 }
+#[cfg(unix)] fn f() -> u8 { 1 }
+#[cfg(windows)] fn f() -> u8 { 2 }
+
+// 2: B.Y: two are called `X`: give one another name
+#[derive(Serialize, Deserialize)]
+enum B { X, #[serde(alias = "X")] Y, #[serde(other)] Z(u8) }
+
+// 2: B.Z: serde's `other` is for one variant that holds nothing, and is read
+#[derive(Serialize, Deserialize)]
+enum B { X, #[serde(other)] Z(u8) }
+
+// 3: B.Z: `alias`, `other` and `skip_deserializing` are covered in enums that are tagged externally
+#[derive(Serialize, Deserialize)]
+#[serde(tag = "t")]
+enum B { X, #[serde(alias = "z")] Z }
+
+// 2: A.0: serde's `skip` is covered in fields with names: give them names
+#[derive(Serialize, Deserialize)]
+struct A(#[serde(skip)] u8, u8);
+
+// 2: A: what has no fields that are read is not covered: write it without fields
+#[derive(Serialize, Deserialize)]
+struct A { #[serde(skip)] x: u8 }
+
+// 2: A.x: serde's `rename` knows `serialize` and `deserialize`, each once
+#[derive(Serialize, Deserialize)]
+struct A { #[serde(rename(serialize = "a", serialize = "b"))] x: u8 }

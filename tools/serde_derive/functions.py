@@ -122,8 +122,8 @@ class Functions:
             return self.text(tokens)
         if t.name == "Option" and text.startswith("Some(") and text.endswith(")"):
             inner = self.value(tokens[2:-1], t.arguments[0], owner)
-            return inner and inner.fact.startswith("x ≡ ") and inner.code.startswith("Ok(") and Value(
-                f"x ≡ Some ({inner.fact[4:]})", f"Ok(Some{inner.code[2:]})") or None
+            told = inner and inner.fact.startswith("x ≡ ") and inner.code.startswith("Ok(")
+            return Value(f"x ≡ Some ({inner.fact[4:]})", f"Ok(Some{inner.code[2:]})") if told else None
         return self.variant(text, t, owner)
 
     def number(self, tokens: List[Token], t: Type) -> Optional[Value]:
