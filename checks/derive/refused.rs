@@ -640,3 +640,9 @@ struct A { #[serde(skip)] x: u8 }
 // 2: A.x: serde's `rename` knows `serialize` and `deserialize`, each once
 #[derive(Serialize, Deserialize)]
 struct A { #[serde(rename(serialize = "a", serialize = "b"))] x: u8 }
+
+// 2: A.b: what is flattened is not covered where a field of it has an `alias`, which Serde doesn't read there
+#[derive(Serialize, Deserialize)]
+struct A { #[serde(flatten)] b: B }
+#[derive(Serialize, Deserialize)]
+struct B { #[serde(alias = "y")] x: u8 }

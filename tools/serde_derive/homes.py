@@ -178,6 +178,8 @@ class Homes:
                           f" `deny_unknown_fields`{'' if 'flatten' in f.serde else ' and `flatten`'}")
         if "flatten" in f.serde and any(inside.skips for inside in part.data.leaves()):
             raise Refused(f.line, f"{what} is not covered where `skip_serializing_if` leaves out some of it: name the fields")
+        if "flatten" in f.serde and any(inside.aliases() for inside in part.data.leaves()):
+            raise Refused(f.line, f"{what} is not covered where a field of it has an `alias`, which Serde doesn't read there")
         if part.levels > DEEPEST_FLATTENED:
             raise Refused(f.line, f"{what} in more than {DEEPEST_FLATTENED} levels is not covered: name the fields")
         return part
