@@ -1,5 +1,5 @@
 -- What is read in place of a value that is left out equals it, where a function of the user's says when it is.
-use Rattle.std.specs.Prelude.{◌≡◌, ℕ, Bool, true, false, not, List, refl, string_bytes, nat_eq}
+use Rattle.std.specs.Prelude.{◌≡◌, ℕ, Bool, true, false, not, List, refl, string_bytes}
 use Rattle.std.specs.Bool.{beq}
 use Rattle.std.specs.Str.{bytes_eq}
 use Rattle.std.specs.String.{string_eq}
