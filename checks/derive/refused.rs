@@ -135,13 +135,6 @@ struct B {
     y: u8,
 }
 
-// 4: A.x: its default is not covered, as `one` is no function of this file that gives one value, such as `8080`, `"text".to_owned()`, `Vec::new()` or a variant of an enum of this file
-#[derive(Serialize)]
-struct A {
-    #[serde(default = "one")]
-    x: u8,
-}
-
 // 3: A: serde's `rename` by direction is covered on fields and variants: give one name
 #[derive(Serialize)]
 #[serde(rename(serialize = "B"))]

@@ -484,3 +484,9 @@ enum B { #[serde(alias = "x")] X, #[serde(other)] Y }
 #[derive(PartialEq, Eq, Serialize, Deserialize)]
 #[serde(rename_all(serialize = "camelCase", deserialize = "kebab-case"))]
 struct A { first_name: u8, #[serde(rename(deserialize = "b"))] second_name: u8 }
+
+#[derive(Serialize)]
+struct A {
+    #[serde(default = "one")]
+    x: u8,
+}

@@ -26,10 +26,10 @@ def name_item(item: Item, functions: Functions) -> None:
     check_tags(item)
     for v in item.variants:
         try:
-            name_fields(v.data, v.serde.get("rename_all", item.serde.get("rename_all_fields")), functions)
+            name_fields(v.data, v.serde.get("rename_all", item.serde.get("rename_all_fields")), functions, item.derives)
         except Refused as refused:
             raise refused.inside(v.name)
-    name_fields(item.data, case, functions)
+    name_fields(item.data, case, functions, item.derives)
 
 
 def check_aliases(data: Data) -> None:
@@ -80,8 +80,8 @@ def default_by(f: Field, value: Optional[Value], path: str) -> None:
     f.missing, f.made = value.fact, value.code * (value != EMPTY.get(f.type.name))
 
 
-def name_fields(data: Data, case: Optional[str], functions: Functions) -> None:
-    """Names the fields, and gives those that may be missing what stands for them."""
+def name_fields(data: Data, case: Optional[str], functions: Functions, derives: List[str]) -> None:
+    """Names the fields, and gives those that may be missing what stands for them, as far as a type that derives this asks."""
     for f in data.fields:
         if not (f.sent and f.read) and not data.named:
             raise Refused(f.line, "serde's `skip` is covered in fields with names: give them names", f.name)
@@ -89,11 +89,11 @@ def name_fields(data: Data, case: Optional[str], functions: Functions) -> None:
             raise Refused(f.line, "its default is not covered: it is in fields with names", f.name)
         if not f.read:
             f.serde.setdefault("default", "")
-        if f.serde.get("default"):
+        if f.serde.get("default") and "Deserialize" in derives:
             default_by(f, functions.given(f.serde["default"], f.type), f.serde["default"])
         elif not f.missing and ("default" in f.serde or (data.named and f.type.name == "Option")):
             f.missing = DEFAULTS.get(f.type.name, f"⟦<{f.type.rust()} as Absent>⟧.is_absent x")
-        if "skip_serializing_if" in f.serde:
+        if "skip_serializing_if" in f.serde and "Serialize" in derives:
             check_skipped(f, data, functions)
             f.skips = f.sent
     if data.fields and not any(f.read for f in data.fields):
