@@ -4,6 +4,7 @@ from dataclasses import dataclass, field, replace
 from itertools import combinations, islice
 from typing import Dict, List, NamedTuple, Optional, Tuple
 
+from .cases import pascal
 from .types import DEFAULTS, SIGNED, Type, in_term
 from .words import NO_PLACES
 
@@ -195,7 +196,9 @@ class Variant(Named):
         return any(f.type.name in SIGNED for f in self.data.fields)
 
     def held(self) -> Type:
-        """What a variant of values by place is read as, where its enum is untagged."""
+        """What a variant is read as, where its enum is untagged: one of values by name as a struct."""
+        if self.data.named:
+            return Type(pascal(self.owner))
         types = tuple(f.type for f in self.data.fields)
         return types[0] if len(types) == 1 else Type("tuple", types)
 
@@ -261,6 +264,8 @@ class Item(Named):
     def comes_back(self) -> bool:
         """Whether RoundTrip is written: not where what it holds doesn't come back. A value of an untagged enum may be
         read as another variant's, where two take trees of one class, and not each of a length of its own."""
+        if "untagged" in self.serde and any(v.data.named for v in self.variants):
+            return False
         held = [v.held() for v in self.variants] if "untagged" in self.serde else []
         kept = not self.lost() and not self.one_way() and not any(own.astray for own in self.owns())
         return self.derives_all() and kept and all(one.takes() for one in held) and all(

@@ -166,6 +166,9 @@ def lost(item: Item) -> str:
         if v.wire != v.known:
             return f"variant `{v.name}` is read by another name than it is sent by"
         return f"variant `{v.name}` is not {'read' if v.sent else 'sent'}"
+    for v in item.variants if "untagged" in item.serde else ():
+        if v.data.named:
+            return f"variant `{v.name}` of an untagged enum has values by name"
     for own in item.owns():
         if own.astray:
             return f"`{own.name}` does not come back"
