@@ -303,7 +303,7 @@ class Enums(Structs):
         tag, content = item.serde["tag"], item.serde["content"]
         if variant.data.style == "Unit":
             return tagged(item.wire, variant, tag)
-        return tagged(item.wire, variant, tag, (content, self.missing(replace(variant.data.fields[0], wire=content))))
+        return tagged(item.wire, variant, tag, (content, self.missing(replace(variant.data.fields[0], wire=content, known=content))))
 
     # Untagged.
 
