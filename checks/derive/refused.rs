@@ -766,7 +766,7 @@ struct A(super::super::B, self::other::B, B, Self::B, C, D);
 
 // 3: passed over: `fn f`
 // 4: passed over: `fn f`
-// 2: A.x: its default is not covered, as `f` is no function of this file that gives one value, such as `8080`, `"text".to_owned()`, `Vec::new()` or a variant of an enum of this file
+// 2: A.x: its default is not covered: write in this file a function `f` that gives one value, such as `8080`, `"text".to_owned()`, `Vec::new()` or a variant of an enum of this file
 // 2: A.y: two are called `x`: give one another name
 #[derive(Serialize, Deserialize)]
 struct A { #[serde(default = "f")] x: u8, #[serde(alias = "x")] y: u8 }
@@ -774,13 +774,29 @@ struct A { #[serde(default = "f")] x: u8, #[serde(alias = "x")] y: u8 }
 #[cfg(windows)] fn f() -> u8 { 2 }
 
 // 2: B.Y: two are called `X`: give one another name
-// 2: B.Z: serde's `other` is for one variant that holds nothing, and is read
+// 2: B.Z: serde's `other` is for one variant that holds nothing, and is read: delete it
 #[derive(Serialize, Deserialize)]
 enum B { X, #[serde(alias = "X")] Y, #[serde(other)] Z(u8) }
 
-// 2: B.Z: serde's `other` is for one variant that holds nothing, and is read
+// 2: B.Z: serde's `other` is for one variant that holds nothing, and is read: delete it
 #[derive(Serialize, Deserialize)]
 enum B { X, #[serde(other)] Z(u8) }
+
+// 3: A.X: a field is called as the tag, `t`: give one of them another name
+// 3: A.Y: `skip_deserializing` and names by direction are not covered beside a tag: delete them
+// 3: A.Z: `alias`, `other` and `skip_deserializing` are covered in enums that are tagged externally: delete them
+// 5: B: two fields are called `x`: give one another name by `rename`
+// 9: D.x: serde's `default` so is not covered: write `default` alone
+// 9: D.y: serde's `rename` stands twice
+#[derive(Serialize, Deserialize)]
+#[serde(tag = "t")]
+enum A { X { #[serde(alias = "t")] a: u8 }, Y { #[serde(skip_deserializing)] a: u8, b: u8 }, #[serde(skip_deserializing)] Z, #[serde(skip)] W(u8, u8) }
+#[derive(Serialize, Deserialize)]
+struct B { #[serde(flatten)] c: C, #[serde(rename(deserialize = "x"))] y: u8 }
+#[derive(Serialize, Deserialize)]
+struct C { x: u8 }
+#[derive(Serialize, Deserialize)]
+struct D { #[serde(default(x))] x: u8, #[serde(rename = "a", rename(serialize = "b"))] y: u8 }
 
 // 3: B.Z: `alias`, `other` and `skip_deserializing` are covered in enums that are tagged externally: delete them
 #[derive(Serialize, Deserialize)]

@@ -162,8 +162,9 @@ class Attributes(Cursor):
             into[key] = self.directions(line, key)
             return
         valued = self.eat("=")
-        if key != "default" and valued != (key in VALUED or key.startswith("rename")):
-            why = f"write `{key}` alone" if valued else f"write `{key} = \"..\"`"
+        needs = key in VALUED or key.startswith("rename")
+        if self.next.text == "(" or (key != "default" and valued != needs):
+            why = f"write `{key} = \"..\"`" if needs else f"write `{key}` alone"
             raise Refused(line, f"serde's `{key}` so is not covered: {why}")
         value = text_of(self.take()) if valued else ""
         if "\n" in value:

@@ -56,7 +56,7 @@ def check_tags(item: Item, variants: List[Tuple[str, Variant]]) -> Iterator[Refu
     others = [(where, v) for where, v in variants if "other" in v.serde]
     for where, v in others:
         if v.data.fields or len(others) > 1 or not v.read:
-            yield Refused(v.line, "serde's `other` is for one variant that holds nothing, and is read", where)
+            yield Refused(v.line, "serde's `other` is for one variant that holds nothing, and is read: delete it", where)
     if variants and not any(v.read for v in item.variants):
         yield Refused(item.line, "an enum of which no variant is read is not covered: have one read", item.name)
 
@@ -79,7 +79,7 @@ def default_by(where: str, f: Field, value: Optional[Value], path: str) -> Itera
     if value:
         f.missing, f.made = value.fact, value.code * (value != EMPTY.get(f.type.name))
     else:
-        yield Refused(f.line, f"its default is not covered, as `{path}` is no function of this file that gives one value, such as"
+        yield Refused(f.line, f"its default is not covered: write in this file a function `{path}` that gives one value, such as"
                       " `8080`, `\"text\".to_owned()`, `Vec::new()` or a variant of an enum of this file", where)
 
 

@@ -34,7 +34,7 @@ def check_tagged(item: Item) -> Iterator[Refused]:
         elif v.data.style == "Tuple" or (v.data.named and content):
             yield Refused(v.line, f"of an enum that is tagged {sort}, only variants with no values and with {held} are"
                           f" covered: hold {instead}", where)
-        elif not content and any(tag in (f.wire, f.known) for f in beside_tag(v)):
+        elif not content and any(tag in (f.wire, f.known, *f.aliases()) for f in beside_tag(v)):
             yield Refused(v.line, f"a field is called as the tag, `{tag}`: give one of them another name", where)
         elif v.wire != v.known or (not content and any(
                 f.sent and (f.wire != f.known or not f.read) for f in beside_tag(v))):
