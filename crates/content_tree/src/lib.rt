@@ -13,10 +13,10 @@
 //! |---|---|
 //! | values | [`Value`], [`Struct`], [`Enum`], [`Data`] |
 //! | numbers, texts, bytes in them | [`Number`], [`CowStr`], [`CowBytes`] |
-//! | values from numbers, texts and so on | `convert` |
+//! | values from numbers, vectors and so on | `convert`, `parts` |
 //! | `get`, `as_str` and so on | `lookup` |
 //! | paths | `pointer` |
-//! | `display` | [`ValueDisplay`] |
+//! | `display`, `pretty` | [`ValueDisplay`], [`PrettyDisplay`] |
 //! | `try_clone`; `into_owned` | `copy_value`, `copy_found`, `copy_error`; `owned` |
 //! | `==` and the order | `compare`, [`laws`] |
 //! | errors; what they show | [`Error`], [`ErrorKind`]; [`Found`], [`Expected`] |
@@ -44,7 +44,7 @@ mod unexpected;
 mod value;
 
 pub use cow::{CowBytes, CowStr};
-pub use display::ValueDisplay;
+pub use display::{PrettyDisplay, ValueDisplay};
 pub use error::{Error, ErrorKind, Result};
 pub use expected::{DataType, Expected};
 pub use found::{Found, FoundData};
