@@ -8,3 +8,4 @@ pub mod Lookups
 pub mod Paths
 pub mod Pointers
 pub mod Places
+pub mod Parts

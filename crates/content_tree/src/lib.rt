@@ -38,6 +38,7 @@ pub mod laws;
 mod lookup;
 mod number;
 mod owned;
+mod parts;
 mod pointer;
 mod quote;
 mod unexpected;
