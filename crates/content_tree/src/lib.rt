@@ -16,6 +16,7 @@
 //! | values from numbers, vectors and so on | `convert`, `parts` |
 //! | `get`, `as_str` and so on | `lookup` |
 //! | paths | `pointer` |
+//! | `insert`, `remove` and so on | `edits` |
 //! | `display`, `pretty` | [`ValueDisplay`], [`PrettyDisplay`] |
 //! | `try_clone`; `into_owned` | `copy_value`, `copy_found`, `copy_error`; `owned` |
 //! | `==` and the order | `compare`, [`laws`] |
@@ -30,6 +31,7 @@ mod copy_found;
 mod copy_value;
 mod cow;
 mod display;
+mod edits;
 mod error;
 mod expected;
 mod found;
@@ -46,6 +48,7 @@ mod value;
 
 pub use cow::{CowBytes, CowStr};
 pub use display::{PrettyDisplay, ValueDisplay};
+pub use edits::InsertError;
 pub use error::{Error, ErrorKind, Result};
 pub use expected::{DataType, Expected};
 pub use found::{Found, FoundData};

@@ -28,7 +28,7 @@ pub use content_build::Serializer;
 pub use content_de::{Deserializer, ValueVisitor};
 pub use content_tree::{
     CowBytes, CowStr, Data, DataType, Enum, Error, ErrorKind, Expected, Found, FoundData,
-    NamedData, NamedEnum, NamedStruct, NamedValue, Number, PrettyDisplay, Result,
+    InsertError, NamedData, NamedEnum, NamedStruct, NamedValue, Number, PrettyDisplay, Result,
     Struct, Unexpected, Value, ValueDisplay,
 };
 pub use round::{RoundTrip, round_trip};
