@@ -17,6 +17,8 @@ MODULES = {**{name: ["primitive"] for name in LEAVES}, "String": ["string"], "Op
            "Box": ["boxed"], "BTreeMap": ["collections", "collections::btree_map"]}
 MOST_PARTS = 500
 DEEPEST_FLATTENED = 16
+# Rattle takes types of up to 64 levels, of which what is sent and read takes some
+DEEPEST_HELD = 56
 
 
 def extent(t: Type) -> Tuple[int, int]:
@@ -53,6 +55,7 @@ class Homes:
         self.looked_up: Set[str] = set()
         self.aliases: Dict[str, Type] = {}
         self.opened: Set[str] = set()
+        self.levels: Dict[str, int] = {}
         self.declared: Dict[str, Tuple[str, str]] = {}
         for item in file.items:
             self.called(item.name, self.here, item.name)
@@ -192,8 +195,19 @@ class Homes:
                 except ValueError as reason:
                     self.refuse(f.line, where, str(reason))
                     f.type = Type("()")
+            self.levels[item.name] = 1 + max((self.held(f.type) for f in item.fields()), default=0)
+            if self.levels[item.name] > DEEPEST_HELD:
+                self.levels[item.name] = 0
+                self.refuse(item.line, item.name, f"what holds others in more than {DEEPEST_HELD} levels is not covered: put"
+                            " one into a Box")
             if item.covered:
                 self.inline(item)
+
+    def held(self, t: Type) -> int:
+        """In how many levels a type holds others in itself; what is elsewhere in memory is not in it."""
+        if t.name in ("Vec", "Box", "BTreeMap"):
+            return 1
+        return self.levels.get(t.name, 0) + bool(t.arguments) + max(map(self.held, t.arguments), default=0)
 
     def inline(self, item: Item) -> None:
         """Takes in what is flattened and what stands beside a tag."""
