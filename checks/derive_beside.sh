@@ -3,9 +3,9 @@
 # of checks/serde_texts/more.rs and checks/derive_beside/others.rs, whole and damaged, reads each as its type by what Serde
 # derives over the Rust crate serde-content 0.1.2, whose source is in the folder CRATE, and by what tools/derive writes,
 # and sends each value again. It prints how many answers are the same, how many differ as a line of docs/DIFFERENCES.md
-# says, for each line, and how many differ otherwise: the first ten of these, and status 1. It works in the folder ROOM,
-# which it makes and keeps. It is outside the gate, proves nothing, needs what checks/beside.sh does, and takes three
-# minutes.
+# says, for each line, and how many differ otherwise: the first ten of these, and status 1, as where no case falls under
+# a line. It works in the folder ROOM, which it makes and keeps. It is outside the gate, proves nothing, needs what
+# checks/beside.sh does, and takes three minutes.
 set -euo pipefail
 top=$(cd "$(dirname "$0")/.." && pwd)
 parts=$top/checks/derive_beside

@@ -87,6 +87,17 @@ def large() -> Iterator[Tuple[str, int, str]]:
     yield "100,000 lines of functions", 0, f"{derive}struct A;\n" + "fn f() {\n    g(1);\n}\n\n" * 25000
 
 
+def too_many() -> Iterator[str]:
+    """What is said otherwise than it should be of more fields than are covered, in every sort of brackets."""
+    wanted = "more than 250 fields are not covered: hold some in a struct of their own"
+    named, by_place = ", ".join(f"x{i}: u8" for i in range(251)), ", ".join(["u8"] * 251)
+    for where, declared in (("A", f"struct A {{ {named} }}"), ("A", f"struct A({by_place});"),
+                            ("A.X", f"enum A {{ X {{ {named} }} }}"), ("A.X", f"enum A {{ X({by_place}) }}")):
+        got = outcome(f"#[derive(Serialize)]\n{declared}\n")[:2]
+        if got != (2, [f"2: {where}: {wanted}"]):
+            yield f"{declared[:20]}: wanted {wanted}\nfound {got}"
+
+
 def slow_or_wrong() -> Iterator[str]:
     """Which large files end otherwise than they should, or in more than 20 seconds."""
     for what, status, source in large():
@@ -115,7 +126,7 @@ def commands(room: Path) -> Iterator[str]:
     (room / "latin.rs").write_bytes(b"//! caf\xe9\n")
     out.write_text("what stood there\n")
     tries = [
-        (["bad.rs", "-o", "out.rt"], 2, "bad.rs:2: A.0: floats are not covered", "what stood there\n"),
+        (["bad.rs", "-o", "out.rt"], 2, "bad.rs:2: A.0: floats are not covered: hold a whole number of a smaller unit, or a String", "what stood there\n"),
         (["good.rs", "-o", "nowhere/out.rt"], 1, "nowhere/out.rt: can't be written: No such file or directory", None),
         (["none.rs"], 1, "none.rs: can't be read: No such file or directory", None),
         (["."], 1, ".: can't be read: Is a directory", None),
@@ -161,7 +172,7 @@ def main() -> int:
         for wanted, source in blocks(name):
             count += 1
             wrong += [f"{name}: {fault}\n{source}" for fault in faults(status, wanted, source, written)]
-    wrong += slow_or_wrong()
+    wrong += [*too_many(), *slow_or_wrong()]
     with tempfile.TemporaryDirectory() as room:
         wrong += commands(Path(room))
     with tempfile.TemporaryDirectory() as room:

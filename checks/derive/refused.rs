@@ -1,6 +1,6 @@
 //! Declarations that tools/derive refuses, each below the lines that it answers.
 
-// 3: A.x: floats are not covered
+// 3: A.x: floats are not covered: hold a whole number of a smaller unit, or a String
 #[derive(Serialize)]
 struct A {
     x: Vec<f64>,
@@ -47,7 +47,7 @@ struct A {
 #[derive(Serialize)]
 struct A(#[serde(skip_serializing_if = "Option::is_none")] Option<u8>);
 
-// 2: A: serde's `skip_serializing_if` is not covered beside `flatten`: name the fields
+// 6: A.x: serde's `skip_serializing_if` is not covered beside `flatten`: name the fields
 #[derive(Serialize)]
 struct A {
     #[serde(flatten)]
@@ -79,21 +79,21 @@ enum A {
     X,
 }
 
-// 4: A.X: of an enum that is tagged internally, only variants with no values and with a struct, or values by name, are covered
+// 4: A.X: of an enum that is tagged internally, only variants with no values and with a struct, or values by name, are covered: hold a struct of them
 #[derive(Serialize)]
 #[serde(tag = "sort")]
 enum A {
     X(u8, u8),
 }
 
-// 4: A.X: what stands beside a tag is covered where it is a struct of this file with named fields and without `deny_unknown_fields` and `flatten`
+// 4: A.X: what stands beside a tag is covered where it is a struct of this file with named fields and without `deny_unknown_fields` and `flatten`: hold such a struct
 #[derive(Serialize)]
 #[serde(tag = "sort")]
 enum A {
     X(u8),
 }
 
-// 4: A.x: what is flattened is covered where it is a struct of this file with named fields and without `deny_unknown_fields`
+// 4: A.x: what is flattened is covered where it is a struct of this file with named fields and without `deny_unknown_fields`: hold such a struct, or delete `flatten`
 #[derive(Serialize)]
 struct A {
     #[serde(flatten)]
@@ -124,7 +124,7 @@ struct B {
     y: u8,
 }
 
-// 2: A: such attributes don't go together: `flatten` stands alone
+// 4: A.x: such attributes don't go together: `flatten` stands alone: delete the others
 #[derive(Serialize)]
 struct A {
     #[serde(flatten, default)]
@@ -135,14 +135,14 @@ struct B {
     y: u8,
 }
 
-// 3: A.x: serde's `default` so is not covered: a function of your own has no contract here
+// 3: A.x: serde's `default` so is not covered: write `default` alone
 #[derive(Serialize)]
 struct A {
     #[serde(default = "one")]
     x: u8,
 }
 
-// 2: A: serde's `rename` by direction is not covered: one name goes both ways
+// 2: A: serde's `rename` by direction is not covered: write one name for both, `rename = ".."`
 #[derive(Serialize)]
 #[serde(rename(serialize = "B"))]
 struct A(u8);
@@ -168,7 +168,7 @@ struct A {
     y: u8,
 }
 
-// 2: A.0: the type `B` is not covered; one of your own is declared in this file, or named by its full path
+// 2: A.0: the type `B` is not covered: declare it in this file, or name it by its full path
 #[derive(Serialize)]
 struct A(B);
 
@@ -178,11 +178,11 @@ struct A(u8);
 #[derive(Serialize, Deserialize, PartialEq, Eq)]
 struct B(A);
 
-// 2: A.0: a map with keys of type `Vec<u8>` is not covered
+// 2: A.0: a map with keys of type `Vec<u8>` is not covered: hold a Vec of pairs, or put the key into a struct that derives Ord
 #[derive(Serialize)]
 struct A(BTreeMap<Vec<u8>, u8>);
 
-// 2: A.0: a HashMap is not covered: a BTreeMap is
+// 2: A.0: a HashMap is not covered: hold a BTreeMap
 #[derive(Serialize)]
 struct A(HashMap<u8, u8>);
 
@@ -190,7 +190,7 @@ struct A(HashMap<u8, u8>);
 #[derive(Serialize)]
 struct A {}
 
-// 4: A.x: its default is not covered: those of numbers, bool, String, Option, Vec, BTreeMap and of your own types that derive Default are
+// 4: A.x: its default is not covered: hold a number, bool, String, Option, Vec, BTreeMap or a type of your own that derives Default
 #[derive(Deserialize)]
 struct A {
     #[serde(default)]
@@ -212,16 +212,16 @@ struct A {
 // 1: no struct or enum here derives Serialize or Deserialize: derive one of them
 struct A(u8);
 
-// 3: A.x: floats are not covered
-// 4: A.y: serde's `skip` on a field is not covered: what is left out would not come back
+// 3: A.x: floats are not covered: hold a whole number of a smaller unit, or a String
+// 4: A.y: serde's `skip` on a field is not covered: what is left out would not come back: keep it outside of this type
 // 6: A.z: `#[cfg(unix)]` is not covered, as the module is written once for all: delete it, or move what it is about to a file of its own
 // 7: A.z: a type that begins with `&` is not covered: hold the value itself, as String for &str
 // 9: A.größe: the name `größe` is not covered, as Rattle takes names in ASCII alone: give it another
 // 13: B.X.2: a type that begins with `[` is not covered: write a Vec, or a tuple of up to four
-// 13: B.X.0: floats are not covered
+// 13: B.X.0: floats are not covered: hold a whole number of a smaller unit, or a String
 // 14: B.Y.a: lifetimes are not covered: hold the value itself, as String for &str
 // 14: B.Y.b: a type that begins with `dyn` is not covered: write an enum of the types that it may be
-// 15: B.Z.0: the type `Duration` is not covered; one of your own is declared in this file, or named by its full path
+// 15: B.Z.0: the type `Duration` is not covered: declare it in this file, or name it by its full path
 #[derive(Serialize)]
 struct A {
     x: f32,
@@ -245,7 +245,7 @@ struct C(A, B);
 // 4: A.x: the type `std::time::Duration` is not covered: hold what it is made of, as a number or a String
 // 4: A.y: the type `std::path::PathBuf` is not covered: hold what it is made of, as a number or a String
 // 4: A.z: the type `serde::Value` is not covered: hold what it is made of, as a number or a String
-// 4: A.w: a HashMap is not covered: a BTreeMap is
+// 4: A.w: a HashMap is not covered: hold a BTreeMap
 use std::time::Duration;
 use serde::Value;
 #[derive(Serialize)]
@@ -272,7 +272,7 @@ struct A {
 // 1: passed over: `type List<T> = Vec<T>`
 // 2: passed over: `type Loop = Option<Loop>`, whose type is written in its place
 // 5: A.x: `List` is an alias that is not covered (line 1): write the type that it stands for
-// 6: A.y: the alias `Loop` stands for itself
+// 6: A.y: the alias `Loop` stands for itself: write the type that it should stand for
 type List<T> = Vec<T>;
 type Loop = Option<Loop>;
 #[derive(Serialize)]
@@ -394,8 +394,8 @@ struct A(u8);
 #[cfg(feature = "x")]
 struct B(u8);
 
-// 2: A: serde's `remote` on a container is not covered
-// 3: A: serde's `bound` on a container is not covered
+// 2: A: serde's `remote` on a container is not covered: only your own types are sent: declare one like it, and convert it by hand
+// 3: A: serde's `bound` on a container is not covered: there are no type parameters: delete it
 #[derive(Serialize)]
 #[serde(remote = "B")]
 #[serde(bound = "x")]
@@ -404,18 +404,19 @@ struct A(u8);
 // 2: A.1: the name `Größe` is not covered, as Rattle takes names in ASCII alone: give it another
 // 2: A.2: a type that begins with `<` is not covered: write the type itself
 // 2: A.3: a type that begins with `*` is not covered: hold the value itself
-// 2: A.4: a type that begins with `impl` is not covered
-// 2: A.5: a type that begins with `!` is not covered
+// 2: A.4: a type that begins with `impl` is not covered: write the type itself
+// 2: A.5: a type that begins with `!` is not covered: delete what holds it, as no value does
 // 2: A.6: a type with `::` in it is not covered: write the type itself
 // 2: A.7: a type with `!` in it is not covered: write the type itself
-// 2: A.8: a type that begins with `3` is not covered
-// 2: A.9: values as arguments of a type are not covered
+// 2: A.8: values as arguments of a type are not covered: write a type for each that you use
+// 2: A.9: values as arguments of a type are not covered: write a type for each that you use
 // 2: A.10: lifetimes are not covered: hold the value itself, as String for &str
 #[derive(Serialize)]
 struct A(u8, Größe, <u8 as X>::Y, *const u8, impl X, !, Vec<u8>::Item, m!(x), A<3>, A<{ 3 }>, Vec<'a>);
 
-// 3: A.X: of an enum that is tagged adjacently, only variants with no values and with one value are covered
-// 6: B.X: of an untagged enum, only one to four values by place are covered
+// 3: A.X: of an enum that is tagged adjacently, only variants with no values and with one value are covered: hold a tuple or a struct of them
+// 6: B.X: of an untagged enum, only variants with one to four values by place are covered: hold `()`
+// 6: B.Y: of an untagged enum, only variants with one to four values by place are covered: hold a struct of them
 #[derive(Serialize, Deserialize)]
 #[serde(tag = "t", content = "c")]
 enum A { X(u8, u8) }
@@ -548,8 +549,8 @@ struct A { x: u8 }
 #[serde(default)]
 struct A(u8, u8);
 
-// 2: A.b: its default is not covered: `B` derives no Default, or holds what has none here
-// 6: C.x: its default is not covered: those of numbers, bool, String, Option, Vec, BTreeMap and of your own types that derive Default are
+// 2: A.b: its default is not covered: `B` derives no Default, or holds what has none here: hold an Option
+// 6: C.x: its default is not covered: hold a number, bool, String, Option, Vec, BTreeMap or a type of your own that derives Default
 #[derive(Deserialize)]
 struct A { #[serde(default)] b: B }
 #[derive(Deserialize)]
@@ -557,7 +558,7 @@ struct B { x: u8 }
 #[derive(Deserialize)]
 struct C { #[serde(default)] x: (u8, u8) }
 
-// 3: A: such attributes don't go together: `transparent` and `rename`
+// 3: A: such attributes don't go together: `transparent` and `rename`: delete one of them
 #[derive(Serialize)]
 #[serde(transparent, rename = "B")]
 struct A(u8);
@@ -567,25 +568,25 @@ struct A(u8);
 #[serde(transparent)]
 struct A(u8, u8);
 
-// 3: A: serde's `default` on a field is not covered where its struct is `transparent`: delete it
+// 3: A.x: serde's `default` on a field is not covered where its struct is `transparent`: delete it
 #[derive(Serialize)]
 #[serde(transparent)]
 struct A { #[serde(default)] x: u8 }
 
-// 5: A.b: what is flattened is covered where it is a struct of this file with named fields and without `deny_unknown_fields`
+// 5: A.b: what is flattened is covered where it is a struct of this file with named fields and without `deny_unknown_fields`: hold such a struct, or delete `flatten`
 #[derive(Serialize)]
 #[serde(transparent)]
 struct B { x: u8 }
 #[derive(Serialize)]
 struct A { #[serde(flatten)] b: B }
 
-// 4: B.a: `A` does not come back, as `x` may be left out: give that `default` too
+// 4: B.a: delete Eq here, as `A` does not come back: `x` may be left out, and is not read where it is missing: give it `default` too
 #[derive(PartialEq, Eq, Serialize, Deserialize)]
 struct A { #[serde(skip_serializing_if = "Vec::is_empty")] x: Vec<u8> }
 #[derive(PartialEq, Eq, Serialize, Deserialize)]
 struct B { a: A }
 
-// 4: B.A.0: `A` does not come back, as `x` may be left out: give that `default` too
+// 4: B.A.0: delete Eq here, as `A` does not come back: `x` may be left out, and is not read where it is missing: give it `default` too
 #[derive(PartialEq, Eq, Serialize, Deserialize)]
 struct A { #[serde(skip_serializing_if = "String::is_empty")] x: String, y: u8 }
 #[derive(PartialEq, Eq, Serialize, Deserialize)]
@@ -597,13 +598,13 @@ struct A { b: B, c: char }
 #[derive(Default, Serialize, Deserialize)]
 struct B { x: String }
 
-// 2: A.b: its default is not covered: `B` derives no Default, or holds what has none here
+// 2: A.b: its default is not covered: `B` derives no Default, or holds what has none here: hold an Option
 #[derive(Deserialize)]
 struct A { #[serde(default)] b: B }
 #[derive(Default, Deserialize)]
 struct B { x: char, y: (u8, u8) }
 
-// 5: C.A: what stands beside a tag is covered where it is a struct of this file with named fields and without `deny_unknown_fields` and `flatten`
+// 5: C.A: what stands beside a tag is covered where it is a struct of this file with named fields and without `deny_unknown_fields` and `flatten`: hold such a struct
 #[derive(Serialize)]
 #[serde(transparent)]
 struct A { b: B }
@@ -617,10 +618,122 @@ struct B { x: u8 }
 #[serde(transparent)]
 enum A { B(u8) }
 
+// 3: A: `derive(Copy)` needs Clone: derive that too
+// 5: A.X: of an untagged enum, only variants with one to four values by place are covered: hold `()`
+// 6: A.Y: of an untagged enum, only variants with one to four values by place are covered: hold a struct of them
+// 7: A.Z.0: floats are not covered: hold a whole number of a smaller unit, or a String
+// 11: B: the tag and the content are both called `t`: give one of them another name
+// 13: B.X: of an enum that is tagged adjacently, only variants with no values and with one value are covered: hold a tuple or a struct of them
+// 14: B.Y: of an enum that is tagged adjacently, only variants with no values and with one value are covered: hold a tuple or a struct of them
+// 16: C.U.0: a HashMap is not covered: hold a BTreeMap
+// 16: C.Z: what stands beside a tag is covered where it is a struct of this file with named fields and without `deny_unknown_fields` and `flatten`: hold such a struct
+// 16: C.V: what stands beside a tag is covered where it is a struct of this file with named fields and without `deny_unknown_fields` and `flatten`: hold such a struct
+// 16: C.X: a field is called as the tag, `t`: give one of them another name
+// 16: C.Y: a field is called as the tag, `t`: give one of them another name
+// 16: C.W: of an enum that is tagged internally, only variants with no values and with a struct, or values by name, are covered: hold a struct of them
+// 18: D.T.x: its default is not covered: hold a number, bool, String, Option, Vec, BTreeMap or a type of your own that derives Default
+#[derive(Serialize, Copy)]
+#[serde(untagged)]
+enum A {
+    W(u8),
+    X,
+    Y { x: u8 },
+    Z(f64),
+}
+#[derive(Serialize)]
+#[serde(tag = "t", content = "t")]
+enum B {
+    W(u8),
+    X(u8, u8),
+    Y { x: u8 },
+}
+#[derive(Serialize)] #[serde(tag = "t")] enum C { X { t: u8 }, Y(E), Z(u8), V(A), U(HashMap<u8, u8>), W(u8, u8) }
+#[derive(Deserialize)]
+enum D { T { #[serde(default)] x: char } }
+#[derive(Serialize)]
+struct E { t: u8 }
+
+// 3: A.x: the name `\xfc` is not covered: printable ASCII but " and \ is
+// 4: A.y: serde's `skip_serializing_if` so is not covered: Option::is_none, String::is_empty, Vec::is_empty, BTreeMap::is_empty are, each on a field of its type
+// 5: A.z: two are called `y`: give one another name by `rename`
+// 6: A.u: two are called `y`: give one another name by `rename`
+// 7: A.v: a type that begins with `[` is not covered: write a Vec, or a tuple of up to four
+// 10: B: two fields are called `p`: give one another name by `rename`
+// 10: B: two fields are called `q`: give one another name by `rename`
+// 14: D.c: what is flattened is covered where it is a struct of this file with named fields and without `deny_unknown_fields`: hold such a struct, or delete `flatten`
+// 14: D.t: what is flattened is covered where it is a struct of this file with named fields and without `deny_unknown_fields`: hold such a struct, or delete `flatten`
+// 16: E.X: two are called `Y`: give one another name by `rename`
+// 16: E.X.1: serde's `default` is covered in fields with names: give them names
+// 16: E.Z.a: two are called `b`: give one another name by `rename`
+// 16: E.U.0: serde's `skip_serializing_if` is covered in fields with names: give them names
+#[derive(Serialize)]
+struct A {
+    #[serde(rename = "ü")] x: u8,
+    #[serde(skip_serializing_if = "is_zero")] y: u8,
+    #[serde(rename = "y")] z: u8,
+    #[serde(rename = "y")] u: u8,
+    #[serde(skip_serializing_if = "is_zero")] v: [u8; 2],
+}
+#[derive(Serialize)]
+struct B { #[serde(flatten)] c: C, p: u8, q: u8 }
+#[derive(Serialize)]
+struct C { p: u8, q: u8 }
+#[derive(Serialize)]
+struct D { #[serde(flatten)] c: Option<C>, #[serde(flatten)] a: A, #[serde(flatten)] t: (u8, u8) }
+#[derive(Serialize)]
+enum E { Y, #[serde(rename = "Y")] X(u8, #[serde(default)] u8), Z { b: u8, #[serde(rename = "b")] a: u8 }, U(#[serde(skip_serializing_if = "f")] u8) }
+
+// 3: A: serde's `try_from` on a container is not covered: a conversion has no contract here: write the impls by hand
+// 4: A: serde's `crate` on a container is not covered: what is written uses `serde_content`: delete it
+// 5: A: serde's `expecting` on a container is not covered: refusals have a text of their own: delete it
+// 6: A: serde's `rename_all` so is not covered: write `rename_all = ".."`
+// 7: A: serde's `deny_unknown_fields` so is not covered: write `deny_unknown_fields` alone
+// 9: A.x: serde's `deserialize_with` on a field is not covered: a function of your own has no contract here: hold a struct around the value, and write its impls by hand
+// 10: A.y: serde's `borrow` on a field is not covered: values are owned: delete it
+// 10: A.y: serde's `rename_all` on a field is not covered: it is for a container or a variant
+// 11: A.z: serde's `renam` on a field is not covered: delete it, or write the impls by hand
+// 12: A.u: a type that begins with `fn` is not covered: write an enum of the functions that it may be
+// 13: A.v: a type that begins with `for` is not covered: write an enum of the functions that it may be
+// 14: A.w: `K` does not derive PartialOrd and Ord, as the keys of a map do: derive them too
+// 18: B: an enum of no variants is not covered, as no value of it is sent or read: delete it
+// 22: D.a: delete Eq here, as `C` does not come back: a value of `Y` may be read as `X`: tag the enum, or hold tuples of different lengths
+#[derive(Serialize, Deserialize)]
+#[rustfmt::skip]
+#[serde(try_from = "B")]
+#[serde(crate = "serde")]
+#[serde(expecting = "an A")]
+#[serde(rename_all)]
+#[serde(deny_unknown_fields = "x")]
+struct A {
+    #[serde(deserialize_with = "f")] x: u8,
+    #[serde(borrow)] #[serde(rename_all = "lowercase")] y: String,
+    #[serde(renam = "x")] z: u8,
+    u: fn(u8) -> u8,
+    v: Option<for<'a> fn(&'a u8)>,
+    w: BTreeMap<K, u8>,
+}
+#[derive(Serialize, Deserialize)]
+struct K(u8);
+#[derive(Serialize, Deserialize)] enum B {}
+#[derive(PartialEq, Eq, Serialize, Deserialize)]
+#[serde(untagged)] enum C { X(u8), Y(u16) }
+#[derive(PartialEq, Eq, Serialize, Deserialize)]
+struct D { a: C }
+
+// 2: A: serde's `flatten` is covered in structs with named fields and without `deny_unknown_fields`
+// 4: C: serde's `flatten` is covered in structs with named fields and without `deny_unknown_fields`
+// 4: C.X.b: what is flattened is covered where it is a struct of this file with named fields and without `deny_unknown_fields`: hold such a struct, or delete `flatten`
+#[derive(Serialize)]
+struct A(u8, u8, #[serde(flatten)] B);
+#[derive(Serialize)]
+enum C { X { #[serde(flatten)] b: u8 } }
+#[derive(Serialize)]
+struct B { x: u8 }
+
 // 2: A: `#[cfg(x)]` is not covered, as the module is written once for all: delete it, or move what it is about to a file of its own
-// 3: A.0: floats are not covered
+// 3: A.0: floats are not covered: hold a whole number of a smaller unit, or a String
 // 5: A: `#[cfg(not(x))]` is not covered, as the module is written once for all: delete it, or move what it is about to a file of its own
-// 6: A.x: a HashMap is not covered: a BTreeMap is
+// 6: A.x: a HashMap is not covered: hold a BTreeMap
 #[derive(Serialize)]
 #[cfg(x)]
 struct A(f32);

@@ -316,6 +316,8 @@ enum C { X(u8), #[default] Y }
 struct A { x: Vec<u8> }
 
 // 2: no RoundTrip is written for `A`: `x` may be left out, and is not read where it is missing: give it `default` too
+// 4: no RoundTrip is written for `B`: `A`, which it holds, does not come back
+// 6: no RoundTrip is written for `D`: `A`, which it holds, does not come back
 // + impl<'de> Deserialize<'de> for B
 // - RoundTrip
 #[derive(PartialEq, Eq, Serialize, Deserialize)]
@@ -325,13 +327,23 @@ struct A { #[serde(skip_serializing_if = "Vec::is_empty")] x: Vec<u8> }
 #[derive(PartialEq, Eq, Serialize, Deserialize)]
 #[serde(untagged)] enum D { A(BTreeMap<String, A>), C(u8) }
 
+// 2: no RoundTrip is written for `A`: a value of `Y` may be read as `X`: tag the enum, or hold tuples of different lengths
+// 4: no RoundTrip is written for `B`: `A`, which it holds, does not come back
+// 6: no RoundTrip is written for `C`: a value of `Z` may be read as `Y`: tag the enum, or hold tuples of different lengths
+// 8: no RoundTrip is written for `D`: which values `Option<u8>` in `X` takes is not known: hold a struct of this file with named fields, or a type of std's but Option
 // + impl<'de> Deserialize<'de> for B
 // - RoundTrip
 #[derive(PartialEq, Eq, Serialize, Deserialize)]
 #[serde(untagged)] enum A { X(u8), Y(u16) }
 #[derive(PartialEq, Eq, Serialize, Deserialize)]
 #[serde(untagged)] enum B { X(Vec<A>), Y(u8) }
+#[derive(PartialEq, Eq, Serialize, Deserialize)]
+#[serde(untagged)] enum C { X(String), Y(u8, u8), Z(bool, char) }
+#[derive(PartialEq, Eq, Serialize, Deserialize)]
+#[serde(untagged)] enum D { X(Option<u8>) }
 
+// 5: no RoundTrip is written for `B`: which values `A` in `X` takes is not known: hold a struct of this file with named fields, or a type of std's but Option
+// 7: no RoundTrip is written for `C`: which values `A` in `X` takes is not known: hold a struct of this file with named fields, or a type of std's but Option
 // + impl<'de> RoundTrip<'de> for A
 // - RoundTrip<'de> for B
 // - RoundTrip<'de> for C

@@ -1,6 +1,6 @@
 """The cases: types, flags and trees, all made from a seed. A quarter of the trees are whole values of the type, as they
-are sent, or with structs as maps, entries in another order, numbers of another kind or no field where one may be missing. The others are damaged in one to
-three places."""
+are sent, or with structs as maps, entries in another order, numbers of another kind or no field where one may be missing.
+The others are damaged in one to three places."""
 import random
 import string
 
@@ -87,7 +87,10 @@ class Maker:
         return "struct", holder, ("Fields", ((item.serde["tag"], ("str", variant.wire)), *fields))
 
     def tagged(self, item, variant):
-        """The name of the struct that a variant with a tag is sent as, and its other fields."""
+        """The name of the struct that a variant with a tag is sent as, and its other fields; at times a variant without
+        value has a content."""
+        if variant.data.style == "Unit" and "content" in item.serde and chance() < 0.3:
+            return item.wire, ((item.serde["content"], pick([UNIT, NONE, number("u8"), ("str", text())])),)
         if variant.data.style in ("Unit", "Struct"):
             return item.wire, self.fields(variant.data)
         kind = variant.data.fields[0].type
@@ -311,13 +314,17 @@ def moved(items, extra):
                        items[:place] + [extra] + items[place:], random.sample(items, len(items))]))
 
 
+def weight(item):
+    """How often a type is drawn: by its size, and more often where a tag names the variant."""
+    return min(len(item.fields()) + len(item.variants) + 1, 8) * (3 if "tag" in item.serde else 1)
+
+
 def made(shapes, seed, count):
     """The cases: the name of a type, flags and a tree."""
     random.seed(seed)
     maker = Maker(shapes)
     items = list(shapes.values())
-    weights = [min(len(item.fields()) + len(item.variants) + 1, 8) for item in items]
-    for item in random.choices(items, weights, k=count):
+    for item in random.choices(items, map(weight, items), k=count):
         tree, damage = maker.own(item), Damage(maker, item)
         for change in (plainer, shuffled, recounted):
             tree = everywhere(tree, change) if chance() < 0.3 else tree

@@ -5,7 +5,7 @@ judge.py rows ROOM SEED COUNT FILE..: writes to ROOM/rows/ what our program must
 ROOM/answers. Where the rules make Serde's answer of a case without any line of docs/DIFFERENCES.md, ours must be what
 they make of it with all lines; else it must be Serde's.
 judge.py count ROOM: counts the rows that agree, by line, and those that differ by ROOM/said, what our program said, and
-ends with status 1 where there are any."""
+ends with status 1 where there are any, or where none falls under some line."""
 import sys
 from pathlib import Path
 
@@ -52,10 +52,15 @@ def needed(shapes, case, ours):
 
 
 def count_all(room):
-    """Counts, and prints how many cases Serde accepts."""
+    """Counts, and prints how many cases Serde accepts, and each line that has no case."""
     answers = lines_of(room / "answers")
     print(f"{len(answers)} cases, of which Serde accepts {sum(said.startswith('ok ') for said in answers)}")
-    return count(room, ALL)
+    status = count(room, ALL)
+    found = {start for starts in lines_of(room / "named") for start in starts.split("\t")}
+    missing = [start for start in ALL if start not in found]
+    for start in missing:
+        print(f"no case falls under the line: {start}")
+    return 1 if missing else status
 
 
 def main():

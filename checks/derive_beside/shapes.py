@@ -21,7 +21,8 @@ def shapes_of(files):
         if "default" in item.serde:
             for field in item.fields():
                 field.serde.setdefault("default", WHOLE)
-        name_item(item)
+        for refused in name_item(item):
+            raise refused
     return shapes
 
 

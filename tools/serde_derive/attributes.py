@@ -13,13 +13,20 @@ COVERED = {
     "a variant": {"rename", "rename_all"},
     "a field": {"rename", "default", "flatten", "skip_serializing_if"},
 }
+# why others of Serde's attributes are not covered, and what to write instead
 NOT_COVERED = {
-    "f32": "floats are not covered", "f64": "floats are not covered",
-    "HashMap": "a HashMap is not covered: a BTreeMap is",
-    "skip": "what is left out would not come back",
-    "skip_serializing": "what is left out would not come back",
-    "skip_deserializing": "what is left unread would not come back",
-    "with": "a function of your own has no contract here",
+    **dict.fromkeys(["with", "serialize_with", "deserialize_with"], "a function of your own has no contract here: hold a"
+                    " struct around the value, and write its impls by hand"),
+    **dict.fromkeys(["from", "try_from", "into"], "a conversion has no contract here: write the impls by hand"),
+    **dict.fromkeys(["remote", "getter"], "only your own types are sent: declare one like it, and convert it by hand"),
+    **dict.fromkeys(["skip", "skip_serializing", "skip_deserializing"], "what is left out would not come back: keep it"
+                    " outside of this type"),
+    "alias": "one name is read: delete it",
+    "other": "variants of other names are refused: delete it",
+    "bound": "there are no type parameters: delete it",
+    "borrow": "values are owned: delete it",
+    "crate": "what is written uses `serde_content`: delete it",
+    "expecting": "refusals have a text of their own: delete it",
 }
 DERIVES = set("Clone Copy Debug Default Drop Eq Hash Ord PartialEq PartialOrd Serialize Deserialize".split())
 SERDE = {"Serialize", "Deserialize"}
@@ -149,13 +156,14 @@ class Attributes(Cursor):
         """One of Serde's attributes."""
         line, key = self.next.line, self.take().text
         if key not in COVERED[level]:
-            why = NOT_COVERED.get(key)
-            raise Refused(line, f"serde's `{key}` on {level} is not covered" + (f": {why}" if why else ""))
+            levels = " or ".join(other for other, keys in COVERED.items() if key in keys)
+            why = NOT_COVERED.get(key, f"it is for {levels}" if levels else "delete it, or write the impls by hand")
+            raise Refused(line, f"serde's `{key}` on {level} is not covered: {why}")
         if self.next.text == "(":
-            raise Refused(line, f"serde's `{key}` by direction is not covered: one name goes both ways")
+            raise Refused(line, f"serde's `{key}` by direction is not covered: write one name for both, `{key} = \"..\"`")
         valued = self.eat("=")
         if valued != (key in ("tag", "content", "skip_serializing_if") or key.startswith("rename")):
-            why = NOT_COVERED["with"] if valued else "it lacks a value"
+            why = f"write `{key}` alone" if valued else f"write `{key} = \"..\"`"
             raise Refused(line, f"serde's `{key}` so is not covered: {why}")
         if key in into:
             raise Refused(line, f"serde's `{key}` stands twice")

@@ -2,7 +2,7 @@
 import re
 from typing import Iterator, List
 
-from .declarations import Item, NotRust, Refused
+from .declarations import Field, Item, NotRust, Refused
 from .files import File
 from .homes import extent, from_crate, placed
 from .types import LEAVES
@@ -50,12 +50,8 @@ def check_attributes(item: Item) -> Iterator[Refused]:
     reasons = []
     if item.flattens() and (item.variants or not item.data.named or "deny_unknown_fields" in item.serde):
         reasons.append("serde's `flatten` is covered in structs with named fields and without `deny_unknown_fields`")
-    if any("flatten" in f.serde and len(f.serde) > 1 for f in item.fields()):
-        reasons.append("such attributes don't go together: `flatten` stands alone")
     if any(sum("skip_serializing_if" in f.serde for f in data.fields) > MOST_SKIPPED for data in item.parts()):
         reasons.append(f"more than {MOST_SKIPPED} fields that may be left out are not covered: put some into a struct of their own")
-    if item.flattens() and any("skip_serializing_if" in f.serde for f in item.fields()):
-        reasons.append("serde's `skip_serializing_if` is not covered beside `flatten`: name the fields")
     if item.sort == "struct":
         reasons += [f"serde's `{key}` is for enums: delete it"
                     for key in sorted({"rename_all_fields", "untagged", "tag", "content"} & set(item.serde))]
@@ -66,14 +62,25 @@ def check_attributes(item: Item) -> Iterator[Refused]:
                        " `default` on each field")
     if item.transparent():
         others = sorted(set(item.serde) - {"transparent"})
-        reasons += [f"such attributes don't go together: `transparent` and `{key}`" for key in others]
+        reasons += [f"such attributes don't go together: `transparent` and `{key}`: delete one of them" for key in others]
         if item.sort != "struct" or len(item.data.fields) != 1:
             reasons.append("serde's `transparent` is covered on structs of one field")
-        reasons += [f"serde's `{key}` on a field is not covered where its struct is `transparent`: delete it"
-                    for f in item.data.fields for key in sorted(f.serde)]
     if ("content" in item.serde) > ("tag" in item.serde) or {"tag", "untagged"} <= set(item.serde):
         reasons.append("such attributes don't go together: write `tag`, `tag` and `content`, or `untagged`")
     yield from (Refused(item.line, reason, item.name) for reason in reasons)
+    for where, f in placed(item):
+        yield from (Refused(f.line, reason, where) for reason in check_field(item, f))
+
+
+def check_field(item: Item, f: Field) -> Iterator[str]:
+    """Why attributes of Serde's don't go with a field of this item."""
+    if "flatten" in f.serde and len(f.serde) > 1:
+        yield "such attributes don't go together: `flatten` stands alone: delete the others"
+    elif "skip_serializing_if" in f.serde and item.flattens():
+        yield "serde's `skip_serializing_if` is not covered beside `flatten`: name the fields"
+    if item.transparent():
+        yield from (f"serde's `{key}` on a field is not covered where its struct is `transparent`: delete it"
+                    for key in sorted(f.serde))
 
 
 def check_visible(item: Item, here: List[str]) -> Iterator[Refused]:

@@ -2,7 +2,7 @@
 import re
 from dataclasses import dataclass, field, replace
 from itertools import combinations, islice
-from typing import Dict, List, Optional, Tuple
+from typing import Dict, List, Optional
 
 from .types import SIGNED, Type, in_term
 from .words import NO_PLACES
@@ -10,7 +10,6 @@ from .words import NO_PLACES
 
 # paths, and names that may be those of a type
 NO_PLACE = re.compile(r".*\.|[A-Z]")
-MENTIONED = re.compile(r"(?:`\w+`: )?(?:(?:field|variant) `([\w.]+)`: )?")
 MOST_QUOTED = 100
 
 
@@ -31,10 +30,6 @@ class Refused(Exception):
 
     def inside(self, name: str) -> "Refused":
         """The same inside of a type, or of what is in it."""
-        found = MENTIONED.match(self.reason)
-        if found:
-            self.where = ".".join(filter(None, [found.group(1), self.where]))
-            self.reason = self.reason[found.end():]
         self.where = ".".join(filter(None, [name, self.where]))
         return self
 
@@ -229,12 +224,26 @@ class Item(Named):
         return [f for f in self.sent_fields() if f.skips and not f.missing]
 
     def comes_back(self) -> bool:
-        """Whether RoundTrip is written: not where what it holds doesn't come back. A value of an untagged enum may be
-        read as another variant's, where two take trees of one class, and not each of a length of its own."""
-        held = [v.held() for v in self.variants] if "untagged" in self.serde else []
-        kept = not self.lost() and not any(own.astray for own in self.owns())
-        return self.derives_all() and kept and all(one.takes() for one in held) and all(
-            one.is_apart(other) for one, other in combinations(held, 2))
+        """Whether RoundTrip is written."""
+        return self.derives_all() and not self.why_astray()
+
+    def why_astray(self) -> str:
+        """Why some values may not come back, and what to write instead; nothing where all do. A value of an untagged enum
+        may be read as another variant's, where two take trees of one class, and not each of a length of its own."""
+        for f in self.lost():
+            return f"`{f.name}` may be left out, and is not read where it is missing: give it `default` too"
+        for own in self.owns():
+            if own.astray:
+                return f"`{own.name}`, which it holds, does not come back"
+        held = [(v, v.held()) for v in self.variants] if "untagged" in self.serde else []
+        for v, one in held:
+            if not one.takes():
+                return (f"which values `{one.rust()}` in `{v.name}` takes is not known: hold a struct of this file with named"
+                        " fields, or a type of std's but Option")
+        for (v, one), (w, other) in combinations(held, 2):
+            if not one.is_apart(other):
+                return f"a value of `{w.name}` may be read as `{v.name}`: tag the enum, or hold tuples of different lengths"
+        return ""
 
     def comes_back_from_cbor(self) -> bool:
         """Whether CBOR keeps its values: those of an enum, or of a struct that holds something, where

@@ -58,18 +58,18 @@ def settle_default(item: Item, takes: bool, file: File) -> None:
         file.notes.append((item.line, f"written as `Absent`: `derive(Default)` on `{item.name}`, whose value takes an allocator"))
 
 
-def check_missing(item: Item, items: Dict[str, Item]) -> None:
+def check_missing(item: Item, items: Dict[str, Item]) -> Iterator[Refused]:
     """Refuses a field that may be missing, and is read, where there is no value for it."""
     for where, f in placed(item) if "Deserialize" in item.derives else ():
         mine = items.get(f.type.name)
         if "default" not in f.serde or f.type.name in DEFAULTS:
             continue
         if not f.type.home:
-            raise Refused(f.line, "its default is not covered: those of numbers, bool, String, Option, Vec, BTreeMap and of"
-                          " your own types that derive Default are", f.name)
-        if mine and mine.covered and not mine.absent:
-            raise Refused(f.line, f"its default is not covered: `{f.type.name}` derives no Default, or holds what has none"
-                          " here", f.name)
+            yield Refused(f.line, "its default is not covered: hold a number, bool, String, Option, Vec, BTreeMap or a type"
+                          " of your own that derives Default", where)
+        elif mine and mine.covered and not mine.absent:
+            yield Refused(f.line, f"its default is not covered: `{f.type.name}` derives no Default, or holds what has none"
+                          " here: hold an Option", where)
 
 
 def check_default(item: Item) -> Iterator[Refused]:

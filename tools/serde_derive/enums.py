@@ -6,8 +6,8 @@ from .cases import pascal
 from .declarations import Data, Item, Variant
 from .holder import Holder
 from .literals import ROWS_OPENED, list_impl, name_method, name_term, opened
-from .text import ABSENT, DESERIALIZE, KNOWN, REFUSES_NULL, SERIALIZE, all_hold, arm, bracketed, clause, elim
-from .text import facts, function, ghost, together
+from .text import ABSENT, DESERIALIZE, KNOWN, REFUSES_NULL, SERIALIZE, all_hold, arm, bare, bracketed, clause
+from .text import elim, facts, function, ghost, together
 from .types import in_term
 
 
@@ -139,7 +139,7 @@ class EnumWriter:
 
     def refusals(self) -> str:
         """What each variant refuses, by name."""
-        each = [f"({name_term(v.wire)[1:-1]}, {self.refusal_of(holder).strip()})" for v, holder in self.variants]
+        each = [f"({bare(name_term(v.wire))}, {self.refusal_of(holder).strip()})" for v, holder in self.variants]
         return "(variants (\n" + "\n∷ ".join(each + ["[]))"])
 
     def gives(self, holder: Holder, values: List[str]) -> str:
@@ -158,9 +158,9 @@ class EnumWriter:
 
     def variants_ghosts(self) -> List[str]:
         """What contracts see of the variants."""
-        return [ghost("name", self.name[1:-1]),
-                ghost("refusal", self.refusals()[1:-1]),
-                ghost("named", self.each(lambda v, holder, x: name_term(v.wire)[1:-1])),
+        return [ghost("name", bare(self.name)),
+                ghost("refusal", bare(self.refusals())),
+                ghost("named", self.each(lambda v, holder, x: bare(name_term(v.wire)))),
                 ghost("held", self.each(lambda v, holder, x: self.gives(holder, x)))]
 
     def variants_impl(self) -> List[str]:
@@ -226,7 +226,8 @@ class EnumWriter:
         law = f"{holder.word}_kept{holder.kept(values, self.sees(holder))}"
         it = f"(given_as b {self.name} {name_term(v.wire)} d it)"
         read = elim([self.read(v, w, f"{it}.named", f"{it}.held") for w in self.item.variants])
-        return f"λ real. variant_comes_back {self.member('refusal')} Self.gives {bracketed(law)}\n({opened('λ v. refl')})\n({opened('λ b d only. ' + read)})"
+        return (f"λ real. variant_comes_back {self.member('refusal')} Self.gives {bracketed(law)}\n"
+                f"({opened('λ v. refl')})\n({opened('λ b d only. ' + read)})")
 
     def read(self, sent: Variant, read: Variant, named: str = "it.0", held: str = "it.1") -> str:
         """That a variant that was read is equal to the one that was sent, by what is known of its
@@ -248,7 +249,8 @@ class EnumWriter:
     def keeps(self, v: Variant, holder: Holder, values: List[str]) -> str:
         """That a variant is given with coercion where it is without."""
         law = f"{holder.word}_keeps{holder.keeps(self.sees(holder))}"
-        return (f"λ p.\nlet q = variant_kept {{own = {bracketed(holder.refusal())}}} {self.name} {name_term(v.wire)}\n{self.member('refusal')} ({opened('λ v. refl')}) {bracketed(law)}\n"
+        return (f"λ p.\nlet q = variant_kept {{own = {bracketed(holder.refusal())}}} {self.name} {name_term(v.wire)}\n"
+                f"{self.member('refusal')} ({opened('λ v. refl')}) {bracketed(law)}\n"
                 f"o people {together(values)} p.free p.given in\nrecord {{ free = q.0; given = q.1 }}")
 
     @staticmethod

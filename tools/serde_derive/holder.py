@@ -4,8 +4,8 @@ from typing import Callable, Dict, List, NamedTuple, Optional, Tuple
 from .cases import pascal
 from .declarations import Data, Field
 from .literals import list_impl, list_term, name_call, name_method, name_term
-from .text import clause, fields_reader, function, ghost, together
-from .types import ALIKE, READ, TRIP, in_term, nest, snake
+from .text import bare, clause, fields_reader, function, ghost, together
+from .types import ALIKE, READ, TRIP, nest, snake
 
 
 LONGEST_ROW = 8  # types of longer rows take the checker's memory
@@ -146,7 +146,8 @@ class Holder:
             ghost("gives", f"λ z f.{nest(self.parts('gives', self.given(values))[start:end], last)}\nf"),
             function(f"fn read<'n: 'de>(alloc: Global, {source}<'de, 'n>) -> Result<Self>",
                      *taken, f"Ok({whole}({', '.join(made + ['row'] * more)}))")])
-        return (f"/// The values from place {start + 1} on.\n#[derive(Drop)]\nstruct {whole}({', '.join(types + [self.run(end)] * more)});\n\n"
+        held = ", ".join(types + [self.run(end)] * more)
+        return (f"/// The values from place {start + 1} on.\n#[derive(Drop)]\nstruct {whole}({held});\n\n"
                 f"impl<'de> {trait}<'de> for {whole} {{\n{members}\n}}\n")
 
     def trait(self) -> str:
@@ -254,17 +255,22 @@ class Holder:
         """A row of fields, which is read by name."""
         return f" ({word}{row})" if self.data.named else row
 
-    def script(self, values: List[str], members: Optional[List[str]] = None) -> str:
-        """The calls that are made, by the scripts of its fields' types."""
-        members = members or [f.type.member("Serialize", "script") for f in self.fields]
-        inner = [f"({member} {value})" for member, value in zip(members, values)]
+    def scripts(self, values: List[str]) -> List[str]:
+        """The calls that each value makes."""
+        return [f"({f.type.member('Serialize', 'script')} {value})" for f, value in zip(self.fields, values)]
+
+    def laws(self, values: List[str]) -> List[str]:
+        """That the calls of each value spell one tree."""
+        return [f"({f.type.lawful(value)})" for f, value in zip(self.fields, values)]
+
+    def script(self, values: List[str]) -> str:
+        """The calls that are made."""
         length = f" {self.length(values)}" if self.many else ""
-        return f"{self.word}_script {self.names}{length}{self.row('script', inner, values=values)}"
+        return f"{self.word}_script {self.names}{length}{self.row('script', self.scripts(values), values=values)}"
 
     def lawful(self, values: List[str]) -> str:
         """That they spell one tree."""
-        laws = [f"({f.type.lawful(v)})" for f, v in zip(self.fields, values)]
-        return f"{self.word}_lawful{self.row('lawful', laws, values=values)}"
+        return f"{self.word}_lawful{self.row('lawful', self.laws(values), values=values)}"
 
     def send(self, values: List[str]) -> List[str]:
         """The statements that make them."""
@@ -293,8 +299,7 @@ class Holder:
         """The struct of references to the values from a place on, and how it is sent."""
         whole, left = self.sent_run(start), range(self.count - start)
         seen = [f"row.{place - start}.now" for place in range(self.count)]
-        script = self.row("script", [f"({f.type.member('Serialize', 'script')} {value})"
-                                     for f, value in zip(self.fields, seen)], start=start, values=seen)
+        script = self.row("script", self.scripts(seen), start=start, values=seen)
         values = [""] * start + [f"self.{place}" for place in left]
         send = function("fn send<S: Serializer>(&self, alloc: Global, serializer: &mut S, error: &mut serde_content::Error)"
                         " -> serde_content::ser::Sent",
@@ -303,7 +308,7 @@ class Holder:
         types = ", ".join(f"&'a {f.type.rust()}" for f in self.fields[start:])
         return (f"/// The values from place {start + 1} on, as they are sent.\n#[derive(Drop)]\nstruct {whole}<'a>({types});\n\n"
                 f"impl<'a> serde_content::derive_support::SendRow for {whole}<'a> {{\n"
-                f"{ghost('script', f'λ row. {script.strip()[1:-1]}')}\n\n{send}\n}}\n")
+                f"{ghost('script', f'λ row. {bare(script)}')}\n\n{send}\n}}\n")
 
     def sent(self, f: Field, value: str) -> str:
         """A value as a row has it, before those after it."""
@@ -370,8 +375,8 @@ class Holder:
             return []
         read = function(f"fn read<'n: 'de>(alloc: Global, fields: FieldsByName<'de, 'n>) -> Result<{name}>",
                         *self.all_taken("ReadFields", "fields"), f"Ok({made})")
-        members = [ghost("refusal", self.refusal_row().strip()[1:-1]), ghost("gives", f"λ z. {self.gives_row(values)}")]
-        members = [*self.named_by(ghost("name", name_term(self.wire)[1:-1])), *members,
+        members = [ghost("refusal", bare(self.refusal_row())), ghost("gives", f"λ z. {self.gives_row(values)}")]
+        members = [*self.named_by(ghost("name", bare(name_term(self.wire)))), *members,
                    *self.named_by(name_method("name", self.wire)), read]
         return [f"impl<'de> {self.read_by}<'de> for {name} {{\n" + "\n\n".join(members) + "\n}\n"]
 

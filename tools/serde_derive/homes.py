@@ -1,9 +1,9 @@
 """Where the own types of a file are declared, and which types are covered."""
 from collections import Counter
 from dataclasses import replace
-from typing import Dict, Iterator, List, Set, Tuple
+from typing import Dict, Iterable, Iterator, List, Optional, Set, Tuple
 
-from .attributes import NOT_COVERED, SERDE
+from .attributes import SERDE
 from .declarations import Field, Item, Refused
 from .files import File
 from .parser import DEEPEST, MOST_FIELDS
@@ -15,6 +15,11 @@ STANDARD = {"std", "core", "alloc"}
 # where the standard library has the types that are covered
 MODULES = {**{name: ["primitive"] for name in LEAVES}, "String": ["string"], "Option": ["option"], "Vec": ["vec"],
            "Box": ["boxed"], "BTreeMap": ["collections", "collections::btree_map"]}
+# types of which it is known what to write instead
+NOT_COVERED = {
+    **dict.fromkeys(["f32", "f64"], "floats are not covered: hold a whole number of a smaller unit, or a String"),
+    "HashMap": "a HashMap is not covered: hold a BTreeMap",
+}
 MOST_PARTS = 500
 DEEPEST_FLATTENED = 16
 # Rattle takes types of up to 64 levels, of which what is sent and read takes some
@@ -34,6 +39,17 @@ def placed(item: Item) -> Iterator[Tuple[str, Field]]:
             yield f"{item.name}.{v.name}.{f.name}", f
     for f in item.data.fields:
         yield f"{item.name}.{f.name}", f
+
+
+def check_leaves(item: Item) -> Iterator[Refused]:
+    """Refuses fields of one name beside each other where some are flattened, and too many of them."""
+    leaves = item.data.leaves()
+    for wire, count in Counter(f.wire for f in leaves).items():
+        if count > 1:
+            yield Refused(item.line, f"two fields are called `{wire}`: give one another name by `rename`", item.name)
+    if len(leaves) > MOST_FIELDS:
+        yield Refused(item.line, f"more than {MOST_FIELDS} fields are not covered: hold some in a struct that is not flattened",
+                      item.name)
 
 
 def from_crate(path: List[str], here: List[str]) -> List[str]:
@@ -57,6 +73,7 @@ class Homes:
         self.opened: Set[str] = set()
         self.levels: Dict[str, int] = {}
         self.declared: Dict[str, Tuple[str, str]] = {}
+        self.told = {refused.where for refused in file.refused}
         for item in file.items:
             self.called(item.name, self.here, item.name)
 
@@ -65,10 +82,18 @@ class Homes:
         """The path of a module's specifications, with a place for the sort of them."""
         return ".".join([f"Rattle.{crate}.specs.{{}}"] + [m for m in modules if m])
 
-    def refuse(self, line: int, where: str, reason: str) -> None:
+    def refuse(self, refused: Refused) -> None:
         """Keeps a refusal; the item is not written."""
-        self.items[where.split(".")[0]].covered = False
-        self.file.refused.append(Refused(line, reason, where))
+        self.items[refused.where.split(".")[0]].covered = False
+        self.file.refused.append(refused)
+        self.told.add(refused.where)
+
+    def keep(self, each: Iterable[Refused]) -> None:
+        """Keeps refusals, but those of fields and variants that were refused before."""
+        told = {where for where in self.told if "." in where}
+        for refused in each:
+            if refused.where not in told:
+                self.refuse(refused)
 
     def resolve(self) -> None:
         """Writes out the aliases and the names of std's types in all fields."""
@@ -77,10 +102,11 @@ class Homes:
                 try:
                     f.type = self.resolved(f.type, item)
                 except ValueError as reason:
-                    self.refuse(f.line, where, str(reason))
+                    self.refuse(Refused(f.line, str(reason), where))
                     f.type = Type("()")
 
     def resolved(self, t: Type, holder: Item) -> Type:
+        """The type with aliases written out and std's names short; a ValueError says why it is not covered."""
         name = holder.name if t.name == "Self" else self.short(t.name)
         if name in self.file.aliases and not t.arguments:
             return self.alias(name, holder)
@@ -94,7 +120,7 @@ class Homes:
     def alias(self, name: str, holder: Item) -> Type:
         """What an alias stands for."""
         if name in self.opened:
-            raise ValueError(f"the alias `{name}` stands for itself")
+            raise ValueError(f"the alias `{name}` stands for itself: write the type that it should stand for")
         if len(self.opened) > DEEPEST:
             raise ValueError(f"more than {DEEPEST} aliases of aliases are not covered: write the type that they stand for")
         if name not in self.aliases:
@@ -176,8 +202,8 @@ class Homes:
                         stack.append((self.items[name], self.parts_of(self.items[name])))
                         break
                     if name not in done:
-                        self.refuse(f.line, where, f"`{name}` contains itself, which is not covered, as its contract"
-                                    " would speak of itself: write its impls by hand")
+                        self.refuse(Refused(f.line, f"`{name}` contains itself, which is not covered, as its contract"
+                                            " would speak of itself: write its impls by hand", where))
                         f.type = Type("()")
                 else:
                     done.add(stack.pop()[0].name)
@@ -193,15 +219,14 @@ class Homes:
                 try:
                     f.type = self.settled(f.type, item)
                 except ValueError as reason:
-                    self.refuse(f.line, where, str(reason))
+                    self.refuse(Refused(f.line, str(reason), where))
                     f.type = Type("()")
             self.levels[item.name] = 1 + max((self.held(f.type) for f in item.fields()), default=0)
             if self.levels[item.name] > DEEPEST_HELD:
                 self.levels[item.name] = 0
-                self.refuse(item.line, item.name, f"what holds others in more than {DEEPEST_HELD} levels is not covered: put"
-                            " one into a Box")
-            if item.covered:
-                self.inline(item)
+                self.refuse(Refused(item.line, f"what holds others in more than {DEEPEST_HELD} levels is not covered: put"
+                                    " one into a Box", item.name))
+            self.inline(item)
 
     def held(self, t: Type) -> int:
         """In how many levels a type holds others in itself; what is elsewhere in memory is not in it."""
@@ -211,43 +236,40 @@ class Homes:
 
     def inline(self, item: Item) -> None:
         """Takes in what is flattened and what stands beside a tag."""
-        try:
-            for f in item.fields():
-                if "flatten" in f.serde:
-                    part = self.inlined(f, f"field `{f.name}`: what is flattened")
-                    f.inside, item.levels = part.data, max(item.levels, part.levels + 1)
-                    item.covered &= part.covered
+        flattened = [(where, f) for where, f in placed(item) if "flatten" in f.serde]
+        for where, f in flattened:
+            part = self.inlined(f, where, where, "what is flattened")
+            if part:
+                f.inside, item.levels = part.data, max(item.levels, part.levels + 1)
+        if "tag" in item.serde and "content" not in item.serde:
             for v in item.variants:
-                if v.data.style == "Newtype" and "tag" in item.serde and "content" not in item.serde:
-                    v.beside = self.inlined(v.data.fields[0], f"variant `{v.name}`: what stands beside a tag")
-                    item.covered &= v.beside.covered
-            self.check_leaves(item)
-        except Refused as refused:
-            item.covered = False
-            self.file.refused.append(refused.inside(item.name))
+                if v.data.style == "Newtype":
+                    where = f"{item.name}.{v.name}"
+                    v.beside = self.inlined(v.data.fields[0], f"{where}.0", where, "what stands beside a tag")
+        if flattened and item.data.named and all(f.inside for _, f in flattened):
+            for refused in check_leaves(item):
+                self.refuse(refused)
 
-    def inlined(self, f: Field, what: str) -> Item:
-        """The struct in a field, whose own fields are sent and read in its place."""
-        part = self.items.get(f.type.name)
-        if not part or not part.data.named or part.data.closed or part.transparent() or (part.flattens() and "flatten" not in f.serde):
-            raise Refused(f.line, f"{what} is covered where it is a struct of this file with named fields and without"
-                          f" `deny_unknown_fields`{'' if 'flatten' in f.serde else ' and `flatten`'}")
-        if "flatten" in f.serde and any(inside.skips for inside in part.data.leaves()):
-            raise Refused(f.line, f"{what} is not covered where `skip_serializing_if` leaves out some of it: name the fields")
-        if part.levels > DEEPEST_FLATTENED:
-            raise Refused(f.line, f"{what} in more than {DEEPEST_FLATTENED} levels is not covered: name the fields")
-        return part
-
-    @staticmethod
-    def check_leaves(item: Item) -> None:
-        """Refuses two of one name beside each other, and too many."""
-        for data in item.parts() if item.covered else []:
-            for wire, count in Counter(f.wire for f in data.leaves() if data.named).items():
-                if count > 1:
-                    raise Refused(item.line, f"two fields are called `{wire}`: give one another name by `rename`")
-            if item.flattens() and len(data.leaves()) > MOST_FIELDS:
-                raise Refused(item.line, f"more than {MOST_FIELDS} fields are not covered: hold some in a struct that is"
-                              " not flattened")
+    def inlined(self, f: Field, place: str, where: str, what: str) -> Optional[Item]:
+        """The struct in a field of this path, whose own fields are sent and read in its place; none where that is refused,
+        which is kept for `where`."""
+        part, flattens = self.items.get(f.type.name), "flatten" in f.serde
+        if place in self.told:
+            return None
+        if part and part.sort == "struct" and not part.covered:
+            self.items[where.split(".")[0]].covered = False
+            return None
+        if not part or not part.data.named or part.data.closed or part.transparent() or (part.flattens() and not flattens):
+            reason = ("is covered where it is a struct of this file with named fields and without `deny_unknown_fields`"
+                      f"{': hold such a struct, or delete `flatten`' if flattens else ' and `flatten`: hold such a struct'}")
+        elif flattens and any(inside.skips for inside in part.data.leaves()):
+            reason = "is not covered where `skip_serializing_if` leaves out some of it: name the fields"
+        elif part.levels > DEEPEST_FLATTENED:
+            reason = f"in more than {DEEPEST_FLATTENED} levels is not covered: name the fields"
+        else:
+            return part
+        self.refuse(Refused(f.line, f"{what} {reason}", where))
+        return None
 
     def settled(self, t: Type, holder: Item) -> Type:
         """The type with its home; a ValueError says why it is not covered."""
@@ -266,34 +288,31 @@ class Homes:
         return self.part(t.name, holder) if t.name in self.items else self.own(t.name)
 
     def part(self, name: str, holder: Item) -> Type:
-        """An own type of this file."""
+        """An own type of this file; a ValueError says why what holds it is not covered."""
         part = self.items[name]
         needed = SERDE & set(holder.derives)
         lacking = (needed | ({"PartialEq", "Eq"} if holder.derives_all() else set())) - set(part.derives)
         if not part.covered:
             return Type(name, home=self.here, declared=name, called=snake(name))
-        astray = part.derives_all() and not part.comes_back()
-        if astray and holder.derives_all() and "untagged" not in holder.serde:
-            raise ValueError(
-                f"`{name}` does not come back, as `{part.lost()[0].name}` may be left out: give that `default` too"
-                if part.lost() else f"`{name}` is untagged and does not come back, so what holds it derives no Eq")
+        why = part.why_astray() if part.derives_all() else ""
+        if why and holder.derives_all() and "untagged" not in holder.serde:
+            raise ValueError(f"delete Eq here, as `{name}` does not come back: {why}")
         if lacking:
             raise ValueError(f"`{name}` does not derive {', '.join(sorted(lacking))}, as what holds it does: derive that too")
         law = ("records", "map_takes" if part.flattens() else "struct_takes")
         called = self.called(name, self.here, name)
-        return Type(name, home=self.here, declared=name, called=called, plain=not part.asked(), astray=astray,
+        return Type(name, home=self.here, declared=name, called=called, plain=not part.asked(), astray=bool(why),
                     lost=not part.comes_back_from_cbor(), null=part.may_be_null(),
                     record=law if part.data.named and not part.transparent() else None)
 
     def own(self, name: str) -> Type:
-        """An own type of another file."""
+        """An own type of another file; a ValueError says why it is not covered."""
         path = self.path(name)
         if path[0] in STANDARD | {"serde"} and len(path) > 1:
             raise ValueError(f"the type `{'::'.join(path)}` is not covered: hold what it is made of, as a number or"
                              " a String")
         if len(path) < 2:
-            raise ValueError(f"the type `{name}` is not covered; one of your own is declared in this"
-                             " file, or named by its full path")
+            raise ValueError(f"the type `{name}` is not covered: declare it in this file, or name it by its full path")
         raw = [part for part in path if part.startswith("r#")]
         if raw:
             raise ValueError(f"the name `{raw[0]}` is not covered: give it a plain one")
@@ -317,8 +336,10 @@ class Homes:
         return word
 
     def check_key(self, key: Type) -> None:
+        """Refuses a type that no key of a map has, as a ValueError."""
         mine = self.items.get(key.name)
         if not (key.home or key.name in NUMBERS or key.name in ("String", "char")):
-            raise ValueError(f"a map with keys of type `{key.rust()}` is not covered")
+            raise ValueError(f"a map with keys of type `{key.rust()}` is not covered: hold a Vec of pairs, or put the key into"
+                             " a struct that derives Ord")
         if mine and mine.covered and not {"PartialOrd", "Ord"} <= set(mine.derives):
-            raise ValueError(f"`{key.name}` does not derive PartialOrd and Ord, as the keys of a map do")
+            raise ValueError(f"`{key.name}` does not derive PartialOrd and Ord, as the keys of a map do: derive them too")

@@ -7,9 +7,11 @@ import re
 from itertools import chain, count
 from typing import Dict, Iterator, List, Set
 
-from .text import clause, ghost
+from .text import bare, clause, ghost
 
 CALL = re.compile("\x02([^\x03]*)\x03")
+
+
 def opening(*words: str) -> str:
     """The attribute of a function whose proof looks into these words."""
     return f"#[tactic(auto, unfolding({', '.join(f'serde_content::specs::Literals::{word}' for word in words)}))]"
@@ -31,7 +33,7 @@ def name_call(name: str) -> str:
 
 def list_term(names: List[str]) -> str:
     """A list of names in contracts."""
-    return "(" + " ∷ ".join([name_term(name)[1:-1] for name in names] + ["[]"]) + ")"
+    return "(" + " ∷ ".join([bare(name_term(name)) for name in names] + ["[]"]) + ")"
 
 
 def opened(term: str) -> str:
@@ -43,7 +45,7 @@ def list_impl(owner: str, about: str, names: List[str]) -> str:
     """The type that stands for a list of names, which hands it out."""
     shown = ", ".join(f'"{name}"' for name in names)
     return (f"/// {about}\n#[derive(Drop)]\nstruct {owner};\n\nimpl Names for {owner} {{\n"
-            + ghost("names", list_term(names)[1:-1])
+            + ghost("names", bare(list_term(names)))
             + f"\n\n{SEALED}\nfn names() -> &'static [&'static str] {{\n&[{shown}]\n}}\n}}\n")
 
 

@@ -1,6 +1,6 @@
 """The whole module: what it uses, declarations and impls."""
 import re
-from typing import Dict, Iterator, List, Optional, Set, Tuple, Union
+from typing import Callable, Dict, Iterable, Iterator, List, Optional, Set, Tuple, Union
 
 from .attributes import doc_line
 from .checks import check, check_work
@@ -12,10 +12,10 @@ from .homes import Homes
 from .literals import with_names
 from .names import name_item
 from .structs import StructWriter, TransparentWriter
-from .tagged import TaggedWriter
+from .tagged import TaggedWriter, check_tagged
 from .types import CBOR, NOT_NULL, READ, TRIP
 from .unique import KINDS, name_cases, name_functions
-from .untagged import UntaggedWriter
+from .untagged import UntaggedWriter, check_untagged
 from .words import ALIASES, METHODS, SEEN, USES, WORDS, words_in, words_of
 
 Writer = Union[StructWriter, EnumWriter]
@@ -40,6 +40,7 @@ def impl(item: Item, trait: str, members: List[str], lifetime: str = "") -> str:
 
 
 def writer_of(item: Item) -> Writer:
+    """What writes the impls of a covered item."""
     if not item.variants:
         return TransparentWriter(item) if item.transparent() else StructWriter(item)
     sort = UntaggedWriter if "untagged" in item.serde else TaggedWriter if "tag" in item.serde else EnumWriter
@@ -74,41 +75,39 @@ def read(source: str) -> File:
         raise Refused(reader.next.line, "what nests so deeply is not covered: divide it") from None
 
 
-def tried(item: Item, refused: List[Refused], step) -> None:
-    """Takes a step of an item that is covered so far, and keeps what is refused."""
-    try:
-        if item.covered:
-            step(item)
-    except Refused as why:
-        item.covered = False
-        refused.append(why.inside(item.name))
+def check_variants(item: Item) -> Iterator[Refused]:
+    """Refuses variants that are not covered as their enum is tagged."""
+    if "untagged" in item.serde:
+        yield from check_untagged(item)
+    elif "tag" in item.serde:
+        yield from check_tagged(item)
 
 
 def settled(file: File, homes: Homes) -> Dict[str, Writer]:
     """The writers of a file's types, once all names and types are known; a Refusals says what is not covered."""
-    refused, writers = file.refused, {}
-    for why in check(file, homes.module):
-        refused.append(why)
-        homes.items[why.where.split(".")[0]].covered = False
+    def keep(refusals: Callable[[Item], Iterable[Refused]]) -> None:
+        """Keeps what this refuses of each item."""
+        homes.keep(refused for item in file.items for refused in refusals(item))
+
+    for refused in check(file, homes.module):
+        homes.refuse(refused)
     homes.resolve()
-    for item in file.items:
-        tried(item, refused, name_item)
+    keep(name_item)
     homes.settle()
     settle_defaults(list(homes.ordered()), homes.items, file)
-    for item in file.items:
-        tried(item, refused, lambda item: check_missing(item, homes.items))
-    for item in file.items:
-        refused += check_derives(item, homes.items, file) if item.covered else []
-    refused += check_work([item for item in file.items if item.covered])
+    keep(lambda item: check_missing(item, homes.items))
+    keep(check_variants)
+    covered = [item for item in file.items if item.covered]
+    keep(lambda item: check_derives(item, homes.items, file))
+    for refused in check_work(covered):
+        homes.refuse(refused)
+    if not file.items and not file.refused:
+        file.refused.append(Refused(1, "no struct or enum here derives Serialize or Deserialize: derive one of them"))
+    if file.refused:
+        raise Refusals(file.refused)
     name_functions(file.items)
     name_cases(file.items, homes.declared)
-    for item in file.items:
-        tried(item, refused, lambda item: writers.update({item.name: writer_of(item)}))
-    if not file.items and not refused:
-        refused.append(Refused(1, "no struct or enum here derives Serialize or Deserialize: derive one of them"))
-    if refused:
-        raise Refusals(refused)
-    return writers
+    return {item.name: writer_of(item) for item in file.items}
 
 
 def brought(words: Set[str], word: str, texts: List[str]) -> bool:
@@ -142,8 +141,6 @@ def texts_of(item: Item, writer: Writer, cbor: bool) -> List[str]:
     """The declaration and the impls of an item."""
     try:
         return [item.declared(), "", *impls(item, writer, cbor)]
-    except Refused as refused:
-        raise Refusals([refused.inside(item.name)]) from None
     except RecursionError:
         raise Refusals([Refused(item.line, "what it holds has too many or too long names: divide it", item.name)]) from None
 
@@ -162,9 +159,9 @@ def module(source: str, name: str, crate: str, place: str, cbor: bool = False,
     homes = Homes(crate, place, file)
     writers = settled(file, homes)
     if notes is not None:
-        notes += [*file.notes, *homes.unused()] + [(item.line, f"no RoundTrip is written for `{item.name}`: `{f.name}` may be left out, and is not read"
-                   " where it is missing: give it `default` too") for item in file.items if item.derives_all()
-                  for f in item.lost()[:1]]
+        notes += [*file.notes, *homes.unused()] + [
+            (item.line, f"no RoundTrip is written for `{item.name}`: {item.why_astray()}")
+            for item in file.items if item.derives_all() and not item.comes_back()]
         notes.sort()
     texts = [text for item in file.items for text in texts_of(item, writers[item.name], cbor)]
     body = with_names("\n".join(texts), [item.name for item in file.items])

@@ -13,7 +13,9 @@ BEGIN_ITEMS = {"enum", "mod", "pub", "struct", "trait", "type"}
 BEGINS = {
     "&": "hold the value itself, as String for &str", "[": "write a Vec, or a tuple of up to four",
     "*": "hold the value itself", "dyn": "write an enum of the types that it may be",
-    "<": "write the type itself",
+    **dict.fromkeys(["<", "impl", "_"], "write the type itself"),
+    **dict.fromkeys(["fn", "unsafe", "extern", "for"], "write an enum of the functions that it may be"),
+    "!": "delete what holds it, as no value does",
 }
 
 
@@ -66,11 +68,10 @@ class Parser(Attributes):
         begins, sort = self.next.text, self.next.sort
         if sort == "lifetime":
             raise Refused(line, "lifetimes are not covered: hold the value itself, as String for &str")
-        if begins in BEGINS or begins in ("!", "impl", "fn", "unsafe", "extern", "for", "_") or sort in ("number", "text"):
-            hint = BEGINS.get(begins)
-            raise Refused(line, f"a type that begins with `{begins}` is not covered" + (f": {hint}" if hint else ""))
-        if begins == "{":
-            raise Refused(line, "values as arguments of a type are not covered")
+        if begins in BEGINS:
+            raise Refused(line, f"a type that begins with `{begins}` is not covered: {BEGINS[begins]}")
+        if begins == "{" or sort in ("number", "text"):
+            raise Refused(line, "values as arguments of a type are not covered: write a type for each that you use")
 
     def guarded(self, name: str, head: Head, read: Callable[[], None], angles: bool = False) -> bool:
         """Reads a part of a declaration; what is refused in it is kept under its name, and the part is
@@ -118,7 +119,7 @@ class Parser(Attributes):
         if not fields:
             raise Refused(line, "what has no fields is covered without brackets alone: delete them")
         if len(fields) > MOST_FIELDS:
-            raise Refused(line, f"more than {MOST_FIELDS} fields are not covered: put some into a struct with `flatten`")
+            raise Refused(line, f"more than {MOST_FIELDS} fields are not covered: hold some in a struct of their own")
         return Data(style, fields)
 
     def variant(self, into: List[Variant]) -> None:
@@ -169,7 +170,7 @@ class Parser(Attributes):
         self.expect("{")
         self.listed("}", lambda: self.variant(item.variants))
         if not item.variants:
-            raise Refused(line, "an enum of no variants is not covered, as no value of it is sent or read")
+            raise Refused(line, "an enum of no variants is not covered, as no value of it is sent or read: delete it")
         if len(item.variants) > MOST_VARIANTS:
             raise Refused(line, f"more than {MOST_VARIANTS} variants are not covered: hold a text or a number")
 

@@ -1,5 +1,5 @@
 """The impls of a struct."""
-from typing import Callable, Iterator, List, Optional
+from typing import Callable, Iterator, List
 
 from .declarations import Data, Field, Item
 from .holder import FLATTENED, Holder
@@ -17,9 +17,8 @@ class FlattenedHolder(Holder):
         super().__init__("Struct", [], item.data.flat(), item.owner)
         self.word, self.camel, self.head, self.call = "flattened", "Flattened", "", "Call::Map(None)"
 
-    def script(self, values: List[str], members: Optional[List[str]] = None) -> str:
-        members = members or [f.type.member("Serialize", "script") for f in self.fields]
-        return "flattened_script" + self.row("script", [f"({m} {v})" for m, v in zip(members, values)])
+    def script(self, values: List[str]) -> str:
+        return "flattened_script" + self.row("script", self.scripts(values))
 
     def sent(self, f: Field, value: str) -> str:
         return f"SendEntry({self.list}, {self.index(f)}, {value}, row)"

@@ -1,15 +1,36 @@
 """What is written of a tagged enum: structs of which one field names the variant, and the others or
 one other hold its values."""
 import re
-from typing import List, Optional
+from typing import Iterator, List
 
 from .cases import pascal
 from .declarations import Data, Field, Item, Refused, Variant
 from .enums import EnumWriter
 from .holder import LONGEST_HELD, Holder
 from .literals import list_impl, name_call, name_method, name_term, opened
-from .text import DESERIALIZE, elim, function, ghost, together
+from .text import DESERIALIZE, bare, elim, function, ghost, together
 from .types import DEFAULTS, nest
+
+
+def beside_tag(v: Variant) -> List[Field]:
+    """The fields of a variant beside an internal tag."""
+    return v.beside.data.fields if v.beside else v.data.fields
+
+
+def check_tagged(item: Item) -> Iterator[Refused]:
+    """Refuses variants that are not covered beside a tag, and names that are the tag's."""
+    tag, content = item.serde["tag"], item.serde.get("content")
+    sort, held, instead = (("adjacently", "one value", "a tuple or a struct of them") if content else
+                           ("internally", "a struct, or values by name,", "a struct of them"))
+    if tag == content:
+        yield Refused(item.line, f"the tag and the content are both called `{tag}`: give one of them another name", item.name)
+    for v in item.variants:
+        where = f"{item.name}.{v.name}"
+        if v.data.style == "Tuple" or (v.data.named and content):
+            yield Refused(v.line, f"of an enum that is tagged {sort}, only variants with no values and with {held} are"
+                          f" covered: hold {instead}", where)
+        elif not content and tag in [f.wire for f in beside_tag(v)]:
+            yield Refused(v.line, f"a field is called as the tag, `{tag}`: give one of them another name", where)
 
 
 class TaggedHolder(Holder):
@@ -28,16 +49,13 @@ class TaggedHolder(Holder):
     def room(self) -> int:
         return LONGEST_HELD
 
-    def script(self, values: List[str], members: Optional[List[str]] = None) -> str:
-        members = members or [f.type.member("Serialize", "script") for f in self.fields]
-        inner = [f"({member} {value})" for member, value in zip(members, values)]
+    def script(self, values: List[str]) -> str:
         head = f"tagged_script {self.names} {self.length(values, 1)} {name_term(self.tag)} {name_term(self.variant)}"
-        return head + self.row("script", inner, values=values)
+        return head + self.row("script", self.scripts(values), values=values)
 
     def lawful(self, values: List[str]) -> str:
-        laws = [f"({f.type.lawful(v)})" for f, v in zip(self.fields, values)]
-        return "struct_lawful" + nest(["field_fits (leaf_lawful refl)", *self.parts("lawful", laws, values=values)],
-                                      "struct_end_fits")
+        laws = self.parts("lawful", self.laws(values), values=values)
+        return "struct_lawful" + nest(["field_fits (leaf_lawful refl)", *laws], "struct_end_fits")
 
 
 class TaggedWriter(EnumWriter):
@@ -50,16 +68,8 @@ class TaggedWriter(EnumWriter):
 
     def fields_of(self, v: Variant) -> List[Field]:
         """The fields beside the tag: the variant's own, or the one that holds its value."""
-        if v.data.style == "Tuple" or (v.data.named and self.content):
-            held = "one value" if self.content else "a struct, or values by name,"
-            sort = "adjacently" if self.content else "internally"
-            raise Refused(v.line, f"variant `{v.name}`: of an enum that is tagged {sort}, only variants with no values"
-                          f" and with {held} are covered")
-        beside = v.beside.data.fields if v.beside else v.data.fields
-        if self.tag in [self.content] + [f.wire for f in beside]:
-            raise Refused(v.line, f"variant `{v.name}`: a field is called as the tag, `{self.tag}`")
         if not self.content:
-            return beside
+            return beside_tag(v)
         return [Field("x1", f.line, [], {}, self.content, f.type, missing=DEFAULTS["Option"] if f.type.name == "Option" else "")
                 for f in v.data.fields]
 
@@ -97,7 +107,7 @@ class TaggedWriter(EnumWriter):
         read = (f"fn read_variant<'n: 'de>(alloc: Global, tag: &str, fields: FieldsByName<'de, 'n>)"
                 f" -> Result<{self.item.name}>")
         ghosts = self.variants_ghosts()
-        return [*ghosts[:1], ghost("tag_name", name_term(self.tag)[1:-1]), *ghosts[1:],
+        return [*ghosts[:1], ghost("tag_name", bare(name_term(self.tag))), *ghosts[1:],
                 name_method("name", self.item.wire), name_method("tag", self.tag),
                 self.looking() + function(read, *self.dispatch("tag"))]
 
@@ -136,7 +146,8 @@ class TaggedWriter(EnumWriter):
         """The law that what the fields give without coercion they give with it."""
         words = f"{name_term(self.tag)} {name_term(v.wire)} {self.member('refusal')}"
         if not self.buffered:
-            return f"tag_keeps {{own ={holder.refusal_row()}}} {words}\n({opened('λ f. refl')}){self.unit(v, holder.keeps_row(self.sees(holder)))}"
+            row = self.unit(v, holder.keeps_row(self.sees(holder)))
+            return f"tag_keeps {{own ={holder.refusal_row()}}} {words}\n({opened('λ f. refl')}){row}"
         values = ["z"] if holder.count == 1 else [f"z.{i}" for i in range(holder.count)]
         seen = " × ".join(f.type.seen() for f in holder.fields) or "Unit {0}"
         return f"tag_keeps_buffered {words}\n(λ (z : {seen}).{holder.gives_row(values)})"

@@ -68,7 +68,13 @@ def elim(lines: List[str]) -> str:
 
 
 def bracketed(term: str) -> str:
+    """The term in brackets, where it is more than a word."""
     return f"({term})" if " " in term else term
+
+
+def bare(term: str) -> str:
+    """A term without the brackets around it."""
+    return term.strip()[1:-1]
 
 
 def facts(count: int, such: str) -> List[str]:

@@ -1,5 +1,5 @@
 """What is written of an untagged enum: its variants are tried in order, by what they hold."""
-from typing import List
+from typing import Iterator, List
 
 from .declarations import Item, Refused, Variant
 from .enums import EnumWriter
@@ -10,15 +10,20 @@ from .types import READ, nest
 from .words import CHOICES, PLACES
 
 
+def check_untagged(item: Item) -> Iterator[Refused]:
+    """Refuses variants that are not covered without a tag."""
+    for v in item.variants:
+        if v.data.named or not 1 <= len(v.data.fields) <= 4:
+            instead = "a struct of them" if v.data.fields else "`()`"
+            yield Refused(v.line, "of an untagged enum, only variants with one to four values by place are covered: hold"
+                          f" {instead}", f"{item.name}.{v.name}")
+
+
 class UntaggedWriter(EnumWriter):
     """The impls of an untagged enum, whose variants hold values by place."""
 
     def __init__(self, item: Item):
         super().__init__(item)
-        for v in item.variants:
-            if v.data.named or not v.data.fields or len(v.data.fields) > 4:
-                raise Refused(v.line, f"variant `{v.name}`: of an untagged enum, only one to four values"
-                              " by place are covered")
         self.holders = {v.name: holder for v, holder in self.variants}
         self.last = f"data did not match any variant of untagged enum {item.name}"
 

@@ -100,10 +100,11 @@ USES = {
     "serde_content": "CowStr Deserializer Error Result RoundTrip",
     "serde_content::de": "Deserialize FieldsByName VariantAccess attempt",
     "serde_content::derive_support":
-        f"Absent Names {' '.join(sorted(one for _, one in CHOICES))} OthersRefused OthersSkipped PartsEnd ReadField ReadFieldOr ReadFields"
-        f" ReadPart ReadParts ReadStruct SendElement SendEnd SendEntry SendField SendFieldUnless SendOpen SendPart SendTag Skip TaggedVariants Variants"
-        f" {' '.join(sorted(first for first, _ in CHOICES))} count_unless no_such_variant read_adjacent read_enum read_flattened read_struct read_tagged send_row"
-        " variant_index",
+        f"Absent Names {' '.join(sorted(one for _, one in CHOICES))} OthersRefused OthersSkipped PartsEnd ReadField"
+        " ReadFieldOr ReadFields ReadPart ReadParts ReadStruct SendElement SendEnd SendEntry SendField SendFieldUnless"
+        " SendOpen SendPart SendTag Skip TaggedVariants Variants"
+        f" {' '.join(sorted(first for first, _ in CHOICES))} count_unless no_such_variant read_adjacent read_enum"
+        " read_flattened read_struct read_tagged send_row variant_index",
     "serde_content::ser": "Call Parts Serialize Serializer",
     "std::alloc": "Global",
     "std::collections": "BTreeMap",
