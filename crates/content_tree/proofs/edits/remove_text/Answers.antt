@@ -17,6 +17,7 @@ returns c =
     let test : Tree → Bool = is_text c.args.key.now in
     let ps = c.args.pairs.now.items in
     let i = c.in_ok-index.index in
-    let last = rw c.deref.ensures.value at c.in_ok-index.ensures in
-    (ap (λ (v : NamedValue). Some (tree_of v)) (c.remove_pair.ensures.value here) ∙ sym (last_at test ps i here last),
-    removed_pairs test ps _ i last c.remove_pair.ensures.pairs)
+    let last = rw c.deref.ensures.value at c.in_ok-index.ensures in (
+      ap (λ (v : NamedValue). Some (tree_of v)) (c.remove_pair.ensures.value here) ∙ sym (last_at test ps i here last),
+      removed_pairs test ps _ i last c.remove_pair.ensures.pairs,
+    )
