@@ -12,7 +12,7 @@ parts=$top/checks/derive_beside
 crate=$(cd "$1" && pwd)
 mkdir -p "$2"
 room=$(cd "$2" && pwd)
-files=("$top"/crates/check_derive/{types,choices,sorts,inlined}.rs "$top/checks/serde_texts/more.rs" "$parts/others.rs")
+files=("$top"/crates/check_derive/{types,choices,sorts,inlined,attributes}.rs "$top/checks/serde_texts/more.rs" "$parts/others.rs")
 cases=("$room" "${3:-1}" 20000 "${files[@]}")
 
 # shellcheck source=bench/common.sh

@@ -135,14 +135,7 @@ struct B {
     y: u8,
 }
 
-// 3: A.x: serde's `default` so is not covered: write `default` alone
-#[derive(Serialize)]
-struct A {
-    #[serde(default = "one")]
-    x: u8,
-}
-
-// 2: A: serde's `rename` by direction is not covered: write one name for both, `rename = ".."`
+// 3: A: serde's `rename` by direction is covered on fields and variants: give one name
 #[derive(Serialize)]
 #[serde(rename(serialize = "B"))]
 struct A(u8);
@@ -202,10 +195,12 @@ struct A {
 #[serde(rename = "é")]
 struct A(u8);
 
-// 3: A.r#type: the name `r#type` is not covered: give it a plain name, and its own by `#[serde(rename = "type")]`
+// 3: written as `type_`: the name `r#type`
+// 4: A.type_: two are written as `type_`: give one another name
 #[derive(Serialize)]
 struct A {
     r#type: u8,
+    type_: u8,
 }
 
 // 1: passed over: `struct A`, which derives neither Serialize nor Deserialize
@@ -213,7 +208,7 @@ struct A {
 struct A(u8);
 
 // 3: A.x: floats are not covered: hold a whole number of a smaller unit, or a String
-// 4: A.y: serde's `skip` on a field is not covered: what is left out would not come back: keep it outside of this type
+// 4: A.y: serde's `with` on a field is not covered: a function of your own has no contract here: hold a struct around the value, and write its impls by hand
 // 6: A.z: `#[cfg(unix)]` is not covered, as the module is written once for all: delete it, or move what it is about to a file of its own
 // 7: A.z: a type that begins with `&` is not covered: hold the value itself, as String for &str
 // 9: A.größe: the name `größe` is not covered, as Rattle takes names in ASCII alone: give it another
@@ -415,8 +410,7 @@ struct A(u8);
 struct A(u8, Größe, <u8 as X>::Y, *const u8, impl X, !, Vec<u8>::Item, m!(x), A<3>, A<{ 3 }>, Vec<'a>);
 
 // 3: A.X: of an enum that is tagged adjacently, only variants with no values and with one value are covered: hold a tuple or a struct of them
-// 6: B.X: of an untagged enum, only variants with one to four values by place are covered: hold `()`
-// 6: B.Y: of an untagged enum, only variants with one to four values by place are covered: hold a struct of them
+// 6: B.X: of an untagged enum, only variants with values by name, and with one to four by place, are covered: hold `()`
 #[derive(Serialize, Deserialize)]
 #[serde(tag = "t", content = "c")]
 enum A { X(u8, u8) }
@@ -580,18 +574,6 @@ struct B { x: u8 }
 #[derive(Serialize)]
 struct A { #[serde(flatten)] b: B }
 
-// 4: B.a: delete Eq here, as `A` does not come back: `x` may be left out, and is not read where it is missing: give it `default` too
-#[derive(PartialEq, Eq, Serialize, Deserialize)]
-struct A { #[serde(skip_serializing_if = "Vec::is_empty")] x: Vec<u8> }
-#[derive(PartialEq, Eq, Serialize, Deserialize)]
-struct B { a: A }
-
-// 4: B.A.0: delete Eq here, as `A` does not come back: `x` may be left out, and is not read where it is missing: give it `default` too
-#[derive(PartialEq, Eq, Serialize, Deserialize)]
-struct A { #[serde(skip_serializing_if = "String::is_empty")] x: String, y: u8 }
-#[derive(PartialEq, Eq, Serialize, Deserialize)]
-#[serde(tag = "t")] enum B { A(A), C }
-
 // 2: A.b: `derive(Default)` is not covered beside `B`, which takes an allocator: delete Default, and write a `new(alloc)`
 #[derive(Default, Serialize, Deserialize)]
 struct A { b: B, c: char }
@@ -619,8 +601,8 @@ struct B { x: u8 }
 enum A { B(u8) }
 
 // 3: A: `derive(Copy)` needs Clone: derive that too
-// 5: A.X: of an untagged enum, only variants with one to four values by place are covered: hold `()`
-// 6: A.Y: of an untagged enum, only variants with one to four values by place are covered: hold a struct of them
+// 5: A.X: of an untagged enum, only variants with values by name, and with one to four by place, are covered: hold `()`
+// 6: A.Y: of an untagged enum, only variants with values by name, and with one to four by place, are covered: hold a struct of them
 // 7: A.Z.0: floats are not covered: hold a whole number of a smaller unit, or a String
 // 11: B: the tag and the content are both called `t`: give one of them another name
 // 13: B.X: of an enum that is tagged adjacently, only variants with no values and with one value are covered: hold a tuple or a struct of them
@@ -637,7 +619,7 @@ enum A { B(u8) }
 enum A {
     W(u8),
     X,
-    Y { x: u8 },
+    Y(u8, u8, u8, u8, u8),
     Z(f64),
 }
 #[derive(Serialize)]
@@ -696,7 +678,6 @@ enum E { Y, #[serde(rename = "Y")] X(u8, #[serde(default)] u8), Z { b: u8, #[ser
 // 13: A.v: a type that begins with `for` is not covered: write an enum of the functions that it may be
 // 14: A.w: `K` does not derive PartialOrd and Ord, as the keys of a map do: derive them too
 // 18: B: an enum of no variants is not covered, as no value of it is sent or read: delete it
-// 22: D.a: delete Eq here, as `C` does not come back: a value of `Y` may be read as `X`: tag the enum, or hold tuples of different lengths
 #[derive(Serialize, Deserialize)]
 #[rustfmt::skip]
 #[serde(try_from = "B")]
@@ -715,10 +696,6 @@ struct A {
 #[derive(Serialize, Deserialize)]
 struct K(u8);
 #[derive(Serialize, Deserialize)] enum B {}
-#[derive(PartialEq, Eq, Serialize, Deserialize)]
-#[serde(untagged)] enum C { X(u8), Y(u16) }
-#[derive(PartialEq, Eq, Serialize, Deserialize)]
-struct D { a: C }
 
 // 2: A: serde's `flatten` is covered in structs with named fields and without `deny_unknown_fields`
 // 4: C: serde's `flatten` is covered in structs with named fields and without `deny_unknown_fields`
@@ -786,3 +763,44 @@ use D as E;
 mod inner;
 #[derive(Serialize)]
 struct A(super::super::B, self::other::B, B, Self::B, C, D);
+
+// 3: passed over: `fn f`
+// 4: passed over: `fn f`
+// 2: A.x: its default is not covered, as `f` is no function of this file that gives one value, such as `8080`, `"text".to_owned()`, `Vec::new()` or a variant of an enum of this file
+// 2: A.y: two are called `x`: give one another name
+#[derive(Serialize, Deserialize)]
+struct A { #[serde(default = "f")] x: u8, #[serde(alias = "x")] y: u8 }
+#[cfg(unix)] fn f() -> u8 { 1 }
+#[cfg(windows)] fn f() -> u8 { 2 }
+
+// 2: B.Y: two are called `X`: give one another name
+// 2: B.Z: serde's `other` is for one variant that holds nothing, and is read
+#[derive(Serialize, Deserialize)]
+enum B { X, #[serde(alias = "X")] Y, #[serde(other)] Z(u8) }
+
+// 2: B.Z: serde's `other` is for one variant that holds nothing, and is read
+#[derive(Serialize, Deserialize)]
+enum B { X, #[serde(other)] Z(u8) }
+
+// 3: B.Z: `alias`, `other` and `skip_deserializing` are covered in enums that are tagged externally: delete them
+#[derive(Serialize, Deserialize)]
+#[serde(tag = "t")]
+enum B { X, #[serde(alias = "z")] Z }
+
+// 2: A.0: serde's `skip` is covered in fields with names: give them names
+#[derive(Serialize, Deserialize)]
+struct A(#[serde(skip)] u8, u8);
+
+// 2: A: what has no fields that are read is not covered: write it without fields
+#[derive(Serialize, Deserialize)]
+struct A { #[serde(skip)] x: u8 }
+
+// 2: A.x: serde's `rename` knows `serialize` and `deserialize`, each once
+#[derive(Serialize, Deserialize)]
+struct A { #[serde(rename(serialize = "a", serialize = "b"))] x: u8 }
+
+// 2: A.b: what is flattened is not covered where a field of it has an `alias`, which Serde doesn't read there: delete that
+#[derive(Serialize, Deserialize)]
+struct A { #[serde(flatten)] b: B }
+#[derive(Serialize, Deserialize)]
+struct B { #[serde(alias = "y")] x: u8 }

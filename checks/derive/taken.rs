@@ -486,3 +486,104 @@ struct A(Option<Other>, Thing);
 struct Thing { x: u8, #[serde(default)] y: Vec<Other> }
 #[derive(PartialEq, Eq, Serialize, Deserialize)]
 #[serde(tag = "t")] enum B { X(Thing), Y { #[serde(default)] a: Option<Thing>, b: Other } }
+
+// 3: written as `type_`: the name `r#type`
+// 5: written as `in_`: the name `r#in`
+// + struct A { type_: u8, plain: u8, }
+// + (name "TYPE")
+// + (name "PLAIN")
+// + in_(u8)
+#[derive(Serialize, Deserialize)]
+#[serde(rename_all = "UPPERCASE")]
+struct A { r#type: u8, r#plain: u8 }
+#[derive(Serialize, Deserialize)]
+enum B { r#in(u8) }
+
+// 2: no RoundTrip is written for `A`: `x` may be left out, and is not read where it is missing: give it `default` too
+// 4: no RoundTrip is written for `B`: `A`, which it holds, does not come back
+#[derive(PartialEq, Eq, Serialize, Deserialize)]
+struct A { #[serde(skip_serializing_if = "Vec::is_empty")] x: Vec<u8> }
+#[derive(PartialEq, Eq, Serialize, Deserialize)]
+struct B { a: A }
+
+// 2: no RoundTrip is written for `A`: `x` may be left out, and is not read where it is missing: give it `default` too
+// 4: no RoundTrip is written for `B`: `x` may be left out, and is not read where it is missing: give it `default` too
+#[derive(PartialEq, Eq, Serialize, Deserialize)]
+struct A { #[serde(skip_serializing_if = "String::is_empty")] x: String, y: u8 }
+#[derive(PartialEq, Eq, Serialize, Deserialize)]
+#[serde(tag = "t")] enum B { A(A), C }
+
+// 13: passed over: `const HOUR`
+// 14: passed over: `impl A`
+// 15: passed over: `fn is_hour`
+// 16: passed over: `fn five`
+// 17: passed over: `mod inner`
+// 18: passed over: `fn some`
+// 19: passed over: `fn low`
+// + is_default = { λ x. x ≡ 3600 }
+// + is_skipped = { λ x. (nat_eq x (3600)) }
+// + is_default = { λ x. x ≡ negsuc 4 }
+// + string_bytes x ≡ (name "a b")
+// + is_default = { λ x. x ≡ Some (16) }
+// + is_default = { λ x. x ≡ level.Low }
+// + type Field6OfA = ReadFieldOr<FieldsOfA, 5, Vec<u8>
+// + !*value
+#[derive(Serialize, Deserialize)]
+struct A {
+    #[serde(default = "A::seconds", skip_serializing_if = "is_hour")] a: u32,
+    #[serde(default = "five")] b: i8,
+    #[serde(default = "inner::text")] c: String,
+    #[serde(default = "some")] d: Option<u8>,
+    #[serde(default = "low")] e: Level,
+    #[serde(default = "Vec::new")] f: Vec<u8>,
+    #[serde(default, skip_serializing_if = "core::ops::Not::not")] g: bool,
+}
+#[derive(PartialEq, Eq, Serialize, Deserialize)]
+enum Level { Low, High(u8) }
+const HOUR: u32 = 60 * 60;
+impl A { fn seconds() -> u32 { HOUR } }
+fn is_hour(n: &u32) -> bool { *n == A::seconds() }
+fn five() -> i8 { -5 }
+mod inner { pub fn text() -> String { String::from("a b") } }
+fn some() -> Option<u8> { Some(0x10) }
+fn low() -> Level { Level::Low }
+
+// 4: passed over: `impl Default for A`
+// + is_default = { λ x. x ≡ 7 }
+// + ReadFieldOr<FieldsOfA, 1, String
+// - impl Absent
+#[derive(Serialize, Deserialize)]
+#[serde(default)]
+struct A { a: u8, b: String }
+impl Default for A { fn default() -> Self { Self { a: 7, b: String::new() } } }
+
+// 2: no RoundTrip is written for `A`: `x` is not sent
+// 4: no RoundTrip is written for `B`: variant `Y` is not sent
+// + UnreadThen (λ (x : ℕ). x ≡ 0) z.x
+// + unsent_script (codes "the enum variant B::Y cannot be serialized")
+// + name "X" ∷ []
+#[derive(PartialEq, Eq, Serialize, Deserialize)]
+struct A { #[serde(skip)] x: u8, #[serde(skip_serializing)] y: u8, z: u8 }
+#[derive(PartialEq, Eq, Serialize, Deserialize)]
+enum B { X, #[serde(skip)] Y(u8) }
+
+// 2: no RoundTrip is written for `A`: `x` has an `alias`
+// + aliased_then (name "x") (name "x" ∷ name "y" ∷ name "z" ∷ []) (Some (missing_field (name "x")))
+// + type TagsOfB = OtherAt<Aliases<AliasesOfB, MeantOfB>, NamesOfB, 1>;
+#[derive(PartialEq, Eq, Serialize, Deserialize)]
+struct A { #[serde(alias = "y", alias = "z")] x: u8 }
+#[derive(PartialEq, Eq, Serialize, Deserialize)]
+enum B { #[serde(alias = "x")] X, #[serde(other)] Y }
+
+// 3: no RoundTrip is written for `A`: `first_name` is read by another name than it is sent by
+// + ghost names = { name "first-name" ∷ name "b" ∷ [] }
+// + ghost names = { name "firstName" ∷ name "secondName" ∷ [] }
+#[derive(PartialEq, Eq, Serialize, Deserialize)]
+#[serde(rename_all(serialize = "camelCase", deserialize = "kebab-case"))]
+struct A { first_name: u8, #[serde(rename(deserialize = "b"))] second_name: u8 }
+
+#[derive(Serialize)]
+struct A {
+    #[serde(default = "one")]
+    x: u8,
+}

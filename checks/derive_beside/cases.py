@@ -32,7 +32,8 @@ def names_of(item):
     """The names that are sent of a type, of its variants and fields, and one that none has."""
     named = [item, *item.variants, *(field for field in item.fields() if field.wire)]
     tags = [item.serde[key] for key in ("tag", "content") if key in item.serde]
-    return [*(one.wire for one in named), *tags, "zz"]
+    aliases = [alias for one in [*item.variants, *item.fields()] for alias in one.aliases()]
+    return [*(name for one in named for name in dict.fromkeys([one.wire, one.known])), *tags, *aliases, "zz"]
 
 
 def within(kind):
@@ -82,7 +83,7 @@ class Maker:
         if "untagged" in item.serde:
             return self.value(variant.held())
         if "tag" not in item.serde:
-            return "enum", item.wire, index, variant.wire, self.data(variant.data)
+            return "enum", item.wire, index, variant.known, self.data(variant.data)
         holder, fields = self.tagged(item, variant)
         return "struct", holder, ("Fields", ((item.serde["tag"], ("str", variant.wire)), *fields))
 
@@ -117,8 +118,9 @@ class Maker:
     def field(self, field):
         """A field with its value; none where it may be missing, or is left out, at times."""
         value = self.value(field.type)
-        is_out = (field.missing or (field.skips and value in EMPTY)) and chance() < 0.3
-        return () if is_out else ((field.wire, value),)
+        is_out = (field.missing or (field.skips and value in EMPTY)) and chance() < 0.3 or not (field.read or chance() < 0.2)
+        name = pick([field.known, *field.aliases()]) if chance() < 0.5 else field.known
+        return () if is_out else ((name, value),)
 
 
 # What trees hold, as a list of trees and a way to put others in their places.

@@ -25,11 +25,14 @@ class Enums(Structs):
 
     def variant_of(self, item, source):
         """The variant that a tag names, with its index."""
-        names = [variant.wire for variant in item.variants]
+        readable = [variant for variant in item.variants if variant.read]
+        names = [variant.known for variant in readable]
         name = self.name(source, names, "variant")
-        if name not in names:
+        meant = [variant for variant in readable if name == variant.known or name in variant.aliases()]
+        meant += [variant for variant in readable if "other" in variant.serde]
+        if not meant:
             raise Refused(f"unknown variant `{name}`, expected {one_of(names)}")
-        return names.index(name), item.variants[names.index(name)]
+        return item.variants.index(meant[0]), meant[0]
 
     # Tagged externally.
 
@@ -37,7 +40,10 @@ class Enums(Structs):
         """An enum whose variant is the tree itself, a text, or the key of the one entry of a map."""
         tag, data = self.opened(item, source)
         index, variant = self.variant_of(item, source.of(tag))
-        return "enum", item.wire, index, variant.wire, self.data(item, variant, source, data)
+        held = self.data(item, variant, source, data)
+        if not variant.sent:
+            raise Refused(f"the enum variant {item.name}::{variant.name} cannot be serialized")
+        return "enum", item.wire, index, variant.wire, held
 
     def opened(self, item, source):
         """The tag, and the data: of a variant, ("value", tree) of an entry, or none."""
@@ -297,7 +303,7 @@ class Enums(Structs):
         tag, content = item.serde["tag"], item.serde["content"]
         if variant.data.style == "Unit":
             return tagged(item.wire, variant, tag)
-        return tagged(item.wire, variant, tag, (content, self.missing(replace(variant.data.fields[0], wire=content))))
+        return tagged(item.wire, variant, tag, (content, self.missing(replace(variant.data.fields[0], wire=content, known=content))))
 
     # Untagged.
 

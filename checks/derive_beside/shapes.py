@@ -16,13 +16,19 @@ WHOLE = "by the struct"
 def shapes_of(files):
     """The structs and enums of these files, by their names, with the names that are sent. A field that has a default by
     its struct's attribute has `default` there as `WHOLE`."""
-    shapes = {item.name: item for file in files for item in read(Path(file).read_text(encoding="utf-8")).items}
-    for item in shapes.values():
-        if "default" in item.serde:
-            for field in item.fields():
-                field.serde.setdefault("default", WHOLE)
-        for refused in name_item(item):
-            raise refused
+    shapes = {}
+    for file in files:
+        declared = read(Path(file).read_text(encoding="utf-8"))
+        for item in declared.items:
+            declared.functions.units[item.name] = [variant.name for variant in item.variants if variant.data.style == "Unit"]
+        for item in declared.items:
+            its_own = [field for field in item.fields() if "default" in field.serde]
+            for refused in name_item(item, declared.functions):
+                raise refused
+            shapes[item.name] = item
+            for field in item.fields() if "default" in item.serde else ():
+                if not any(field is one for one in its_own):
+                    field.serde["default"] = WHOLE
     return shapes
 
 

@@ -66,15 +66,19 @@ class Structs(Leaves):
 
     def by_place(self, fields, source, items, expecting, too_many=None):
         """The fields out of a sequence."""
-        values = []
-        for place, field in enumerate(fields):
+        values, place, count = [], 0, sum(field.read for field in fields)
+        for field in fields:
+            if not field.read:
+                values.append((field.known, self.default_of(field)))
+                continue
             if place < len(items):
-                values.append((field.wire, self.read(field.type, source.of(items[place]))))
+                values.append((field.known, self.read(field.type, source.of(items[place]))))
             elif field.serde.get("default", WHOLE) != WHOLE:
-                values.append((field.wire, self.default(field.type)))
+                values.append((field.known, self.default_of(field)))
             else:
-                raise Refused(f"invalid length {place}, expected {expecting} with {counted(len(fields))}")
-        self.end(source, len(items), len(fields), too_many)
+                raise Refused(f"invalid length {place}, expected {expecting} with {counted(count)}")
+            place += 1
+        self.end(source, len(items), count, too_many)
         return sent(fields, values)
 
     def fields(self, fields, source, entries, closed, before=()):
@@ -88,13 +92,14 @@ class Structs(Leaves):
                 raise Refused(f"duplicate field `{name}`")
             if name is not None:
                 values[name] = self.read(kind_of(fields, name), source.of(tree))
-        return sent(fields, [(field.wire, values[field.wire] if field.wire in values else self.missing(field))
+        return sent(fields, [(field.known, values[field.known] if field.known in values else self.missing(field))
                              for field in fields])
 
     def field_name(self, fields, source, closed, before):
         """The field that a key names, or none that is known."""
-        names = [field.wire for field in fields]
+        names = [field.known for field in fields if field.read]
         name = self.name(source, names, "field")
+        name = next((field.known for field in fields if name in field.aliases()), name)
         if closed and name not in names:
             raise self.unknown(name, source, names, before)
         return name if name in names else None
@@ -135,12 +140,14 @@ class Structs(Leaves):
 
     def in_order(self, fields, source, entries, closed, before=()):
         """The fields in their order, and then what is left."""
-        names, values = [field.wire for field in fields], []
+        names, values = [field.known for field in fields if field.read], []
         left = [(self.name(source.of(key), names, "field"), key, tree) for key, tree in entries]
         for field in fields:
-            place = place_of(left, field.wire)
+            place = place_by(left, field) if field.read else None
             value = self.missing(field) if place is None else self.read(field.type, source.of(left.pop(place)[2]))
-            values.append((field.wire, value))
+            values.append((field.known, value))
+            if field.aliases() and place_by(left, field) is not None:
+                raise Refused(f"duplicate field `{field.known}`")
         self.check_left(names, source, left, closed, before)
         return sent(fields, values)
 
@@ -155,13 +162,13 @@ class Structs(Leaves):
     def missing(self, field):
         """What is read where a field has no entry."""
         if "default" in field.serde:
-            return self.default(field.type)
+            return self.default_of(field)
         kind = field.type
         while BOXED not in self.on and self.around(kind):
             kind = self.around(kind)
         if kind.name == "Option":
             return NONE
-        raise Refused(f"missing field `{field.wire}`")
+        raise Refused(f"missing field `{field.known}`")
 
     def around(self, kind):
         """What a type is read as where it adds nothing: what a Box or a transparent struct holds, else none."""
@@ -169,6 +176,22 @@ class Structs(Leaves):
             return kind.arguments[0]
         item = self.shapes.get(own(kind))
         return item.data.fields[0].type if item and item.transparent() else None
+
+    def default_of(self, field):
+        """The default of a field: what a function of the file gives, or that of its type."""
+        if not field.made:
+            return self.default(field.type)
+        kind, said = field.type, field.missing.rpartition("≡ ")[2]
+        if kind.name in KINDS:
+            sort, _, digits = said.rpartition(" ")
+            return "num", kind.name, -int(digits) - 1 if sort == "negsuc" else int(digits)
+        if kind.name == "bool":
+            return "bool", said == "true"
+        if kind.name == "String":
+            return "str", said[len('(name "'):-len('")')]
+        item = self.shapes[own(kind)]
+        index = [variant.name for variant in item.variants].index(said.rpartition(".")[2])
+        return "enum", item.wire, index, item.variants[index].wire, ("Unit",)
 
     def default(self, kind):
         """The default of a type."""
@@ -268,7 +291,7 @@ class Structs(Leaves):
 
 def kind_of(fields, name):
     """The type of the field of this name."""
-    return next(field.type for field in fields if field.wire == name)
+    return next(field.type for field in fields if field.known == name)
 
 
 def place_of(entries, name):
@@ -276,6 +299,20 @@ def place_of(entries, name):
     return next((place for place, (found, _, _) in enumerate(entries) if found == name), None)
 
 
+def place_by(entries, field):
+    """Where the first entry is that has the first of a field's names which any has, or none."""
+    places = [place_of(entries, name) for name in [field.known, *field.aliases()]]
+    return next((place for place in places if place is not None), None)
+
+
 def sent(fields, values):
-    """The fields that are sent again: all but the empty ones that are left out."""
-    return tuple(entry for field, entry in zip(fields, values) if not (field.skips and entry[1] in EMPTY))
+    """The fields that are sent again: all but those that are left out."""
+    return tuple((field.wire, entry[1]) for field, entry in zip(fields, values) if field.sent and not (field.skips and is_left_out(field, entry[1])))
+
+
+def is_left_out(field, value):
+    """Whether a field is left out where it has this value: an empty one, or the one that its test is for."""
+    if not field.test:
+        return value in EMPTY
+    said = field.test.fact.rpartition("≡ ")[2].rpartition(" ")
+    return value[-1] == (said[2] == "true" if value[0] == "bool" else -int(said[2]) - 1 if said[0] == "negsuc" else int(said[2]))

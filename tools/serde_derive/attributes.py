@@ -10,8 +10,8 @@ from .tokens import Cursor, text_of
 COVERED = {
     "a container": {"rename", "rename_all", "rename_all_fields", "deny_unknown_fields", "untagged",
                     "tag", "content", "transparent", "default"},
-    "a variant": {"rename", "rename_all"},
-    "a field": {"rename", "default", "flatten", "skip_serializing_if"},
+    "a variant": {"rename", "rename_all", "alias", "other", "skip", "skip_serializing", "skip_deserializing"},
+    "a field": {"rename", "alias", "default", "flatten", "skip_serializing_if", "skip", "skip_serializing", "skip_deserializing"},
 }
 # why others of Serde's attributes are not covered, and what to write instead
 NOT_COVERED = {
@@ -19,15 +19,12 @@ NOT_COVERED = {
                     " struct around the value, and write its impls by hand"),
     **dict.fromkeys(["from", "try_from", "into"], "a conversion has no contract here: write the impls by hand"),
     **dict.fromkeys(["remote", "getter"], "only your own types are sent: declare one like it, and convert it by hand"),
-    **dict.fromkeys(["skip", "skip_serializing", "skip_deserializing"], "what is left out would not come back: keep it"
-                    " outside of this type"),
-    "alias": "one name is read: delete it",
-    "other": "variants of other names are refused: delete it",
     "bound": "there are no type parameters: delete it",
     "borrow": "values are owned: delete it",
     "crate": "what is written uses `serde_content`: delete it",
     "expecting": "refusals have a text of their own: delete it",
 }
+VALUED = {"tag", "content", "skip_serializing_if", "alias"}
 DERIVES = set("Clone Copy Debug Default Drop Eq Hash Ord PartialEq PartialOrd Serialize Deserialize".split())
 SERDE = {"Serialize", "Deserialize"}
 CRATES = {"std", "core", "alloc", "serde", "serde_derive"}
@@ -159,14 +156,39 @@ class Attributes(Cursor):
             levels = " or ".join(other for other, keys in COVERED.items() if key in keys)
             why = NOT_COVERED.get(key, f"it is for {levels}" if levels else "delete it, or write the impls by hand")
             raise Refused(line, f"serde's `{key}` on {level} is not covered: {why}")
-        if self.next.text == "(":
-            raise Refused(line, f"serde's `{key}` by direction is not covered: write one name for both, `{key} = \"..\"`")
+        if key in into and key != "alias":
+            raise Refused(line, f"serde's `{key}` stands twice")
+        if self.next.text == "(" and key.startswith("rename"):
+            into[key] = self.directions(line, key)
+            return
         valued = self.eat("=")
-        if valued != (key in ("tag", "content", "skip_serializing_if") or key.startswith("rename")):
+        if key != "default" and valued != (key in VALUED or key.startswith("rename")):
             why = f"write `{key}` alone" if valued else f"write `{key} = \"..\"`"
             raise Refused(line, f"serde's `{key}` so is not covered: {why}")
-        if key in into:
-            raise Refused(line, f"serde's `{key}` stands twice")
-        into[key] = text_of(self.take()) if valued else ""
-        if key.startswith("rename_all") and into[key] not in CASES:
-            raise Refused(line, f"serde's `{key}` knows no case `{into[key]}`: it has {', '.join(CASES)}")
+        value = text_of(self.take()) if valued else ""
+        if "\n" in value:
+            raise Refused(line, f"the name `{ascii(value)[1:-1]}` is not covered: printable ASCII but \" and \\ is")
+        into[key] = f"{into[key]}\n{value}" if key in into else value
+        self.check_case(line, key, into[key])
+
+    @staticmethod
+    def check_case(line: int, key: str, case: str) -> None:
+        """Refuses a case that Serde doesn't know."""
+        if key.startswith("rename_all") and case not in CASES:
+            raise Refused(line, f"serde's `{key}` knows no case `{case}`: it has {', '.join(CASES)}")
+
+    def directions(self, line: int, key: str) -> str:
+        """The name or case for sending and the one for reading, a line each; one that isn't given is empty."""
+        given = {"serialize": "", "deserialize": ""}
+
+        def one() -> None:
+            direction = self.take().text
+            self.expect("=")
+            if given.get(direction) != "":
+                raise Refused(line, f"serde's `{key}` knows `serialize` and `deserialize`, each once")
+            given[direction] = text_of(self.take())
+            self.check_case(line, key, given[direction])
+
+        self.expect("(")
+        self.listed(")", one)
+        return "\n".join(given.values())

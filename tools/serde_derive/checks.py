@@ -4,6 +4,7 @@ from typing import Iterator, List
 
 from .declarations import Field, Item, NotRust, Refused
 from .files import File
+from .functions import Functions
 from .homes import extent, from_crate, placed
 from .types import LEAVES
 from .words import CRATES, SEEN, TAKEN, WORDS
@@ -45,7 +46,7 @@ def check_values(items: List[Item]) -> Iterator[Refused]:
                           f" {renamed(item.name, 'type')}", item.name)
 
 
-def check_attributes(item: Item) -> Iterator[Refused]:
+def check_attributes(item: Item, functions: Functions) -> Iterator[Refused]:
     """Refuses attributes of Serde's that don't go with the declaration."""
     reasons = []
     if item.flattens() and (item.variants or not item.data.named or "deny_unknown_fields" in item.serde):
@@ -57,7 +58,7 @@ def check_attributes(item: Item) -> Iterator[Refused]:
                     for key in sorted({"rename_all_fields", "untagged", "tag", "content"} & set(item.serde))]
     if "default" in item.serde and (item.sort != "struct" or not item.data.named):
         reasons.append("serde's `default` on a container is covered on structs with named fields")
-    elif "default" in item.serde and not item.defaults:
+    elif "default" in item.serde and not (item.defaults or item.serde["default"] or f"{item.name}::default" in functions.named):
         reasons.append("serde's `default` on a container is covered where it derives Default: derive that, or write"
                        " `default` on each field")
     if item.transparent():
@@ -118,11 +119,13 @@ def check_parts(item: Item) -> Iterator[Refused]:
     groups = [[(v, f"{item.name}.{v.name}") for v in item.variants], [(f, f"{item.name}.{f.name}") for f in item.data.fields]]
     groups += [[(f, f"{item.name}.{v.name}.{f.name}") for f in v.data.fields] for v in item.variants]
     for group in groups:
-        seen = set()
+        seen = {}
         for one, where in group:
-            if one.name in seen:
+            other = seen.setdefault(one.name, one)
+            if other is not one and (one.raw or one.name) == (other.raw or other.name):
                 yield NotRust(one.line, f"two are called `{one.name}`", where)
-            seen.add(one.name)
+            elif other is not one:
+                yield Refused(one.line, f"two are written as `{one.name}`: give one another name", where)
 
 
 def check_work(items: List[Item]) -> Iterator[Refused]:
@@ -148,4 +151,4 @@ def check(file: File, module: List[str]) -> Iterator[Refused]:
         yield from check_parts(item)
         yield from check_names(item)
         yield from check_visible(item, ["crate", *module])
-        yield from check_attributes(item)
+        yield from check_attributes(item, file.functions)

@@ -2,9 +2,10 @@
 import re
 from dataclasses import dataclass, field, replace
 from itertools import combinations, islice
-from typing import Dict, List, Optional
+from typing import Dict, List, NamedTuple, Optional
 
-from .types import SIGNED, Type, in_term
+from .cases import pascal
+from .types import DEFAULTS, SIGNED, Type, in_term
 from .words import NO_PLACES
 
 
@@ -52,33 +53,77 @@ class Refusals(Exception):
         self.status = min(refused.status for refused in each)
 
 
+class Test(NamedTuple):
+    """A test of the user's own: whether {x} passes, as contracts see it, the code that says so of `value`, what contracts say
+    of an `x` that passes, and that one that is read in place of {x} equals it."""
+
+    term: str
+    code: str
+    fact: str
+    alike: str
+
+
 @dataclass
 class Named:
     """What has a name, with the lines that stand before it and Serde's attributes; `wire` is the
-    name that is sent."""
+    name that is sent, `known` the one by which it is read. Where it has a raw name, `raw` is that."""
 
     name: str
     line: int
     head: List[str]
     serde: Dict[str, str]
     wire: str = ""
+    known: str = ""
+    raw: str = ""
+
+    @property
+    def sent(self) -> bool:
+        return not {"skip", "skip_serializing"} & set(self.serde)
+
+    @property
+    def read(self) -> bool:
+        return not {"skip", "skip_deserializing"} & set(self.serde)
+
+    def aliases(self) -> List[str]:
+        """The other names by which it is read."""
+        return self.serde["alias"].split("\n") if "alias" in self.serde else []
 
 
 @dataclass
 class Field(Named):
     """A field; one by place has its place as its name. Where it may be missing, `missing` is what
-    contracts say of what is read then. It `skips` where it isn't sent if it is empty.
+    contracts say of what is read then, and `made` the code that makes a Result of it, where it isn't that of its type.
+    It `skips` where it isn't sent if it is empty, or passes a `test` of the user's.
     Where it is flattened, `inside` is what its type holds."""
 
     type: Type = Type("()")
     visible: str = ""
     missing: str = ""
+    made: str = ""
     skips: bool = False
+    test: Optional[Test] = None
     inside: Optional["Data"] = None
 
     def skipped(self, value: str) -> str:
         """Whether it is left out where it has this value."""
+        if self.test:
+            return self.test.term.format(x=value)
         return f"({self.type.member('Skip', 'is_empty')} {value})"
+
+    def lost(self) -> bool:
+        """Whether what is read in its place may not equal what was left out."""
+        return self.skips and self.missing != (self.test.fact if self.test else DEFAULTS[self.type.name])
+
+    def why_lost(self) -> str:
+        """Why it may not come back."""
+        if self.aliases():
+            return "has an `alias`"
+        if self.wire != self.known:
+            return "is read by another name than it is sent by"
+        if not (self.sent and self.read):
+            return f"is not {'read' if self.sent else 'sent'}"
+        return "may be left out, and " + ("what is read in its place may be another value" if self.missing else
+                                          "is not read where it is missing: give it `default` too")
 
     def absent(self) -> str:
         """What may be given where it is missing, after a blank."""
@@ -164,7 +209,9 @@ class Variant(Named):
         return any(f.type.name in SIGNED for f in self.data.fields)
 
     def held(self) -> Type:
-        """What a variant of values by place is read as, where its enum is untagged."""
+        """What a variant is read as, where its enum is untagged: one of values by name as a struct."""
+        if self.data.named:
+            return Type(pascal(self.owner))
         types = tuple(f.type for f in self.data.fields)
         return types[0] if len(types) == 1 else Type("tuple", types)
 
@@ -220,22 +267,35 @@ class Item(Named):
         return [f for v in self.variants if v.beside for f in v.beside.data.leaves()] + self.fields()
 
     def lost(self) -> List[Field]:
-        """The fields that aren't read where they are left out."""
-        return [f for f in self.sent_fields() if f.skips and not f.missing]
+        """The fields that are left out, and not read as what they were, or read by several names."""
+        return [f for f in self.sent_fields() if f.lost() or f.aliases() or f.wire != f.known or not (f.sent and f.read)]
+
+    def one_way(self) -> List[Variant]:
+        """The variants that aren't both sent and read, by one name."""
+        return [v for v in self.variants if v.wire != v.known or not (v.sent and v.read)]
 
     def comes_back(self) -> bool:
         """Whether RoundTrip is written."""
         return self.derives_all() and not self.why_astray()
 
     def why_astray(self) -> str:
-        """Why some values may not come back, and what to write instead; nothing where all do. A value of an untagged enum
-        may be read as another variant's, where two take trees of one class, and not each of a length of its own."""
+        """Why some values may not come back, and what to write instead where that is known; nothing where all do. A value
+        of an untagged enum may be read as another variant's, where two take trees of one class, and not each of a length
+        of its own."""
         for f in self.lost():
-            return f"`{f.name}` may be left out, and is not read where it is missing: give it `default` too"
+            return f"`{f.name}` {f.why_lost()}"
+        for v in self.one_way():
+            if v.wire != v.known:
+                return f"variant `{v.name}` is read by another name than it is sent by"
+            return f"variant `{v.name}` is not {'read' if v.sent else 'sent'}"
         for own in self.owns():
             if own.astray:
                 return f"`{own.name}`, which it holds, does not come back"
-        held = [(v, v.held()) for v in self.variants] if "untagged" in self.serde else []
+        untagged = self.variants if "untagged" in self.serde else []
+        for v in untagged:
+            if v.data.named:
+                return f"variant `{v.name}` of an untagged enum has values by name: hold a struct of them"
+        held = [(v, v.held()) for v in untagged]
         for v, one in held:
             if not one.takes():
                 return (f"which values `{one.rust()}` in `{v.name}` takes is not known: hold a struct of this file with named"
@@ -250,7 +310,8 @@ class Item(Named):
         it does what they hold."""
         held = [f for v in self.variants if v.beside for f in v.beside.data.leaves()]
         held += [f for v in self.variants if not v.beside for f in v.data.leaves()] + self.data.leaves()
-        return self.comes_back() and bool(self.variants or held) and all(
+        return self.comes_back() and not any(v.aliases() or "other" in v.serde for v in self.variants) and bool(
+            self.variants or held) and all(
             f.type.comes_back_from_cbor() and not f.skips for f in held)
 
     def may_be_null(self) -> bool:

@@ -45,7 +45,7 @@ def settle_defaults(ordered: List[Item], items: Dict[str, Item], file: File) -> 
         elsewhere = {t.name for t in types if t.home and t.name not in items and "default" in item.serde}
         if any(takes_memory(t, holding) for t in types):
             holding.add(item.name)
-        if item.defaults and {t.name for t in types} <= valued | elsewhere:
+        if item.defaults and not item.serde.get("default") and {t.name for t in types} <= valued | elsewhere:
             valued.add(item.name)
             settle_default(item, item.name in holding, file)
 
@@ -62,7 +62,7 @@ def check_missing(item: Item, items: Dict[str, Item]) -> Iterator[Refused]:
     """Refuses a field that may be missing, and is read, where there is no value for it."""
     for where, f in placed(item) if "Deserialize" in item.derives else ():
         mine = items.get(f.type.name)
-        if "default" not in f.serde or f.type.name in DEFAULTS:
+        if "default" not in f.serde or f.type.name in DEFAULTS or f.made:
             continue
         if not f.type.home:
             yield Refused(f.line, "its default is not covered: hold a number, bool, String, Option, Vec, BTreeMap or a type"

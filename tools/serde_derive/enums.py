@@ -1,13 +1,13 @@
 """The impls of an enum that is tagged externally, and what those of others share with them."""
-from typing import Callable, List
+from typing import Callable, List, Tuple
 
 from .attributes import DEFAULT
 from .cases import pascal
 from .declarations import Data, Item, Variant
 from .holder import Holder
-from .literals import ROWS_OPENED, list_impl, name_method, name_term, opened
+from .literals import ROWS_OPENED, list_impl, list_term, name_method, name_term, opened
 from .text import ABSENT, DESERIALIZE, KNOWN, REFUSES_NULL, SERIALIZE, all_hold, arm, bare, bracketed, clause
-from .text import elim, facts, function, ghost, together
+from .text import codes, elim, facts, function, ghost, together
 from .types import in_term
 
 
@@ -20,6 +20,34 @@ class EnumWriter:
         self.sends, self.reads = "Serialize" in item.derives, "Deserialize" in item.derives
         self.variants = [(v, Holder("Variant", [item.wire, i, v.wire], v.data, v.owner))
                          for i, v in enumerate(item.variants)]
+        self.tags, self.meant = self.tag_names()
+
+    def readable(self) -> List[Tuple[Variant, Holder]]:
+        """The variants that are read."""
+        return [(v, holder) for v, holder in self.variants if v.read]
+
+    def tag_names(self) -> Tuple[str, str]:
+        """The type that stands for what tags mean, where some mean other names, and what contracts see of it."""
+        pairs = [(alias, v.known) for v in self.item.variants for alias in v.aliases()]
+        other = [i for i, v in enumerate(v for v in self.item.variants if v.read) if "other" in v.serde]
+        named = [v.known for v in self.item.variants if v.read]
+        owner = pascal(self.item.owner)
+        tags, meant = "OwnNames", "tag"
+        if pairs:
+            tags = f"Aliases<AliasesOf{owner}, MeantOf{owner}>"
+            meant = f"(meant {list_term([alias for alias, _ in pairs])} {list_term([name for _, name in pairs])} {meant})"
+        if other:
+            tags = f"OtherAt<{tags}, {self.list}, {other[0]}>"
+            meant = f"(meant_among {list_term(named)} {name_term(named[other[0]])} {meant})"
+        return (tags, meant) if pairs or other else ("", "")
+
+    def tag_types(self) -> List[str]:
+        """The declarations of that type, and of the names in it."""
+        pairs = [(alias, v.known) for v in self.item.variants for alias in v.aliases()]
+        owner = pascal(self.item.owner)
+        lists = [list_impl(f"AliasesOf{owner}", "Further names of its variants.", [alias for alias, _ in pairs]),
+                 list_impl(f"MeantOf{owner}", "What each of them stands for.", [name for _, name in pairs])] * bool(pairs)
+        return lists + [f"type TagsOf{owner} = {self.tags};\n"] * bool(self.tags)
 
     @staticmethod
     def values(data: Data, letter: str = "x") -> List[str]:
@@ -49,9 +77,10 @@ class EnumWriter:
     def functions(self) -> List[str]:
         """Those that the impls call."""
         return [text for v, holder in self.variants
-                for text in self.maker(v, holder) * self.reads + holder.names_list()
-                + (holder.sent_types() + self.whole_sender(v, holder)) * self.sends
-                + (holder.row_types() + self.reader(v, holder)) * self.reads] + self.names_list()
+                for text in self.maker(v, holder) * (self.reads and v.read) + holder.names_list() * (v.sent or v.read)
+                + (holder.sent_types() + self.whole_sender(v, holder)) * (self.sends and v.sent)
+                + (holder.row_types() + self.reader(v, holder)) * (self.reads and v.read)] + self.names_list() + (
+                    self.tag_types() * self.reads)
 
     def whole_sender(self, v: Variant, holder: Holder) -> List[str]:
         """The function that sends a variant of several values by the script of the enum: its proof
@@ -87,7 +116,7 @@ class EnumWriter:
 
     def names_list(self) -> List[str]:
         """The type that stands for the names of the variants, where it is used."""
-        return [list_impl(self.list, "The names of its variants.", [v.wire for v in self.item.variants])] * self.reads
+        return [list_impl(self.list, "The names of its variants.", [v.known for v, _ in self.readable()])] * self.reads
 
     def reader(self, v: Variant, holder: Holder) -> List[str]:
         """The function that reads a variant's fields, all values as one, where it needs one."""
@@ -128,10 +157,18 @@ class EnumWriter:
                 function(ABSENT.format(self.item.name), f"{self.item.name}::{marked.name}")]
 
     def serialize(self) -> List[str]:
-        sent = [arm(self.made(v, v.data.places()), self.send_variant(v, h)) for v, h in self.variants]
-        return [ghost("script", self.each(lambda v, holder, x: holder.script(x))),
-                ghost("lawful", self.each(lambda v, holder, x: f"λ readable. {holder.lawful(x)}")),
+        sent = [arm(self.made(v, v.data.places()), self.send_variant(v, h)) if v.sent else
+                arm(self.made(v, ["_"] * len(v.data.fields)), [f'Err(Error::custom(alloc, "{self.unsent(v)}"))'])
+                for v, h in self.variants]
+        return [ghost("script", self.each(lambda v, holder, x: holder.script(x) if v.sent else
+                                          f"unsent_script {codes(self.unsent(v))}")),
+                ghost("lawful", self.each(lambda v, holder, x: "λ readable. " + (
+                    holder.lawful(x) if v.sent else "unsent_lawful _"))),
                 function(SERIALIZE, *self.match(sent))]
+
+    def unsent(self, v: Variant) -> str:
+        """What a variant that isn't sent is refused with."""
+        return f"the enum variant {self.item.name}::{v.name} cannot be serialized"
 
     def refusal_of(self, holder: Holder) -> str:
         """What a variant refuses."""
@@ -139,7 +176,7 @@ class EnumWriter:
 
     def refusals(self) -> str:
         """What each variant refuses, by name."""
-        each = [f"({bare(name_term(v.wire))}, {self.refusal_of(holder).strip()})" for v, holder in self.variants]
+        each = [f"({bare(name_term(v.known))}, {self.refusal_of(holder).strip()})" for v, holder in self.readable()]
         return "(variants (\n" + "\n∷ ".join(each + ["[]))"])
 
     def gives(self, holder: Holder, values: List[str]) -> str:
@@ -152,7 +189,7 @@ class EnumWriter:
 
     def dispatch(self, tag: str) -> List[str]:
         """The statements that read the variant that a tag names."""
-        arms = [arm(f"Some({i})", self.arm_lines(v, holder)) for i, (v, holder) in enumerate(self.variants)]
+        arms = [arm(f"Some({i})", self.arm_lines(v, holder)) for i, (v, holder) in enumerate(self.readable())]
         return [f"match variant_index({tag}, &{self.list}) {{", *arms,
                 f"_ => Err(no_such_variant(alloc, {tag}, &{self.list})),", "}"]
 
@@ -160,8 +197,8 @@ class EnumWriter:
         """What contracts see of the variants."""
         return [ghost("name", bare(self.name)),
                 ghost("refusal", bare(self.refusals())),
-                ghost("named", self.each(lambda v, holder, x: bare(name_term(v.wire)))),
-                ghost("held", self.each(lambda v, holder, x: self.gives(holder, x)))]
+                ghost("named", self.each(lambda v, holder, x: bare(name_term(v.known)))),
+                ghost("held", self.each(lambda v, holder, x: self.gives(holder, x) if v.read else "λ v. ⊥"))]
 
     def variants_impl(self) -> List[str]:
         """The members of the impl that reads the variant that a tag names."""
@@ -183,6 +220,10 @@ class EnumWriter:
         return f"⟦<{self.item.name} as {self.variants_trait}>⟧.{word}"
 
     def deserialize(self) -> List[str]:
+        if self.tags:
+            return [ghost("refusal", f"enum_refusal {self.name} (λ tag. {self.member('refusal')} {self.meant})"),
+                    ghost("gives", f"λ s y. EnumGivesBy (λ tag. {self.meant}) {self.name}\n({self.member('named')} y)\n({self.member('held')} y) s"),
+                    function(DESERIALIZE.format(self.item.name), f"read_enum_by::<TagsOf{pascal(self.item.owner)}, Self>(alloc, from)")]
         return [ghost("refusal", f"enum_refusal {self.name} {self.member('refusal')}"),
                 ghost("gives", f"λ s y. EnumGives {self.name}\n({self.member('named')} y)\n({self.member('held')} y) s"),
                 function(DESERIALIZE.format(self.item.name), "read_enum(alloc, from)")]
@@ -249,7 +290,9 @@ class EnumWriter:
     def keeps(self, v: Variant, holder: Holder, values: List[str]) -> str:
         """That a variant is given with coercion where it is without."""
         law = f"{holder.word}_keeps{holder.keeps(self.sees(holder))}"
-        return (f"λ p.\nlet q = variant_kept {{own = {bracketed(holder.refusal())}}} {self.name} {name_term(v.wire)}\n"
+        own = f"{{own = {bracketed(holder.refusal())}}}"
+        kept = f"meant_variant_kept {own} (λ tag. {self.meant})" if self.tags else f"variant_kept {own}"
+        return (f"λ p.\nlet q = {kept} {self.name} {name_term(v.wire)}\n"
                 f"{self.member('refusal')} ({opened('λ v. refl')}) {bracketed(law)}\n"
                 f"o people {together(values)} p.free p.given in\nrecord {{ free = q.0; given = q.1 }}")
 

@@ -4,6 +4,7 @@ from typing import Dict, List, Set, Tuple
 
 from .attributes import SERDE, Head, doc_line
 from .declarations import Item, NotRust, Refused
+from .functions import Functions
 from .parser import BEGIN_ITEMS, Parser
 from .tokens import KEYWORDS, ROOTS, text_of
 from .types import Type
@@ -21,7 +22,7 @@ NAMELESS = {"const": "_", "crate": "self"}
 @dataclass
 class File:
     """What a file holds: its documentation, the paths that it uses, its types, by what aliases stand
-    for, the types that are passed over with the reason, the traits that impls give to types, and notes.
+    for, the types that are passed over with the reason, the traits that impls give to types, functions, and notes.
     `lines` has what each name of a `use` or an alias stands for first, and its line, `brought` what each private
     `use` brings, with its line, and `derived` the names that derives begin with."""
 
@@ -31,6 +32,7 @@ class File:
     aliases: Dict[str, Type] = field(default_factory=dict)
     passed: Dict[str, str] = field(default_factory=dict)
     impls: Set[Tuple[str, str]] = field(default_factory=set)
+    functions: Functions = field(default_factory=Functions)
     notes: List[Tuple[int, str]] = field(default_factory=list)
     refused: List[Refused] = field(default_factory=list)
     lines: Dict[str, Tuple[object, int]] = field(default_factory=dict)
@@ -200,6 +202,7 @@ class Reader(Parser):
         else:
             raise NotRust(line, f"expected an item, found `{word}`")
         self.pass_item(braces=word not in WITH_SEMICOLON)
+        self.into.functions.collect(self.tokens, self.pairs, start, self.place)
         self.note_passed(start, end)
 
     def note_impl(self, start: int) -> None:

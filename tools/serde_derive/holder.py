@@ -80,15 +80,19 @@ class Holder:
         self.camel = "Struct" if data.named and sort == "Struct" else data.style + sort
         self.word = snake(self.camel)
         self.names = " ".join(str(n) if isinstance(n, int) else name_term(n) for n in names)
-        written = [str(n) if isinstance(n, int) else name_call(n) for n in names + [self.count] * self.many]
+        written = [str(n) if isinstance(n, int) else name_call(n) for n in names + [self.sent_count()] * self.many]
         self.call = f"Call::{self.camel}({', '.join(written)})"
         self.of_variant, self.wire = sort == "Variant", names[0] if names else ""
         self.reader, self.owner = f"read_{owner}", pascal(owner)
         self.list = f"FieldsOf{self.owner}"
-        self.names_known = [f.wire for f in data.fields]
+        self.names_known = [f.known for f in data.fields if f.read]
+        self.names_sent = self.names_known
+        if any(f.sent and (f.wire != f.known or not f.read) for f in data.fields):
+            self.names_sent = [f.wire for f in data.fields if f.sent]
+        self.sent_list = self.list if self.names_sent is self.names_known else f"SentOf{self.owner}"
         self.before: List[str] = []
         self.big = self.many and self.count > self.room()
-        self.skips = any(f.skips for f in data.fields)
+        self.skips = any(f.skips for f in data.fields if f.sent)
         self.head = "" if self.of_variant else " " + self.names
         self.name = "" if self.of_variant else written[0]
 
@@ -96,10 +100,27 @@ class Holder:
         """How many values are read with no struct of them all."""
         return LONGEST_HELD if self.of_variant else LONGEST_ROW
 
+    def aliases(self) -> List[str]:
+        """The further names of its fields."""
+        return [alias for f in self.fields for alias in f.aliases()]
+
+    @property
+    def alias_list(self) -> str:
+        """The type that stands for them."""
+        return f"AliasesOf{self.owner}"
+
+    def sent_count(self) -> int:
+        """How many values are sent, where none is left out."""
+        return sum(f.sent for f in self.fields)
+
     def names_list(self) -> List[str]:
-        """The type that stands for the names of its fields."""
+        """The types that stand for the names of its fields: one more where fields are sent that aren't read."""
         known = self.data.named and self.names_known
-        return [list_impl(self.list, "The names of its fields.", self.names_known)] if known else []
+        lists = [list_impl(self.list, "The names of its fields.", self.names_known)] if known else []
+        if self.aliases():
+            lists.append(list_impl(self.alias_list, "Further names of its fields.", self.aliases()))
+        return lists + [list_impl(self.sent_list, "The names of the fields that are sent.", self.names_sent)] * (
+            self.sent_list != self.list)
 
     def row_type(self, place: int) -> str:
         """What the value at a place and those after it are read as; after the last, the end."""
@@ -126,10 +147,56 @@ class Holder:
         if not self.many or not self.fields:
             return []
         parts = [f"ReadPart<{self.count}, {place}" if not self.data.named else
-                 f"ReadField{'Or' * bool(f.missing)}<{self.list}, {self.index(f)}" for place, f in enumerate(self.fields)]
-        rows = "".join(f"type {self.row_type(place)} = {part}, {f.type.rust()}, {self.after(place + 1)}>;\n"
+                 f"{self.sort(f)}<{', '.join(self.read_by_names(f, place))}" for place, f in enumerate(self.fields)]
+        rows = "".join(f"type {self.row_type(place)} = {part}{', ' * (part[-1] != '<')}{f.type.rust()}, {self.after(place + 1)}>;\n"
                        for place, (part, f) in enumerate(zip(parts, self.fields)))
-        return [rows] + [self.run_read(start) for start in self.starts()]
+        defaults = [self.default_impl(place) for place, f in enumerate(self.fields) if f.made]
+        return defaults + [rows] + [self.run_read(start) for start in self.starts()]
+
+    def read_by_names(self, f: Field, place: int) -> List[str]:
+        """The arguments of what a field is read as, but its type and what follows it."""
+        arguments = [self.list, str(self.index(f))] if f.read else []
+        if f.aliases():
+            names = "NoName"
+            for alias in reversed(f.aliases()):
+                names = f"NameAt<{self.alias_list}, {self.aliases().index(alias)}, {names}>"
+            arguments.append(f"NameAt<{self.list}, {self.index(f)}, {names}>")
+        if f.made:
+            arguments.append(self.default_of(place))
+        elif f.aliases() and f.missing:
+            arguments.append("OfType")
+        return arguments
+
+    @staticmethod
+    def sort(f: Field) -> str:
+        """What a field is read as."""
+        if f.aliases():
+            return "ReadAliasedElse" if f.missing else "ReadAliased"
+        if not f.read:
+            return "ReadMade" if f.made else "ReadAbsent"
+        return "ReadFieldElse" if f.made else f"ReadField{'Or' * bool(f.missing)}"
+
+    def default_of(self, place: int) -> str:
+        """The type that stands for what is read where the field at a place is missing."""
+        return f"Default{place + 1}Of{self.owner}"
+
+    def default_impl(self, place: int) -> str:
+        """That type, which makes such a value."""
+        f, owner = self.fields[place], self.default_of(place)
+        make = function(f"fn make(alloc: Global) -> Result<{f.type.rust()}>", f.made)
+        return (f"/// What is read where the field `{f.known}` is missing.\n#[derive(Drop)]\nstruct {owner};\n\n"
+                f"impl DefaultOf<{f.type.rust()}> for {owner} {{\n{ghost('is_default', f'λ x. {f.missing}')}\n\n{make}\n}}\n")
+
+    def test_of(self, f: Field) -> str:
+        """The type that stands for the test by which a field is left out."""
+        return f"Unless{self.fields.index(f) + 1}Of{self.owner}"
+
+    def test_impl(self, f: Field) -> str:
+        """That type, which tests a value."""
+        owner, t = self.test_of(f), f.type.rust()
+        return (f"/// When the field `{f.wire}` is left out.\n#[derive(Drop)]\nstruct {owner};\n\n"
+                f"impl SkipIf<{t}> for {owner} {{\n{ghost('is_skipped', f'λ x. {f.skipped(chr(120))}')}\n\n"
+                f"{function(f'fn is_skipped(value: &{t}) -> bool', f.test.code)}\n}}\n")
 
     def run_read(self, start: int) -> str:
         """The struct of the values from a place on, how many a row may have and the rest as one, and how it is read.
@@ -166,16 +233,21 @@ class Holder:
 
     def index(self, f: Field) -> int:
         """The index of a field's name among all."""
-        return self.names_known.index(f.wire)
+        return self.names_known.index(f.known)
+
+    def announced(self, f: Field) -> str:
+        """The names of which a field's is one as it is sent, and its index."""
+        return f"{self.sent_list}, {self.names_sent.index(f.wire)}"
 
     def taken(self, trait: str, source: str, places: List[str], start: int = 0) -> List[str]:
         """The statements that read the values from a place on as a row, and take it apart into these, and what
         follows them."""
         lines = [f"let row: {self.row_type(start)} = {trait}::read(alloc, {source})?;"]
         for at, value in enumerate(places, start):
-            sort = f"ReadField{'Or' * bool(self.fields[at].missing)}" if self.data.named else "ReadPart"
+            sort = self.sort(self.fields[at]) if self.data.named else "ReadPart"
             rest = "_" if at + 1 == self.count else "row"
-            lines.append(f"let {sort}({value}, {rest}{', _' * self.data.named}) = row;")
+            marked = self.data.named and sort != "ReadAbsent"
+            lines.append(f"let {sort}({value}, {rest}{', _' * marked}) = row;")
         return lines
 
     def all_taken(self, trait: str, source: str) -> List[str]:
@@ -210,18 +282,32 @@ class Holder:
 
     def parts(self, member: str, inners: List[str], sees: Optional[List[str]] = None,
               values: Optional[List[str]] = None) -> List[str]:
-        """What stands for each of its values in a member of the impls."""
-        return [(UNLESS.get(member) if f.skips and member in UNLESS else self.words(member)[0]).format(
-            inner=inner, see=see, place=place, count=self.count, name=name_term(f.wire),
+        """What stands for each of its values in a member of the impls; for one that isn't sent or read perhaps nothing."""
+        return [self.word_of(f, member).format(
+            inner=inner, see=see, place=place, count=self.count, name=name_term(f.wire if member in ("script", "lawful") else f.known),
             or_="_or" * bool(f.missing), Or="Or" * bool(f.missing), missing=f.absent(),
             **self.unless(place, value) if f.skips else {})
             for place, (f, inner, see, value) in enumerate(zip(self.fields, inners, sees or inners, values or inners))]
+
+    def word_of(self, f: Field, member: str) -> str:
+        """What stands for such a value, with places."""
+        if not (f.sent if member in ("script", "lawful") else f.read or member == "gives"):
+            return ""
+        if not f.read and member == "gives":
+            return "UnreadThen{missing} {inner}"
+        if f.aliases() and member in ("refusal", "gives"):
+            names, first = list_term([f.known, *f.aliases()]), name_term(f.known)
+            if member == "gives":
+                return f"AliasedThen {names}{f.absent() or ' (λ b. ⊥)'} {{inner}}"
+            return f"aliased_then {first} {names} {'None' if f.missing else f'(Some (missing_field {first}))'} {{inner}}"
+        return UNLESS[member] if f.skips and member in UNLESS else self.words(member)[0]
 
     def unless(self, place: int, value: str) -> Dict[str, str]:
         """Of a field that isn't sent where it is empty: whether it is, that what is read in its place equals it, and
         that those after it have other names."""
         f, others = self.fields[place], [one.wire for one in self.fields[place + 1:]]
-        return {"skipped": f.skipped(value), "alike": f"(λ e y a. {ALIKE[f.type.name].format(x=value)})",
+        alike = f.test.alike if f.test else ALIKE[f.type.name]
+        return {"skipped": f.skipped(value), "alike": f"(λ e y a. {alike.format(x=value)})",
                 "others": list_term(others), "apart": f"(unfold name in {'(refl, ' * len(others)}tt{')' * len(others)})"}
 
     def end(self, member: str) -> str:
@@ -235,11 +321,11 @@ class Holder:
         """All its values from a place on in a member of the impls, or the one, after a blank or a line's end."""
         if not self.many:
             return "".join(f" {inner}" for inner in inners)
-        return nest(self.parts(member, inners, sees, values)[start:], self.end(member))
+        return nest(list(filter(None, self.parts(member, inners, sees, values)[start:])), self.end(member))
 
     def length(self, values: List[str], more: int = 0) -> str:
         """How many fields are sent, as contracts see it."""
-        term = str(self.count + more)
+        term = str(self.sent_count() + more)
         for f, value in zip(self.fields, values):
             term = f"(fields_less {f.skipped(value)} {term})" if f.skips else term
         return term
@@ -248,7 +334,8 @@ class Holder:
         """The call that opens it, of these values."""
         head, _, count = self.call[:-1].rpartition(", ")
         for f, value in zip(self.fields, values):
-            count = f"count_unless({value}, {count})" if f.skips else count
+            if f.skips:
+                count = f"count_if(&{self.test_of(f)}, {value}, {count})" if f.test else f"count_unless({value}, {count})"
         return f"{head}, {count})" if self.skips else self.call
 
     def by_name(self, word: str, row: str) -> str:
@@ -280,7 +367,7 @@ class Holder:
 
     def sent_row(self, values: List[str], start: int) -> List[str]:
         """The values from a place on as a row has them, as many as it has room for."""
-        return [self.sent(f, value) for f, value in list(zip(self.fields, values))[start:start + LONGEST_SENT]]
+        return [self.sent(f, value) for f, value in list(zip(self.fields, values))[start:start + LONGEST_SENT] if f.sent]
 
     def sent_last(self, values: List[str], start: int) -> str:
         """What follows them: a struct of references to the others, or the end."""
@@ -293,7 +380,8 @@ class Holder:
 
     def sent_types(self) -> List[str]:
         """The declarations of such structs, and how they are sent."""
-        return [self.run_sent(start) for start in range(LONGEST_SENT, self.count, LONGEST_SENT)] if self.many else []
+        tests = [self.test_impl(f) for f in self.fields if f.test]
+        return tests + [self.run_sent(start) for start in range(LONGEST_SENT, self.count, LONGEST_SENT)] if self.many else []
 
     def run_sent(self, start: int) -> str:
         """The struct of references to the values from a place on, and how it is sent."""
@@ -313,7 +401,10 @@ class Holder:
     def sent(self, f: Field, value: str) -> str:
         """A value as a row has it, before those after it."""
         unless = "Unless" * f.skips
-        return f"SendField{unless}({self.list}, {self.index(f)}, {value}, row)" if self.data.named else f"SendPart({value}, row)"
+        if f.test:
+            names, index = self.announced(f).split(", ")
+            return f"SendFieldIf({names}, {self.test_of(f)}, {index}, {value}, row)"
+        return f"SendField{unless}({self.announced(f)}, {value}, row)" if self.data.named else f"SendPart({value}, row)"
 
     def refusal_row(self) -> str:
         if self.big:
@@ -326,7 +417,7 @@ class Holder:
 
     def given(self, values: List[str]) -> List[str]:
         """What each of them may give."""
-        return [f"({f.type.member(READ, 'gives')}) {v}" for f, v in zip(self.fields, values)]
+        return [f"({f.type.member(READ, 'gives')}) {v}" if f.read else v for f, v in zip(self.fields, values)]
 
     def gives_row(self, values: List[str]) -> str:
         if self.big:

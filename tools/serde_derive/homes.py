@@ -44,9 +44,9 @@ def placed(item: Item) -> Iterator[Tuple[str, Field]]:
 def check_leaves(item: Item) -> Iterator[Refused]:
     """Refuses fields of one name beside each other where some are flattened, and too many of them."""
     leaves = item.data.leaves()
-    for wire, count in Counter(f.wire for f in leaves).items():
-        if count > 1:
-            yield Refused(item.line, f"two fields are called `{wire}`: give one another name by `rename`", item.name)
+    names = [Counter(names).items() for names in ([f.wire for f in leaves], [f.known for f in leaves])]
+    for name in dict.fromkeys(name for counts in names for name, count in counts if count > 1):
+        yield Refused(item.line, f"two fields are called `{name}`: give one another name by `rename`", item.name)
     if len(leaves) > MOST_FIELDS:
         yield Refused(item.line, f"more than {MOST_FIELDS} fields are not covered: hold some in a struct that is not flattened",
                       item.name)
@@ -243,7 +243,7 @@ class Homes:
                 f.inside, item.levels = part.data, max(item.levels, part.levels + 1)
         if "tag" in item.serde and "content" not in item.serde:
             for v in item.variants:
-                if v.data.style == "Newtype":
+                if v.data.style == "Newtype" and (v.sent or v.read):
                     where = f"{item.name}.{v.name}"
                     v.beside = self.inlined(v.data.fields[0], f"{where}.0", where, "what stands beside a tag")
         if flattened and item.data.named and all(f.inside for _, f in flattened):
@@ -264,6 +264,8 @@ class Homes:
                       f"{': hold such a struct, or delete `flatten`' if flattens else ' and `flatten`: hold such a struct'}")
         elif flattens and any(inside.skips for inside in part.data.leaves()):
             reason = "is not covered where `skip_serializing_if` leaves out some of it: name the fields"
+        elif flattens and any(inside.aliases() for inside in part.data.leaves()):
+            reason = "is not covered where a field of it has an `alias`, which Serde doesn't read there: delete that"
         elif part.levels > DEEPEST_FLATTENED:
             reason = f"in more than {DEEPEST_FLATTENED} levels is not covered: name the fields"
         else:
@@ -294,14 +296,12 @@ class Homes:
         lacking = (needed | ({"PartialEq", "Eq"} if holder.derives_all() else set())) - set(part.derives)
         if not part.covered:
             return Type(name, home=self.here, declared=name, called=snake(name))
-        why = part.why_astray() if part.derives_all() else ""
-        if why and holder.derives_all() and "untagged" not in holder.serde:
-            raise ValueError(f"delete Eq here, as `{name}` does not come back: {why}")
+        astray = part.derives_all() and not part.comes_back()
         if lacking:
             raise ValueError(f"`{name}` does not derive {', '.join(sorted(lacking))}, as what holds it does: derive that too")
         law = ("records", "map_takes" if part.flattens() else "struct_takes")
         called = self.called(name, self.here, name)
-        return Type(name, home=self.here, declared=name, called=called, plain=not part.asked(), astray=bool(why),
+        return Type(name, home=self.here, declared=name, called=called, plain=not part.asked(), astray=astray,
                     lost=not part.comes_back_from_cbor(), null=part.may_be_null(),
                     record=law if part.data.named and not part.transparent() else None)
 

@@ -8,6 +8,7 @@ from .declarations import Item, Refusals, Refused
 from .derives import check_derives, check_missing, settle_defaults
 from .enums import EnumWriter
 from .files import File, Reader
+from .functions import CASES
 from .homes import Homes
 from .literals import with_names
 from .names import name_item
@@ -92,7 +93,9 @@ def settled(file: File, homes: Homes) -> Dict[str, Writer]:
     for refused in check(file, homes.module):
         homes.refuse(refused)
     homes.resolve()
-    keep(name_item)
+    for item in file.items:
+        file.functions.units[item.name] = [v.name for v in item.variants if v.data.style == "Unit"]
+    keep(lambda item: name_item(item, file.functions))
     homes.settle()
     settle_defaults(list(homes.ordered()), homes.items, file)
     keep(lambda item: check_missing(item, homes.items))
@@ -164,7 +167,10 @@ def module(source: str, name: str, crate: str, place: str, cbor: bool = False,
             for item in file.items if item.derives_all() and not item.comes_back()]
         notes.sort()
     texts = [text for item in file.items for text in texts_of(item, writers[item.name], cbor)]
-    body = with_names("\n".join(texts), [item.name for item in file.items])
+    text = "\n".join(texts)
+    for item in file.items:
+        text = text.replace(CASES.format(item.name), item.cases)
+    body = with_names(text, [item.name for item in file.items])
     docs = file.docs or ["//! Types that are sent and read."]
     docs += ["//!", f"//! Written by `tools/derive` from `{doc_line(name)}`: change that file, and write this one anew."]
     return "\n".join([*docs, "", *uses(file, homes, [body]), "", body])

@@ -1,61 +1,120 @@
 """The names that are sent, and what stands for a field that is missing."""
 import re
-from typing import Callable, Iterator, List, Optional, Tuple
+from typing import Iterator, List, Optional, Sequence, Tuple
 
 from .cases import CASES, same
-from .declarations import Data, Field, Item, Named, Refused
+from .declarations import Data, Field, Item, Named, Refused, Variant
+from .functions import EMPTY, Functions, Value
 from .tokens import LONGEST
 from .types import DEFAULTS, SKIPS
 
-ByCase = Callable[[str], str]
 
-
-def name_item(item: Item) -> Iterator[Refused]:
-    """Gives an item, its variants and its fields the names that are sent, and tells what is refused of them."""
-    of_field, of_variant = cases_of(item.serde.get("rename_all"))
+def name_item(item: Item, functions: Functions) -> Iterator[Refused]:
+    """Gives an item, its variants and its fields the names that are sent and read, and tells what is refused of them."""
+    case = item.serde.get("rename_all")
     if "default" in item.serde and item.data.named:
-        for f in item.data.fields:
-            f.serde.setdefault("default", "")
+        yield from default_fields(item, functions)
     for data in item.parts():
         data.closed = "deny_unknown_fields" in item.serde
     for key in ("tag", "content"):
         if key in item.serde:
             yield from check_sent(item.serde[key], item.line, item.name)
     variants = [(f"{item.name}.{v.name}", v) for v in item.variants]
-    yield from name_each([(item.name, item)], same)
-    yield from name_each(variants, of_variant)
+    yield from name_each([(item.name, item)], None, 0)
+    if item.wire != item.known:
+        yield Refused(item.line, "serde's `rename` by direction is covered on fields and variants: give one name", item.name)
+    yield from name_each(variants, case, 1)
+    yield from check_tags(item, variants)
     for where, v in variants:
-        case = v.serde.get("rename_all", item.serde.get("rename_all_fields"))
-        yield from name_fields(where, v.data, cases_of(case)[0])
-    yield from name_fields(item.name, item.data, of_field)
+        of_fields = v.serde.get("rename_all", item.serde.get("rename_all_fields"))
+        yield from name_fields(where, v.data, of_fields, functions, item.derives)
+    yield from name_fields(item.name, item.data, case, functions, item.derives)
 
 
-def cases_of(case: Optional[str]) -> Tuple[ByCase, ByCase]:
-    """What a case, if one is given, makes of a field's name, and of a variant's."""
-    return CASES.get(case, (same, same))
+def check_aliases(fields: List[Tuple[str, Field]], named: bool) -> Iterator[Refused]:
+    """Refuses aliases that are names too, or of what isn't read by name."""
+    taken = {f.known for _, f in fields}
+    for where, f in fields:
+        for alias in f.aliases():
+            yield from check_sent(alias, f.line, where)
+            if not (named and f.read):
+                yield Refused(f.line, "serde's `alias` is for fields with names that are read: delete it", where)
+            elif alias in taken:
+                yield Refused(f.line, f"two are called `{alias}`: give one another name", where)
+            taken.add(alias)
 
 
-def name_fields(holder: str, data: Data, by_case: ByCase) -> Iterator[Refused]:
-    """Names the fields of what has this path, and gives those that may be missing what stands for them."""
+def check_tags(item: Item, variants: List[Tuple[str, Variant]]) -> Iterator[Refused]:
+    """Refuses aliases that are names too, and a variant for other tags that holds something, or isn't alone."""
+    taken = {v.known for v in item.variants}
+    for where, v in variants:
+        for alias in v.aliases():
+            yield from check_sent(alias, v.line, where)
+            if alias in taken:
+                yield Refused(v.line, f"two are called `{alias}`: give one another name", where)
+            taken.add(alias)
+    others = [(where, v) for where, v in variants if "other" in v.serde]
+    for where, v in others:
+        if v.data.fields or len(others) > 1 or not v.read:
+            yield Refused(v.line, "serde's `other` is for one variant that holds nothing, and is read", where)
+    if variants and not any(v.read for v in item.variants):
+        yield Refused(item.line, "an enum of which no variant is read is not covered: have one read", item.name)
+
+
+def default_fields(item: Item, functions: Functions) -> Iterator[Refused]:
+    """Gives the fields of a struct the defaults that it has: those of their types where it derives Default."""
+    path = item.serde["default"] or f"{item.name}::default"
+    by_function = item.serde["default"] or (not item.defaults and path in functions.named)
+    given = functions.fields_given(path) if by_function else {}
+    for f in item.data.fields:
+        if "default" not in f.serde:
+            f.serde["default"] = ""
+            if by_function:
+                value = functions.value(given[f.name][0], f.type, given[f.name][1]) if f.name in given else None
+                yield from default_by(f"{item.name}.{f.name}", f, value, path)
+
+
+def default_by(where: str, f: Field, value: Optional[Value], path: str) -> Iterator[Refused]:
+    """Gives a field the value that a function gives for it."""
+    if value:
+        f.missing, f.made = value.fact, value.code * (value != EMPTY.get(f.type.name))
+    else:
+        yield Refused(f.line, f"its default is not covered, as `{path}` is no function of this file that gives one value, such as"
+                      " `8080`, `\"text\".to_owned()`, `Vec::new()` or a variant of an enum of this file", where)
+
+
+def name_fields(holder: str, data: Data, case: Optional[str], functions: Functions, derives: List[str]) -> Iterator[Refused]:
+    """Names the fields of what has this path, and gives those that may be missing what stands for them, as far as a type
+    that derives this asks."""
     fields = [(f"{holder}.{f.name}", f) for f in data.fields]
     for where, f in fields:
-        if "default" in f.serde and not data.named:
+        if not (f.sent and f.read) and not data.named:
+            yield Refused(f.line, "serde's `skip` is covered in fields with names: give them names", where)
+        elif "default" in f.serde and not data.named:
             yield Refused(f.line, "serde's `default` is covered in fields with names: give them names", where)
-        elif "default" in f.serde or (data.named and f.type.name == "Option"):
+        if not f.read:
+            f.serde.setdefault("default", "")
+        if f.serde.get("default") and "Deserialize" in derives and data.named:
+            yield from default_by(where, f, functions.given(f.serde["default"], f.type), f.serde["default"])
+        elif not f.missing and data.named and ("default" in f.serde or f.type.name == "Option"):
             f.missing = DEFAULTS.get(f.type.name, f"⟦<{f.type.rust()} as Absent>⟧.is_absent x")
-        if "skip_serializing_if" in f.serde:
-            yield from check_skipped(where, f, data)
-            f.skips = True
-    yield from name_each(fields if data.named else [], by_case)
+        if "skip_serializing_if" in f.serde and "Serialize" in derives:
+            yield from check_skipped(where, f, data, functions)
+            f.skips = f.sent
+    if fields and not any(f.read for f in data.fields):
+        yield Refused(data.fields[0].line, "what has no fields that are read is not covered: write it without fields", holder)
+    yield from name_each(fields if data.named else [], case, 0)
+    yield from check_aliases(fields, data.named)
 
 
-def check_skipped(where: str, f: Field, data: Data) -> Iterator[Refused]:
-    """Refuses a test of what is left out that isn't the one of the field's type."""
+def check_skipped(where: str, f: Field, data: Data, functions: Functions) -> Iterator[Refused]:
+    """Finds the test of what is left out, and refuses one that isn't that of the field's type, and is no function of the file."""
     test = re.sub(r"^(?:::)?(?:std|core|alloc)::(?:\w+::)+(?=[A-Z])", "", f.serde["skip_serializing_if"].replace(" ", ""))
     known = SKIPS.get(f.type.name)
+    f.test = functions.tested(f.serde["skip_serializing_if"], f.type)
     if not data.named:
         yield Refused(f.line, "serde's `skip_serializing_if` is covered in fields with names: give them names", where)
-    elif not known or (test != known and (test, f.type.name) != ("str::is_empty", "String")):
+    elif not f.test and (not known or (test != known and (test, f.type.name) != ("str::is_empty", "String"))):
         yield Refused(f.line, f"serde's `skip_serializing_if` so is not covered: {', '.join(SKIPS.values())} are, each on a"
                       " field of its type", where)
 
@@ -68,12 +127,24 @@ def check_sent(name: str, line: int, where: str) -> Iterator[Refused]:
         yield Refused(line, f"a name of more than {LONGEST} letters is not covered: shorten it", where)
 
 
-def name_each(all_named: List[Tuple[str, Named]], by_case: ByCase) -> Iterator[Refused]:
-    """Names things of one place, each with its path, which have to differ."""
-    taken = set()
-    for where, one in all_named:
-        one.wire = one.serde.get("rename", by_case(one.name))
-        yield from check_sent(one.wire, one.line, where)
-        if one.wire in taken:
-            yield Refused(one.line, f"two are called `{one.wire}`: give one another name by `rename`", where)
-        taken.add(one.wire)
+def directions(value: Optional[str]) -> Tuple[str, str]:
+    """The name or case for sending, and the one for reading; empty where there is none."""
+    parts = (value or "").split("\n")
+    return parts[0], parts[-1]
+
+
+def name_each(all_named: Sequence[Tuple[str, Named]], case: Optional[str], place: int) -> Iterator[Refused]:
+    """Names things of one place, each with its path, which have to differ; the place is where CASES has what cases make of
+    them. What is refused of both names is told once."""
+    told = set()
+    for way, attribute in enumerate(("wire", "known")):
+        by_case, taken = CASES.get(directions(case)[way], (same, same))[place], set()
+        for where, one in all_named:
+            name = directions(one.serde.get("rename"))[way] or by_case(one.raw or one.name)
+            setattr(one, attribute, name)
+            refused = list(check_sent(name, one.line, where))
+            if name in taken:
+                refused.append(Refused(one.line, f"two are called `{name}`: give one another name by `rename`", where))
+            taken.add(name)
+            yield from (why for why in refused if (where, why.reason) not in told)
+            told |= {(where, why.reason) for why in refused}

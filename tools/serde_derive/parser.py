@@ -2,8 +2,8 @@
 from typing import Callable, List, Optional, Tuple
 
 from .attributes import Attributes, Head
-from .declarations import Data, Field, Item, NotRust, Refused, Variant
-from .tokens import ROOTS
+from .declarations import Data, Field, Item, Named, NotRust, Refused, Variant
+from .tokens import KEYWORDS, ROOTS
 from .types import Type
 
 DEEPEST = 48
@@ -91,6 +91,17 @@ class Parser(Attributes):
             refused.inside(name)
         return len(self.refused) == before
 
+    def named(self, one: Named) -> None:
+        """Takes the name of a field or a variant; a raw one that is a word of Rust gets a `_`, as Rattle has none."""
+        if self.next.text.startswith("r#"):
+            one.raw = self.take().text[2:]
+            one.name = one.raw
+            if one.raw in KEYWORDS:
+                one.name += "_"
+                self.notes.append((one.line, f"written as `{one.name}`: the name `r#{one.raw}`"))
+        else:
+            one.name = self.name()
+
     def field(self, place: Optional[int], into: List[Field]) -> None:
         """A field, by name where it has no place."""
         head = self.head("a field")
@@ -99,7 +110,7 @@ class Parser(Attributes):
 
         def read() -> None:
             if place is None:
-                into[-1].name = self.name()
+                self.named(into[-1])
                 self.expect(":")
             into[-1].type = self.type()
 
@@ -128,7 +139,7 @@ class Parser(Attributes):
         into.append(Variant(self.next.text, self.next.line, head.lines, head.serde))
 
         def read() -> None:
-            into[-1].name = self.name()
+            self.named(into[-1])
             into[-1].data = self.data()
             for f in into[-1].data.fields:
                 if f.visible:

@@ -21,7 +21,7 @@ class FlattenedHolder(Holder):
         return "flattened_script" + self.row("script", self.scripts(values))
 
     def sent(self, f: Field, value: str) -> str:
-        return f"SendEntry({self.list}, {self.index(f)}, {value}, row)"
+        return f"SendEntry({self.announced(f)}, {value}, row)"
 
     def read(self, make: Callable[[List[str]], str]) -> List[str]:
         return ["read_flattened(alloc, from)"]

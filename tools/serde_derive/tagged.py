@@ -26,11 +26,19 @@ def check_tagged(item: Item) -> Iterator[Refused]:
         yield Refused(item.line, f"the tag and the content are both called `{tag}`: give one of them another name", item.name)
     for v in item.variants:
         where = f"{item.name}.{v.name}"
-        if v.data.style == "Tuple" or (v.data.named and content):
+        if v.aliases() or "other" in v.serde or (v.sent and not v.read):
+            yield Refused(v.line, "`alias`, `other` and `skip_deserializing` are covered in enums that are tagged externally:"
+                          " delete them", where)
+        elif not (v.sent or v.read):
+            continue
+        elif v.data.style == "Tuple" or (v.data.named and content):
             yield Refused(v.line, f"of an enum that is tagged {sort}, only variants with no values and with {held} are"
                           f" covered: hold {instead}", where)
-        elif not content and tag in [f.wire for f in beside_tag(v)]:
+        elif not content and any(tag in (f.wire, f.known) for f in beside_tag(v)):
             yield Refused(v.line, f"a field is called as the tag, `{tag}`: give one of them another name", where)
+        elif v.wire != v.known or (not content and any(
+                f.sent and (f.wire != f.known or not f.read) for f in beside_tag(v))):
+            yield Refused(v.line, "`skip_deserializing` and names by direction are not covered beside a tag: delete them", where)
 
 
 class TaggedHolder(Holder):
@@ -41,10 +49,11 @@ class TaggedHolder(Holder):
     def __init__(self, item: Item, tag: str, v: Variant, fields: List[Field]):
         data, name = Data("Struct", fields, v.data.closed), (v.beside or item).wire
         super().__init__("Struct", [name], data, v.owner)
-        self.names_known = [tag] + self.names_known
+        self.names_known = self.names_sent = [tag] + self.names_known
         self.tag, self.variant = tag, v.wire
-        self.call = f"Call::Struct({name_call(name)}, {self.count + 1})"
-        self.before = [f"SendTag({self.list}, NamesOf{pascal(item.owner)}, {item.variants.index(v)}, row)"]
+        self.call = f"Call::Struct({name_call(name)}, {self.sent_count() + 1})"
+        place = [one for one in item.variants if one.read].index(v) if v.read else 0
+        self.before = [f"SendTag({self.list}, NamesOf{pascal(item.owner)}, {place}, row)"]
 
     def room(self) -> int:
         return LONGEST_HELD
@@ -54,7 +63,7 @@ class TaggedHolder(Holder):
         return head + self.row("script", self.scripts(values), values=values)
 
     def lawful(self, values: List[str]) -> str:
-        laws = self.parts("lawful", self.laws(values), values=values)
+        laws = filter(None, self.parts("lawful", self.laws(values), values=values))
         return "struct_lawful" + nest(["field_fits (leaf_lawful refl)", *laws], "struct_end_fits")
 
 
@@ -64,17 +73,19 @@ class TaggedWriter(EnumWriter):
     def __init__(self, item: Item):
         super().__init__(item)
         self.tag, self.content = item.serde["tag"], item.serde.get("content")
-        self.variants = [(v, TaggedHolder(item, self.tag, v, self.fields_of(v))) for v in item.variants]
+        self.variants = [(v, TaggedHolder(item, self.tag, v, self.fields_of(v) if v.sent or v.read else []))
+                         for v in item.variants]
 
     def fields_of(self, v: Variant) -> List[Field]:
         """The fields beside the tag: the variant's own, or the one that holds its value."""
         if not self.content:
             return beside_tag(v)
-        return [Field("x1", f.line, [], {}, self.content, f.type, missing=DEFAULTS["Option"] if f.type.name == "Option" else "")
+        return [Field("x1", f.line, [], {}, self.content, self.content, type=f.type,
+                      missing=DEFAULTS["Option"] if f.type.name == "Option" else "")
                 for f in v.data.fields]
 
     def names_list(self) -> List[str]:
-        return [list_impl(self.list, "The names of its variants.", [v.wire for v in self.item.variants])]
+        return [list_impl(self.list, "The names of its variants.", [v.wire for v, _ in self.readable()])]
 
     def alone(self, v: Variant) -> bool:
         return False

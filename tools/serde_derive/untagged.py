@@ -4,6 +4,7 @@ from typing import Iterator, List
 from .declarations import Item, Refused, Variant
 from .enums import EnumWriter
 from .holder import Holder, sending
+from .structs import StructWriter
 from .text import DESERIALIZE, SERIALIZE, all_hold, arm, codes, elim, facts, function, ghost
 from .text import together
 from .types import READ, nest
@@ -13,10 +14,12 @@ from .words import CHOICES, PLACES
 def check_untagged(item: Item) -> Iterator[Refused]:
     """Refuses variants that are not covered without a tag."""
     for v in item.variants:
-        if v.data.named or not 1 <= len(v.data.fields) <= 4:
-            instead = "a struct of them" if v.data.fields else "`()`"
-            yield Refused(v.line, "of an untagged enum, only variants with one to four values by place are covered: hold"
-                          f" {instead}", f"{item.name}.{v.name}")
+        where, count = f"{item.name}.{v.name}", len(v.data.fields)
+        if v.aliases() or "other" in v.serde or not (v.sent and v.read):
+            yield Refused(v.line, "of an untagged enum no variant is skipped, or has another name: delete what says so", where)
+        elif not count or (count > 4 and not v.data.named):
+            yield Refused(v.line, "of an untagged enum, only variants with values by name, and with one to four by place, are"
+                          f" covered: hold {'a struct of them' if count else '`()`'}", where)
 
 
 class UntaggedWriter(EnumWriter):
@@ -24,17 +27,33 @@ class UntaggedWriter(EnumWriter):
 
     def __init__(self, item: Item):
         super().__init__(item)
+        # a variant of values by name is sent and read as a struct is
+        self.structs = {v.name: StructWriter(Item(
+            v.held().name, v.line, [f"/// What the variant `{v.name}` holds."], {}, item.wire, item.known, derives=item.derives,
+            data=v.data, owner=v.owner)) for v in item.variants if v.data.named}
         self.holders = {v.name: holder for v, holder in self.variants}
         self.last = f"data did not match any variant of untagged enum {item.name}"
 
     def functions(self) -> List[str]:
         return [text for v, holder in self.variants
-                for text in self.maker(v, holder) * self.reads + self.whole_sender(v, holder) * self.sends]
+                for text in self.struct(v) + self.maker(v, holder) * self.reads + self.whole_sender(v, holder) * self.sends]
+
+    def struct(self, v: Variant) -> List[str]:
+        """The struct that a variant of values by name is read as, and how."""
+        if not v.data.named:
+            return []
+        writer = self.structs[v.name]
+        name, members = writer.item.name, "\n\n".join(writer.deserialize())
+        read = ["\n".join(writer.item.head + [f"#[derive(Drop)]\nstruct {name}{v.data.declared()}\n"]),
+                f"impl<'de> {READ} for {name} {{\n{members}\n}}\n"]
+        return read[:1] * self.reads + writer.functions() + read[1:] * self.reads
 
     def is_apart(self, v: Variant, holder: Holder) -> bool:
-        return len(v.data.fields) > 1
+        return v.data.named or len(v.data.fields) > 1
 
     def send_values(self, v: Variant, holder: Holder) -> List[str]:
+        if v.data.named:
+            return self.structs[v.name].holder.send(v.data.places())
         return sending(f"Call::Tuple({len(v.data.fields)})", [f"SendElement({p}, row)" for p in v.data.places()])
 
     def serialize(self) -> List[str]:
@@ -43,8 +62,9 @@ class UntaggedWriter(EnumWriter):
                 function(SERIALIZE, *self.match([
                     arm(self.made(v, v.data.places()), [self.send(v)]) for v in self.item.variants]))]
 
-    @staticmethod
-    def script(v: Variant, values: List[str]) -> str:
+    def script(self, v: Variant, values: List[str]) -> str:
+        if v.data.named:
+            return self.structs[v.name].holder.script(values)
         parts = [f"{f.type.member('Serialize', 'script')} {x}" for f, x in zip(v.data.fields, values)]
         return parts[0] if len(parts) == 1 else UntaggedWriter.tuple_script(parts)
 
@@ -53,8 +73,9 @@ class UntaggedWriter(EnumWriter):
         """The calls of a tuple of these parts."""
         return f"tuple_script {len(parts)}" + nest([f"element_first ({part})" for part in parts], "end_script")
 
-    @staticmethod
-    def lawful(v: Variant, values: List[str]) -> str:
+    def lawful(self, v: Variant, values: List[str]) -> str:
+        if v.data.named:
+            return self.structs[v.name].holder.lawful(values)
         laws = [f.type.lawful(x) for f, x in zip(v.data.fields, values)]
         if len(laws) == 1:
             return laws[0]
@@ -62,7 +83,7 @@ class UntaggedWriter(EnumWriter):
 
     def send(self, v: Variant) -> str:
         places = v.data.places()
-        if len(places) == 1:
+        if len(places) == 1 and not v.data.named:
             return f"{places[0]}.serialize(alloc, serializer)"
         return f"{self.whole_name(v)}(alloc, serializer, self, {', '.join(places)})"
 
@@ -70,7 +91,7 @@ class UntaggedWriter(EnumWriter):
         refusals = [f"({v.held().member(READ, 'refusal')} (in_buffer s))" for v in self.item.variants]
         gives = []
         for place, v in enumerate(self.item.variants):
-            values = together(self.values(v.data))
+            values = f"({v.data.term(self.values(v.data))})" if v.data.named else together(self.values(v.data))
             before = "".join(f"IsSome {refusal} ×\n" for refusal in refusals[:place])
             gives.append(f"{before}IsTakenAs {refusals[place]} ({v.held().member(READ, 'gives')} (in_buffer s)) {values}")
         given = iter(gives)
@@ -85,14 +106,19 @@ class UntaggedWriter(EnumWriter):
         start = max(len(self.item.variants) - len(PLACES), 0) if len(self.item.variants) > 1 else 1
         alone, rest = self.item.variants[:start], self.item.variants[start:]
         lines = [line for v in alone for line in (
-            f"if let Some({together(v.data.places())}) = attempt::<{v.held().rust()}>(alloc, &from)? {{",
+            f"if let Some({self.found(v)}) = attempt::<{v.held().rust()}>(alloc, &from)? {{",
             f"return {self.given(v)};", "}")]
         if not rest:
             return lines + [f'Err(Error::custom(alloc, "{self.last}"))']
         first, one = CHOICES[len(rest) - 2]
         types = ", ".join(v.held().rust() for v in rest)
-        arms = [arm(f"{one}::{place}({together(v.data.places())})", [self.given(v)]) for place, v in zip(PLACES, rest)]
+        arms = [arm(f"{one}::{place}({self.found(v)})", [self.given(v)]) for place, v in zip(PLACES, rest)]
         return lines + [f'match {first}::<{types}>(alloc, from, "{self.last}")? {{', *arms, "}"]
+
+    @staticmethod
+    def found(v: Variant) -> str:
+        """What was read for a variant, as a pattern of its values."""
+        return v.data.made(v.held().name, v.data.places()) if v.data.named else together(v.data.places())
 
     def given(self, v: Variant) -> str:
         return f"Ok({self.making(v, self.holders[v.name])(v.data.places())})"

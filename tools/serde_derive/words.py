@@ -18,7 +18,9 @@ def word_table(text: str) -> Dict[str, str]:
 STYLES = [f"{style}_{sort}" for style in ("unit", "newtype", "tuple", "struct") for sort in ("struct", "variant")]
 STYLES[STYLES.index("struct_struct")] = "struct"
 WORDS = word_table(f"""
-std.specs.Prelude ◌≡◌ ◌∷◌ [] ℕ ℤ Bool Option None Some IsSome true false pos codes string_bytes refl ⊤
+std.specs.Prelude ◌≡◌ ◌∷◌ [] ℕ ℤ Bool Option None Some IsSome true false pos negsuc not nat_eq codes string_bytes refl ⊤
+std.specs.Ordering int_eq
+std.specs.Str bytes_eq
 std.specs.Cmp nat_cmp_total int_cmp_total unsigned_ties
 std.specs.Cmp.Lexicographic texts_ties
 std.specs.String string_cmp_total
@@ -39,13 +41,15 @@ content_de.specs.Reads.Tuples part_then end_of_parts PartThen NoPart
 content_de.specs.Accesses.ByName fields_left
 content_de.specs.Reads.Read Reads
 content_de.specs.Reads.Attempts IsTakenAs or_next
-content_de.specs.Reads.ByName read_by_name no_others
+content_de.specs.Reads.ByName read_by_name no_others missing_field
 content_de.specs.Reads.ByName ReadByName NoOthers
 content_de.specs.Reads.Tagged tag_then TagThen tag_then_buffered TagThenBuffered
 content_de.specs.Reads.Own enum_refusal EnumGives
 content_de.specs.Reads.Own {' '.join(f'{s}_refusal {pascal(s)}Gives' for s in STYLES)}
 serde_content.specs.Literals name row_then row_or_then RowThen RowOrThen others_left
-serde_content.specs.Skips fields_less field_unless
+serde_content.specs.Skips fields_less field_unless UnreadThen unsent_script
+serde_content.specs.Aliases aliased_then AliasedThen
+serde_content.specs.Tags meant meant_among EnumGivesBy
 serde_content.specs.Variants index_among variants
 serde_content.specs.RoundTrip ComesBack CoercionKeeps
 serde_content.specs.Laws.Leaves heedless_keeps natural_keeps integer_keeps
@@ -58,8 +62,10 @@ serde_content.specs.Laws.Series part_keeps tuple_keeps tuple_struct_keeps parts_
 serde_content.specs.Laws.Records struct_back struct_keeps newtype_struct_back newtype_struct_keeps
 serde_content.specs.Laws.ByName by_name_back named_back named_or_back skipped_back closed_back
 serde_content.specs.Laws.ByName by_name_keeps named_keeps named_or_keeps skipped_keeps closed_keeps
-serde_content.specs.Laws.Skips field_unless_fits keyed_back keyed_or_back keyed_unless_back keyed_skipped_back
+serde_content.specs.Laws.Skips field_unless_fits unsent_lawful keyed_back keyed_or_back keyed_unless_back keyed_skipped_back
 serde_content.specs.Laws.Skips keyed_closed_back keyed_named none_alike no_items_alike
+serde_content.specs.Laws.Tags meant_variant_kept
+serde_content.specs.Laws.OwnFunctions false_alike true_alike equal_alike text_alike
 serde_content.specs.Laws.Flattened flattened_script flattened_first flattened_fits flattened_end_fits
 serde_content.specs.Laws.Flattened flattened_lawful flattened_refusal FlattenedGives flattened_end_back
 serde_content.specs.Laws.Flattened flattened_named_back flattened_named_or_back flattened_back flattened_keeps
@@ -100,19 +106,20 @@ USES = {
     "serde_content": "CowStr Deserializer Error Result RoundTrip",
     "serde_content::de": "Deserialize FieldsByName VariantAccess attempt",
     "serde_content::derive_support":
-        f"Absent Names {' '.join(sorted(one for _, one in CHOICES))} OthersRefused OthersSkipped PartsEnd ReadField"
-        " ReadFieldOr ReadFields ReadPart ReadParts ReadStruct SendElement SendEnd SendEntry SendField SendFieldUnless"
-        " SendOpen SendPart SendTag Skip TaggedVariants Variants"
-        f" {' '.join(sorted(first for first, _ in CHOICES))} count_unless no_such_variant read_adjacent read_enum"
-        " read_flattened read_struct read_tagged send_row variant_index",
+        f"Absent Aliases DefaultOf NameAt Names NoName OfType OtherAt OwnNames {' '.join(sorted(one for _, one in CHOICES))}"
+        " OthersRefused OthersSkipped PartsEnd ReadAbsent ReadAliased ReadAliasedElse ReadField ReadFieldElse ReadFieldOr"
+        " ReadFields ReadMade ReadPart ReadParts ReadStruct SendElement SendEnd SendEntry SendField SendFieldIf SendFieldUnless"
+        " SendOpen SendPart SendTag Skip SkipIf TaggedVariants Variants"
+        f" {' '.join(sorted(first for first, _ in CHOICES))} count_if count_unless default_text no_such_variant read_adjacent"
+        " read_enum read_enum_by read_flattened read_struct read_tagged send_row variant_index",
     "serde_content::ser": "Call Parts Serialize Serializer",
     "std::alloc": "Global",
     "std::collections": "BTreeMap",
 }
 NO_PLACES = RESERVED | {"alloc", "fields", "serializer", "result", "row"} | {
     name for names in USES.values() for name in names.split() if name.islower()}
-IN_TEXT = {"[]": r"\[\]", "form": r"\(form t\)", "custom": r"\(custom ", "Some": r"\(Some \(", "None": "≡ None",
-           "true": r"(?:fits|λ b\.) true", "false": "≡ false", "name": 'name "', "variants": r"variants \( \(name"}
+IN_TEXT = {"[]": r"\[\]", "form": r"\(form t\)", "custom": r"\(custom ", "Some": r"(?:\(|≡ )Some \(", "None": r"(?:≡|\[\]\)) None",
+           "true": r"(?:fits|λ b\.|≡) true", "false": "≡ false", "name": 'name "', "not": r"\(not ", "variants": r"variants \( \(name"}
 METHODS = {"Parts": r"\.(?:with|around)\("}
 # what no own type is called; `S` is the type of a serialiser, and contracts name the two traits
 TAKEN = {name for names in USES.values() for name in names.split()} | set(HOLDERS) | {

@@ -1,6 +1,7 @@
 //! Types that `tools/derive` wrote.
 #![tactic(auto)]
 
+pub mod attributes;
 pub mod choices;
 pub mod inlined;
 pub mod sample;

@@ -10,4 +10,6 @@ pub mod Tagged
 pub mod Flattened
 pub mod Untagged
 pub mod Lookups
+pub mod OwnFunctions
 pub mod Skips
+pub mod Tags

@@ -5,3 +5,5 @@ pub mod Choices
 pub mod Literals
 pub mod Variants
 pub mod Skips
+pub mod Aliases
+pub mod Tags

@@ -1,7 +1,8 @@
--- What a struct leaves out when it is sent: fields that are empty.
+-- What a struct leaves out when it is sent or read: fields that are empty, and those that aren't sent or read at all.
 use Rattle.std.specs.Prelude.{ℕ, zero, suc, Bool, true, false, List, [], ◌∷◌}
-use Rattle.content_ser.specs.Scripts.Script.{Script}
+use Rattle.content_ser.specs.Scripts.Script.{Script, stop_with}
 use Rattle.content_ser.specs.Scripts.Own.{field_first}
+use Rattle.content_de.specs.Accesses.ByName.{FieldsLeft}
 
 -- there are no items
 abbrev pub has_none : {A : Type 0} → List A → Bool
@@ -18,3 +19,11 @@ fields_less false count = count
 abbrev pub field_unless : Bool → List ℕ → (Bool → Script) → (Bool → Script) → Bool → Script
 field_unless true name item rest = rest
 field_unless false name item rest = field_first name item rest
+
+-- such a value for a field that isn't read, and then the others
+abbrev pub UnreadThen : {A : Type 0} → (A → Type 0) → A → (FieldsLeft → Type 0) → FieldsLeft → Type 0
+UnreadThen missing a others f = missing a × others f
+
+-- what isn't sent: a stop
+abbrev pub unsent_script : List ℕ → Bool → Script
+unsent_script message readable = stop_with message

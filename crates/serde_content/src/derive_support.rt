@@ -1,6 +1,7 @@
 //! What code calls that `tools/derive` writes. Call none of it by hand: it changes with that tool.
 
 pub use crate::absent::Absent;
+pub use crate::aliases::{FieldNames, NameAt, NoName, OfType, ReadAliased, ReadAliasedElse};
 pub use crate::fields_read::{
     OthersRefused, OthersSkipped, PartsEnd, ReadField, ReadFieldOr, ReadFields, ReadPart,
     ReadParts, ReadStruct, read_flattened, read_struct,
@@ -13,5 +14,9 @@ pub use crate::name_lists::{Names, no_such_variant, variant_index};
 pub use crate::one_of::{
     OneOfFour, OneOfThree, OneOfTwo, first_of_four, first_of_three, first_of_two,
 };
+pub use crate::own_functions::{
+    DefaultOf, ReadAbsent, ReadFieldElse, ReadMade, SendFieldIf, SkipIf, count_if, default_text,
+};
 pub use crate::skips::{Skip, count_unless};
+pub use crate::tags::{Aliases, OtherAt, OwnNames, Tags, read_enum_by};
 pub use crate::variants::{TaggedVariants, Variants, read_adjacent, read_enum, read_tagged};

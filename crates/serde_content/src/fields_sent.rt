@@ -73,7 +73,7 @@ impl SendRow for SendEnd {
 
 /// The field whose name has this index among the names `K`, and those after it.
 #[inline(always)]
-fn send_field<K: Names, T: Serialize, R: SendRow, S: Serializer>(
+pub(crate) fn send_field<K: Names, T: Serialize, R: SendRow, S: Serializer>(
     index: usize,
     value: &T,
     rest: &R,

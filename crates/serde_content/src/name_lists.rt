@@ -54,6 +54,13 @@ fn position_of(tag: &str, names: &[&str]) -> Option<usize>
 pub fn variant_index<K: Names>(tag: &str, _names: &K) -> Option<usize>
     ensures { IsIndexAmong K.names tag.now result }
 {
+    index_of::<K>(tag)
+}
+
+/// The same by the type of the names alone.
+pub(crate) fn index_of<K: Names>(tag: &str) -> Option<usize>
+    ensures { IsIndexAmong K.names tag.now result }
+{
     position_of(tag, K::names())
 }
 

@@ -2,6 +2,7 @@
 //! tree as a type, and sends the value again.
 #![allow(dead_code)]
 
+mod attributes;
 mod choices;
 mod cursor;
 mod inlined;

@@ -12,7 +12,9 @@ use Rattle.content_tree.specs.Values.Tree as tree
 use Rattle.content_tree.specs.Values.Tree.{Tree, Fields}
 use Rattle.content_tree.specs.Values.Lookups.{is_text}
 use Rattle.content_tree.specs.Errors.Cause.{Cause}
-use Rattle.content_ser.specs.Scripts.Script.{Script, IsLawful}
+use Rattle.content_ser.specs.Calls.Event as event
+use Rattle.content_ser.specs.Grammar.Spells.{spells_leaf}
+use Rattle.content_ser.specs.Scripts.Script.{Script, stop_with, IsLawful}
 use Rattle.content_ser.specs.Scripts.Standard.{ScriptOf}
 use Rattle.content_ser.specs.Scripts.Own.{end_script, field_first}
 use Rattle.content_ser.specs.Laws.Fits.{AFields, Fits}
@@ -34,6 +36,10 @@ pub field_unless_fits : (name : List ℕ) (item rest : Bool → Script) (h skipp
     → Fits AFields (field_unless skipped name item rest h)
 field_unless_fits name item rest h true p q = q
 field_unless_fits name item rest h false p q = field_fits p q
+
+-- what isn't sent is a lawful script: a whole tree could follow
+pub unsent_lawful : (message : List ℕ) → IsLawful (stop_with message)
+unsent_lawful message = record { whole = λ e. absurd (cc e); viable = (event.unit ∷ [], (tree.unit, spells_leaf)) }
 
 -- the name is none of these
 abbrev pub Apart : List ℕ → List (List ℕ) → Type 0

@@ -1,7 +1,7 @@
 use Rattle.std.proofs.Common.{◌∙◌, ap}
 use Rattle.serde_content.specs.Variants.{index_among}
 use Rattle.serde_content.proofs.VariantIndex.{index_among_lent, index_found}
-use Rattle.serde_content.proofs.name_lists.variant_index.Goals as goal
+use Rattle.serde_content.proofs.name_lists.index_of.Goals as goal
 
 pub returns : goal.returns
 returns g c =

@@ -1,0 +1,186 @@
+//! Fields and variants with values, tests and names of their own, and those that are skipped.
+
+use serde::{Deserialize, Serialize};
+
+/// How much is told.
+#[derive(PartialEq, Eq, Serialize, Deserialize)]
+#[serde(rename_all = "lowercase")]
+pub enum Grade {
+    /// Little.
+    Quiet,
+    /// Some, with a limit.
+    #[serde(alias = "warning", alias = "w")]
+    Warn(u8),
+    /// All, from one number to another.
+    #[serde(alias = "all")]
+    Full {
+        /// The first.
+        from: i32,
+        /// The last.
+        to: u8,
+    },
+    /// What has another name.
+    #[serde(other)]
+    Other,
+}
+
+/// How a server runs.
+#[derive(PartialEq, Eq, Serialize, Deserialize)]
+#[serde(rename_all = "kebab-case")]
+pub struct Server {
+    /// The name of its host.
+    #[serde(default = "host")]
+    pub host_name: String,
+    /// Its port.
+    #[serde(default = "port", skip_serializing_if = "is_port")]
+    pub port: u16,
+    /// By how much it is moved.
+    #[serde(default = "Server::offset")]
+    pub offset: i32,
+    /// Whether it is open.
+    #[serde(default = "yes", skip_serializing_if = "is_open")]
+    pub open: bool,
+    /// Whether it is quiet.
+    #[serde(default, skip_serializing_if = "std::ops::Not::not")]
+    pub quiet: bool,
+    /// What it tells.
+    #[serde(default = "Server::grade")]
+    pub r#type: Grade,
+}
+
+fn host() -> String {
+    "local".to_owned()
+}
+
+const PORT: u16 = 8_080;
+
+fn port() -> u16 {
+    PORT
+}
+
+fn is_port(port: &u16) -> bool {
+    *port == PORT
+}
+
+fn yes() -> bool {
+    true
+}
+
+fn is_open(open: &bool) -> bool {
+    *open
+}
+
+impl Server {
+    fn offset() -> i32 {
+        -5
+    }
+
+    fn grade() -> Grade {
+        Grade::Quiet
+    }
+}
+
+/// A size, with a default of its own.
+#[derive(PartialEq, Eq, Serialize, Deserialize)]
+#[serde(default)]
+pub struct Extent {
+    /// How wide.
+    pub width: u32,
+    /// How it is called.
+    pub name: String,
+    /// Its weight, if known.
+    pub weight: Option<u8>,
+}
+
+impl Default for Extent {
+    fn default() -> Self {
+        Extent {
+            width: 80,
+            name: String::from("plain"),
+            weight: None,
+        }
+    }
+}
+
+/// An account, of which some fields are skipped.
+#[derive(PartialEq, Eq, Serialize, Deserialize)]
+#[serde(deny_unknown_fields)]
+pub struct Account {
+    /// Its number.
+    pub id: u64,
+    /// What is only kept.
+    #[serde(skip)]
+    pub cached: Vec<u8>,
+    /// What is read, and not sent.
+    #[serde(skip_serializing)]
+    pub secret: String,
+    /// What is sent, and not read.
+    #[serde(skip_deserializing, default = "first")]
+    pub version: u8,
+    /// What is only kept, and begins as one.
+    #[serde(skip, default = "first")]
+    pub uses: u8,
+}
+
+fn first() -> u8 {
+    1
+}
+
+/// A message, of which some variants are skipped.
+#[derive(PartialEq, Eq, Serialize, Deserialize)]
+pub enum Notice {
+    /// Both ways.
+    Opened(u8),
+    /// Neither.
+    #[serde(skip)]
+    Line(String),
+    /// Read alone.
+    #[serde(skip_serializing)]
+    Old {
+        /// Its number.
+        id: u8,
+    },
+    /// Sent alone.
+    #[serde(skip_deserializing)]
+    Closed,
+}
+
+/// A task, of which some fields have further names.
+#[derive(PartialEq, Eq, Serialize, Deserialize)]
+pub struct Task {
+    /// What is done first.
+    #[serde(alias = "before-all", alias = "before")]
+    pub setup: String,
+    /// Its marks.
+    #[serde(default, alias = "marks")]
+    pub tags: Vec<u8>,
+    /// How often it is done.
+    #[serde(alias = "count", default = "first")]
+    pub times: u8,
+    /// Whether it is done at all.
+    pub wanted: Option<bool>,
+}
+
+/// A label, which is sent by other names than it is read by.
+#[derive(PartialEq, Eq, Serialize, Deserialize)]
+#[serde(rename_all(serialize = "camelCase", deserialize = "kebab-case"))]
+pub struct Sticker {
+    /// The first line.
+    pub first_line: String,
+    /// Its sort.
+    #[serde(rename(deserialize = "kind"))]
+    pub sort_of: u8,
+    /// Where it goes.
+    #[serde(rename = "to")]
+    pub way: Way,
+}
+
+/// A way.
+#[derive(PartialEq, Eq, Serialize, Deserialize)]
+pub enum Way {
+    /// Upwards.
+    #[serde(rename(serialize = "up", deserialize = "north"))]
+    Up,
+    /// Downwards, so far.
+    Down(u8),
+}

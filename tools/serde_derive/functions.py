@@ -1,0 +1,233 @@
+"""Functions of the user's in a file of declarations, as far as attributes name them: what one gives whose body is one
+value, and which value one tests for."""
+import re
+from dataclasses import dataclass, field
+from typing import Dict, Iterator, List, NamedTuple, Optional, Tuple
+
+from .declarations import Test
+from .literals import name_call, name_term
+from .tokens import Token, text_of
+from .types import DEFAULTS, NUMBERS, SIGNED, Type
+
+# what makes the value that `Absent` gives, of any type, and of one that is named
+EMPTIES = r"(?:(?:std|core)::default::)?Default::default\(\)|(?:\w+::)*{}::default\(\)"
+MADE_EMPTY = {"Option": r"|None", "Vec": r"|vec!\[\]|Vec::new\(\)", "String": r"|String::new\(\)", "BTreeMap": r"|BTreeMap::new\(\)"}
+MOST_NAMED = 16  # how often a constant may name another
+NOT = re.compile(r"(?:(?:std|core)::ops::)?Not::not|bool::not")
+CASES = "\x04{}\x05"  # stands for what contracts call the cases of an enum, which are named later
+
+
+class Value(NamedTuple):
+    """A value that is made: what contracts say of it, as `x`, and the code that makes a Result of it."""
+
+    fact: str
+    code: str
+
+
+# the values that `Absent` gives
+EMPTY = {name: Value(fact, "Ok(Absent::absent(alloc))") for name, fact in DEFAULTS.items()}
+
+
+@dataclass
+class Function:
+    """A function: the type whose impl it is in, the names of its parameters, and the tokens of its body."""
+
+    owner: str
+    parameters: List[str]
+    body: List[Token]
+
+
+@dataclass
+class Functions:
+    """The functions and constants of a file by their paths, and the enums' variants without values."""
+
+    named: Dict[str, Function] = field(default_factory=dict)
+    constants: Dict[str, List[Token]] = field(default_factory=dict)
+    units: Dict[str, List[str]] = field(default_factory=dict)
+
+    def collect(self, tokens: List[Token], pairs: Dict[int, int], place: int, end: int, owner: str = "") -> None:
+        """Takes in what stands between two places."""
+        while place < end:
+            word, after = tokens[place].text, tokens[min(place + 1, end - 1)]
+            inside = self.to(tokens, pairs, place + 1, end, "{;" if word != "const" else "=;{")
+            if word == "fn" and after.sort == "name" and inside < end:
+                self.function(tokens, pairs, place, inside, owner)
+            elif word in ("impl", "mod") and inside < end and tokens[inside].text == "{":
+                names = [token.text for token in tokens[place:inside] if token.sort == "name"]
+                self.collect(tokens, pairs, inside + 1, pairs[inside], f"{owner}{names[-1]}::")
+            elif word == "const" and inside < end and tokens[inside].text == "=":
+                last = self.to(tokens, pairs, inside + 1, end, ";")
+                self.constants[owner + after.text] = tokens[inside + 1:last]
+                inside = last
+            else:
+                place = pairs.get(place, place) + 1
+                continue
+            place = pairs.get(inside, inside) + 1
+
+    @staticmethod
+    def to(tokens: List[Token], pairs: Dict[int, int], place: int, end: int, signs: str) -> int:
+        """The place of the next of these signs, outside of brackets that don't begin with one."""
+        while place < end and tokens[place].text not in signs:
+            place = pairs.get(place, place) + 1
+        return place
+
+    def function(self, tokens: List[Token], pairs: Dict[int, int], place: int, body: int, owner: str) -> None:
+        """Takes in a function."""
+        opened = self.to(tokens, pairs, place, body, "(")
+        if opened < body and tokens[body].text == "{":
+            parameters = [token.text for token, after in zip(tokens[opened:pairs[opened]], tokens[opened + 1:pairs[opened] + 1])
+                          if after.text == ":" and token.sort == "name"]
+            path = owner + tokens[place + 1].text
+            twice = path in self.named
+            self.named[path] = Function(owner[:-2], parameters, tokens[body + 1:pairs[body]] * (not twice))
+
+    def given(self, path: str, t: Type) -> Optional[Value]:
+        """What a function gives of this type, where its body is one value; one that has two bodies gives none."""
+        found = self.named.get(path)
+        if not found:
+            return self.empty(f"{path}()", t)
+        return self.value(found.body, t, found.owner) if not found.parameters else None
+
+    @staticmethod
+    def empty(text: str, t: Type) -> Optional[Value]:
+        """The value that `Absent` gives, where an expression makes that."""
+        if t.name in DEFAULTS and re.fullmatch(EMPTIES.format(t.name) + MADE_EMPTY.get(t.name, ""), text):
+            return EMPTY[t.name]
+        return None
+
+    def fields_given(self, path: str) -> Dict[str, Tuple[List[Token], str]]:
+        """By name what a function gives for the fields of a struct, where its body is one, each with the owner."""
+        found, fields = self.named.get(path), {}
+        texts = [token.text for token in found.body] if found and not found.parameters else []
+        if texts[1:2] + texts[-1:] != ["{", "}"] or texts[0] not in ("Self", found.owner):
+            return {}
+        for part in divided(found.body[2:-1]):
+            if len(part) < 3 or part[1].text != ":":
+                return {}
+            fields[part[0].text] = part[2:], found.owner
+        return fields
+
+    def value(self, tokens: List[Token], t: Type, owner: str) -> Optional[Value]:
+        """The value that an expression is."""
+        for _ in range(MOST_NAMED):
+            text = "".join(token.text for token in tokens)
+            tokens = self.constants.get(text, tokens) if len(tokens) == 1 else tokens
+        if self.empty(text, t):
+            return self.empty(text, t)
+        if t.name == "bool" and text in ("true", "false"):
+            return Value(f"x ≡ {text}", f"Ok({text})")
+        if t.name in NUMBERS:
+            return self.number(tokens, t)
+        if t.name == "String":
+            return self.text(tokens)
+        if t.name == "Option" and text.startswith("Some(") and text.endswith(")"):
+            inner = self.value(tokens[2:-1], t.arguments[0], owner)
+            told = inner and inner.fact.startswith("x ≡ ") and inner.code.startswith("Ok(")
+            return Value(f"x ≡ Some ({inner.fact[4:]})", f"Ok(Some{inner.code[2:]})") if told else None
+        return self.variant(text, t, owner)
+
+    def number(self, tokens: List[Token], t: Type) -> Optional[Value]:
+        """A number, or a product of numbers, that fits the type."""
+        texts, sign = [token.text for token in tokens], 1
+        if texts[:1] == ["-"]:
+            texts, sign = texts[1:], -1
+        number = 1
+        for place, word in enumerate(texts or [""]):
+            digits = re.fullmatch(r"(0x[0-9a-fA-F_]+?|[0-9][0-9_]*)(?:_?[ui](?:8|16|32|64|128|size))?", word)
+            if (word != "*") if place % 2 else not digits:
+                return None
+            if digits:
+                number *= int(digits.group(1).replace("_", ""), 16 if word[:2] == "0x" else 10)
+        bits, number = int(re.sub(r"\D", "", t.name) or 64), sign * number
+        low, high = (-(2 ** (bits - 1)), 2 ** (bits - 1)) if t.name in SIGNED else (0, 2 ** bits)
+        if len(texts) % 2 == 0 or not low <= number < high:
+            return None
+        shown = number_term(number, t)
+        return Value(f"x ≡ {shown}", f"Ok({number})")
+
+    @staticmethod
+    def text(tokens: List[Token]) -> Optional[Value]:
+        """A text that is made of a literal."""
+        shape = "".join('"' if token.sort == "text" else token.text for token in tokens)
+        if not re.fullmatch(r'"\.(?:to_owned|to_string|into)\(\)|String::from\("\)', shape):
+            return None
+        text = text_of(next(token for token in tokens if token.sort == "text"))
+        if not text:
+            return EMPTY["String"]
+        if not re.fullmatch(r"[ !#-\[\]-~]+", text):
+            return None
+        return Value(f"string_bytes x ≡ {name_term(text)}", f"default_text(alloc, {name_call(text)})")
+
+    def variant(self, text: str, t: Type, owner: str) -> Optional[Value]:
+        """A variant without values of an enum of the file."""
+        of, _, name = text.rpartition("::")
+        if name in self.units.get(t.name, ()) and (of == t.name or (of == "Self" and owner == t.name)):
+            return Value(f"x ≡ {CASES.format(t.name)}.{name}", f"Ok({t.name}::{name})")
+        return None
+
+    def tested(self, path: str, t: Type) -> Optional[Test]:
+        """What a function tests, where its body compares its parameter with one value."""
+        if t.name == "bool" and NOT.fullmatch(path):
+            return bool_test(False)
+        found = self.named.get(path)
+        if not found or len(found.parameters) != 1:
+            return None
+        name, body = found.parameters[0], "".join(token.text for token in found.body)
+        if t.name == "bool" and body in (f"!{name}", f"!*{name}"):
+            return bool_test(False)
+        if t.name == "bool" and body == f"*{name}":
+            return bool_test(True)
+        for start in ([name, "=", "="], ["*", name, "=", "="]):
+            if [token.text for token in found.body[:len(start)]] == start:
+                rest = found.body[len(start):]
+                return self.compared(rest[rest[0].text == "&":] if rest else rest, t, found.owner)
+        return None
+
+    def compared(self, tokens: List[Token], t: Type, owner: str) -> Optional[Test]:
+        """The test for one value."""
+        text = "".join(token.text for token in tokens)
+        if t.name == "String" and [token.sort for token in tokens] == ["text"]:
+            tokens = tokens + [Token("sign", sign, 0) for sign in (".", "into", "(", ")")]
+        value = self.given(text[:-2], t) if text.endswith("()") and text[:-2] in self.named else self.value(tokens, t, owner)
+        if value == EMPTY.get(t.name) and t.name in NUMBERS:
+            value = Value(DEFAULTS[t.name], "Ok(0)")
+        if not value:
+            return None
+        if t.name == "bool":
+            return bool_test(value.fact == "x ≡ true")
+        if t.name in NUMBERS:
+            eq, number = "int_eq" if t.name in SIGNED else "nat_eq", f"({value.fact[4:]})"
+            return Test(f"({eq} {{x}} {number})", f"*value == {value.code[3:-1]}", value.fact,
+                        f"equal_alike {eq} {{x}} {number} e y a")
+        if t.name == "String" and value.fact.startswith("string_bytes x ≡ (name"):
+            text = value.fact[len("string_bytes x ≡ "):]
+            return Test(f"(bytes_eq (string_bytes {{x}}) {text})", f"value.as_str() == {value.code[len('default_text(alloc, '):-1]}",
+                        value.fact, f"text_alike {{x}} {text} e y a")
+        return None
+
+
+def number_term(number: int, t: Type) -> str:
+    """A number of a type as contracts write it."""
+    return f"negsuc {-number - 1}" if number < 0 else f"pos {number}" if t.name in SIGNED else str(number)
+
+
+def bool_test(passes: bool) -> Test:
+    """The test for a boolean."""
+    if passes:
+        return Test("{x}", "*value", "x ≡ true", "true_alike {x} e y a")
+    return Test("(not {x})", "!*value", "x ≡ false", "false_alike {x} e y a")
+
+
+def divided(tokens: List[Token]) -> Iterator[List[Token]]:
+    """The parts between commas, outside of brackets."""
+    part: List[Token] = []
+    depth = 0
+    for token in tokens:
+        depth += (token.text in ("(", "[", "{")) - (token.text in (")", "]", "}"))
+        if token.text == "," and not depth:
+            yield part
+            part = []
+        else:
+            part.append(token)
+    if part:
+        yield part
