@@ -56,10 +56,16 @@ def large() -> Iterator[Tuple[str, int, str]]:
     yield "47 of Option<", 0, f"{derive}struct A({'Option<' * 47}u8{'>' * 47});\n"
     yield "1,000 aliases", 2, f"{derive}struct A(T999);\ntype T0 = u8;\n" + "".join(
         f"type T{i} = T{i - 1};\n" for i in range(1, 1000))
-    yield "a chain of 1,000 structs", 0, "".join(
-        f"{derive}struct A{i} {{\n    x: A{i + 1},\n}}\n" for i in range(1000)) + f"{derive}struct A1000;\n"
+    for count, status in ((56, 0), (57, 2), (1000, 2)):
+        yield f"a chain of {count} structs", status, "".join(
+            f"{derive}struct A{i} {{ x: A{i + 1} }}\n" for i in range(count - 1)) + f"{derive}struct A{count - 1};\n"
+        yield f"a chain of {count} structs in boxes", 0, "".join(
+            f"{derive}struct A{i} {{ x: Box<A{i + 1}> }}\n" for i in range(count - 1)) + f"{derive}struct A{count - 1};\n"
+    for count, last, status in ((27, "Option<u8>", 0), (28, "u8", 2), (28, "Option<u8>", 2)):
+        yield f"{count} options of structs around {last}", status, "".join(
+            f"{derive}struct A{i} {{ x: Option<A{i + 1}> }}\n" for i in range(count)) + f"{derive}struct A{count} {{ x: {last} }}\n"
     default = derive.replace("(", "(Default, ")
-    yield "a chain of 1,000 structs with Default", 0, "".join(
+    yield "a chain of 1,000 structs with Default", 2, "".join(
         f"{default}#[serde(default)]\nstruct A{i} {{ x: A{i + 1} }}\n" for i in range(1000)) + f"{default}struct A1000;\n"
     yield "40 structs with Default, each with two of the next", 0, "".join(
         f"{default}struct A{i} {{ x: A{i + 1}, y: A{i + 1} }}\n" for i in range(40)) + f"{default}struct A40;\n"

@@ -22,6 +22,8 @@ NOT_COVERED = {
 }
 MOST_PARTS = 500
 DEEPEST_FLATTENED = 16
+# Rattle takes types of up to 64 levels, of which what is sent and read takes some
+DEEPEST_HELD = 56
 
 
 def extent(t: Type) -> Tuple[int, int]:
@@ -69,6 +71,7 @@ class Homes:
         self.looked_up: Set[str] = set()
         self.aliases: Dict[str, Type] = {}
         self.opened: Set[str] = set()
+        self.levels: Dict[str, int] = {}
         self.declared: Dict[str, Tuple[str, str]] = {}
         self.told = {refused.where for refused in file.refused}
         for item in file.items:
@@ -218,7 +221,18 @@ class Homes:
                 except ValueError as reason:
                     self.refuse(Refused(f.line, str(reason), where))
                     f.type = Type("()")
+            self.levels[item.name] = 1 + max((self.held(f.type) for f in item.fields()), default=0)
+            if self.levels[item.name] > DEEPEST_HELD:
+                self.levels[item.name] = 0
+                self.refuse(Refused(item.line, f"what holds others in more than {DEEPEST_HELD} levels is not covered: put"
+                                    " one into a Box", item.name))
             self.inline(item)
+
+    def held(self, t: Type) -> int:
+        """In how many levels a type holds others in itself; what is elsewhere in memory is not in it."""
+        if t.name in ("Vec", "Box", "BTreeMap"):
+            return 1
+        return self.levels.get(t.name, 0) + bool(t.arguments) + max(map(self.held, t.arguments), default=0)
 
     def inline(self, item: Item) -> None:
         """Takes in what is flattened and what stands beside a tag."""

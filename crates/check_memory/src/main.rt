@@ -3,6 +3,7 @@
 //! refused.
 #![tactic(auto)]
 
+mod edits;
 mod lists;
 mod nodes;
 mod reading;
@@ -19,6 +20,7 @@ use tally::{Made, Tally};
 /// Makes every call, up to one in which memory runs out where it may.
 fn make_calls(tally: &mut Tally, alloc: Global) -> Made<()> {
     values::run(tally, alloc)?;
+    edits::run(tally, alloc)?;
     reading::run(tally, alloc)?;
     variants::run(tally, alloc)?;
     writing::run(tally, alloc)?;

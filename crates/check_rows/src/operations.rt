@@ -5,6 +5,7 @@ mod building;
 mod comparing;
 mod converting;
 mod copying;
+mod editing;
 mod looking;
 mod printing;
 mod reading;
@@ -124,12 +125,19 @@ fn write_surely(out: &mut Answer, operation: &str, pieces: &mut Pieces<'_>) {
         "get" => looking::get(out, pieces),
         "get_index" => looking::get_index(out, pieces),
         "get_str" => looking::get_str(out, pieces),
+        "insert" => editing::insert(out, pieces),
         "kind" => printing::kind(out, pieces),
         "lend" => looking::lend(out, pieces),
         "number_from" => converting::number_from(out, pieces),
         "order" => comparing::deserializers(out, pieces),
+        "part" => converting::part(out, pieces),
         "pointer" => looking::pointer(out, pieces),
+        "push" => editing::push(out, pieces),
+        "pretty" => printing::pretty(out, pieces),
         "readable" => building::readable(out, pieces),
+        "remove" => editing::remove(out, pieces),
+        "remove_str" => editing::remove_str(out, pieces),
+        "take" => editing::take(out, pieces),
         "type" => printing::typ(out, pieces),
         "unexpected" => printing::unexpected(out, pieces),
         "unexpected_part" => printing::unexpected_part(out, pieces),

@@ -12,9 +12,9 @@ ghost use Rattle.content_tree.specs.Values.Value.{tree_of, pair_tree};
 ghost use Rattle.content_tree.specs.Values.Lookups.{is_text};
 ghost use Rattle.content_de.specs.declared.map.Entries.TheVariants as entries;
 ghost use Rattle.content_de.specs.Sources.Deserializer.{flags_of, subject};
-ghost use Rattle.content_de.specs.Accesses.Map.{map_view, entries_under, entries_view};
+ghost use Rattle.content_de.specs.Accesses.Map.{map_view, entries_under, entries_view, ArePairs};
 ghost use Rattle.content_de.specs.Accesses.ByName.{by_name, entries_of, field_named, fields_left};
-ghost use Rattle.content_de.specs.Accesses.ByName.{buffered_fields};
+ghost use Rattle.content_de.specs.Accesses.ByName.{buffered_fields, ArePairsLeft, HoldsPairs};
 ghost use Rattle.content_de.specs.Accesses.ByName.{without_field, rest_of, PassesFirst};
 ghost use Rattle.content_de.specs.Accesses.ByName.{keyless_entry, field_entry};
 ghost use Rattle.content_de.specs.Reads.Read.{Reads};
@@ -60,6 +60,7 @@ impl<'de, 'n> Left<'de, 'n> {
         ensures value { option_map tree_of result
             ≡ lookup (is_text name.now) (entries_of self.old) }
         ensures rest { entries_of self.new ≡ remove_entry (is_text name.now) (entries_of self.old) }
+        ensures pairs { HoldsPairs self.old → HoldsPairs self.new }
     {
         match self {
             Left::Pairs(pairs) => take_named(pairs, name),
@@ -99,6 +100,7 @@ impl<'de, 'n> Left<'de, 'n> {
         ensures value { IfOk result (λ ps. map pair_tree ps.items
             ≡ keyless_entry keyless.entry ++ entries_of self.entry) }
         ensures memory { IfErr result (λ e. IsOutOfMemory e) }
+        ensures succeeds { keyless.entry ≡ None → HoldsPairs self.entry → IsOk result }
     {
         match self {
             Left::Pairs(pairs) => pairs_behind(keyless, pairs),
@@ -132,7 +134,8 @@ impl<'de, 'n> Map<'de, 'n> {
     /// name. It takes no memory.
     #[inline(always)]
     pub fn by_name(self) -> FieldsByName<'de, 'n>
-        ensures { fields_left result ≡ by_name (map_view self.entry) }
+        ensures value { fields_left result ≡ by_name (map_view self.entry) }
+        ensures pairs { ArePairs self.entry.entries → ArePairsLeft result }
     {
         let Map {
             entries,
@@ -183,7 +186,8 @@ impl<'de, 'n> FieldsByName<'de, 'n> {
     /// no memory.
     #[inline(always)]
     pub(crate) fn buffer(&mut self)
-        ensures { fields_left self.new ≡ buffered_fields (fields_left self.old) }
+        ensures value { fields_left self.new ≡ buffered_fields (fields_left self.old) }
+        ensures pairs { ArePairsLeft self.old → ArePairsLeft self.new }
     {
         self.flags = self.flags.buffering();
     }
@@ -209,6 +213,7 @@ impl<'de, 'n> FieldsByName<'de, 'n> {
     pub fn take_named(&mut self, name: &str) -> Option<Deserializer<'de, 'n>>
         ensures value { option_map subject result ≡ field_named name.now (fields_left self.old) }
         ensures rest { fields_left self.new ≡ without_field name.now (fields_left self.old) }
+        ensures pairs { ArePairsLeft self.old → ArePairsLeft self.new }
     {
         match self.left.take_first(name) {
             Some(value) => Some(Deserializer::inside(value, self.flags)),
@@ -216,8 +221,8 @@ impl<'de, 'n> FieldsByName<'de, 'n> {
         }
     }
 
-    /// Gives what is left, to be read as a map: a field's name is a text there. It takes memory
-    /// only where fields of a struct or a variant are left.
+    /// Gives what is left, to be read as a map: a field's name is a text there. It takes no memory
+    /// where they are the pairs of a map.
     ///
     /// # Errors
     ///
@@ -227,6 +232,7 @@ impl<'de, 'n> FieldsByName<'de, 'n> {
         'n: 'de,
         ensures value { IfOk result (λ d. subject d ≡ rest_of (fields_left self.entry)) }
         ensures memory { IfErr result (λ e. IsOutOfMemory e) }
+        ensures succeeds { ArePairsLeft self.entry → IsOk result }
     {
         let FieldsByName {
             keyless,
@@ -369,6 +375,7 @@ fn pairs_behind<'de, 'n>(
     ensures value { IfOk result (λ ps. map pair_tree ps.items
         ≡ keyless_entry keyless.entry ++ map pair_tree pairs.entry.items) }
     ensures memory { IfErr result (λ e. IsOutOfMemory e) }
+    ensures succeeds { keyless.entry ≡ None → IsOk result }
 {
     let mut pairs = pairs;
     if let Some(value) = keyless {

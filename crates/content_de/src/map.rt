@@ -6,7 +6,7 @@ ghost use Rattle.content_de.specs.Outcomes.{Answers};
 ghost use Rattle.content_de.specs.Sources.Deserializer.{flags_of, subject};
 ghost use Rattle.content_de.specs.Requests.Compounds.{entries_of_pairs, entries_of_fields};
 ghost use Rattle.content_de.specs.Accesses.Map.{map_view, entries_under, first_key, first_value};
-ghost use Rattle.content_de.specs.Accesses.Map.{first_entry, after_key, after_entry};
+ghost use Rattle.content_de.specs.Accesses.Map.{first_entry, after_key, after_entry, ArePairs};
 ghost use Rattle.content_de.specs.Reads.Own.{IsNamed};
 
 use crate::deserializer::Deserializer;
@@ -45,8 +45,9 @@ impl<'de, 'n> Map<'de, 'n> {
         pairs: Vec<(NamedValue<'de, 'n>, NamedValue<'de, 'n>)>,
         flags: Flags,
     ) -> Map<'de, 'n>
-        ensures { map_view result ≡ entries_under (flags_of flags)
+        ensures value { map_view result ≡ entries_under (flags_of flags)
             (entries_of_pairs (pairs_view pairs.entry.items)) }
+        ensures pairs { ArePairs result.entries }
     {
         Map {
             entries: Entries::Pairs(VecDeque::from_vec(pairs)),

@@ -6,7 +6,7 @@ ghost use Rattle.content_tree.specs.Values.Text.{text_of};
 ghost use Rattle.content_de.specs.Outcomes.{Answers, cause};
 ghost use Rattle.content_de.specs.Reads.Tagged.{tag_at};
 ghost use Rattle.content_de.specs.Accesses.ByName.{field_named, fields_left, without_field};
-ghost use Rattle.content_de.specs.Accesses.ByName.{buffered_fields};
+ghost use Rattle.content_de.specs.Accesses.ByName.{buffered_fields, ArePairsLeft};
 ghost use Rattle.content_de.specs.Reads.Read.{Reads};
 ghost use Rattle.content_de.specs.Reads.ByName.{found_refusal, FoundGives, FoundMemoryless};
 ghost use Rattle.content_de.specs.Reads.ByName.{missing_field};
@@ -37,6 +37,7 @@ pub fn named_field<'de, 'n: 'de, T: Deserialize<'de>>(
     ensures succeeds { FoundMemoryless ⊥ T.memoryless (field_named name.now (fields_left from.old))
         → IsOk result }
     ensures rest { fields_left from.new ≡ without_field name.now (fields_left from.old) }
+    ensures pairs { ArePairsLeft from.old → ArePairsLeft from.new }
 {
     match from.take_named(name) {
         Some(field) => T::deserialize(alloc, field),
@@ -63,6 +64,7 @@ pub fn field_or<'de, 'n: 'de, T: Deserialize<'de>>(
     ensures succeeds { FoundMemoryless ⊤ T.memoryless (field_named name.now (fields_left from.old))
         → IsOk result }
     ensures rest { fields_left from.new ≡ without_field name.now (fields_left from.old) }
+    ensures pairs { ArePairsLeft from.old → ArePairsLeft from.new }
 {
     match from.take_named(name) {
         Some(value) => T::deserialize(alloc, value),
@@ -84,6 +86,7 @@ pub fn tag_field<'de, 'n: 'de>(
 ) -> Result<CowStr<'de>>
     ensures value { Answers text_of (tag_at name.now (fields_left from.old)) result }
     ensures rest { fields_left from.new ≡ without_field name.now (fields_left from.old) }
+    ensures pairs { ArePairsLeft from.old → ArePairsLeft from.new }
 {
     match from.take_named(name) {
         Some(value) => value.deserialize_str(alloc),
@@ -105,6 +108,7 @@ pub fn internal_tag<'de, 'n: 'de>(
     ensures value { Answers text_of (tag_at name.now (fields_left from.old)) result }
     ensures rest { fields_left from.new
         ≡ buffered_fields (without_field name.now (fields_left from.old)) }
+    ensures pairs { ArePairsLeft from.old → ArePairsLeft from.new }
 {
     let tag = tag_field(alloc, from, name);
     from.buffer();

@@ -3,3 +3,4 @@ pub mod Ranked
 pub mod RankedTree
 pub mod RankedImage
 pub mod Paths
+pub mod Edits

@@ -3,3 +3,4 @@ pub mod Images
 pub mod Values
 pub mod Errors
 pub mod Escapes
+pub mod Pretty

@@ -8,3 +8,5 @@ pub mod Lookups
 pub mod Paths
 pub mod Pointers
 pub mod Places
+pub mod Edits
+pub mod Parts

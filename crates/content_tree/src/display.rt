@@ -18,8 +18,10 @@ use crate::quote::write_quoted;
 use std::fmt;
 use std::fmt::Write;
 
+mod pretty;
 mod value;
 
+pub use pretty::PrettyDisplay;
 pub use value::ValueDisplay;
 
 /// Prints an image as `serde-content` does: `Foo::Bar(true, 'a')`, `{ "k": 1u8 }`. Names, field

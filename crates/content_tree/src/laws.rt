@@ -1,4 +1,4 @@
-//! What the comparisons mean to a caller who knows trees, images and contents; laws of paths.
+//! What the comparisons mean to a caller who knows trees, images and contents; laws of paths and of edits.
 
 ghost use Rattle.std.specs.Prelude.{◌≡◌};
 ghost use Rattle.std.specs.Bool.{Decides};
@@ -6,11 +6,13 @@ ghost use Rattle.content_tree.specs.Errors.Cause.{expectation_of, cause_of};
 ghost use Rattle.content_tree.specs.Images.Found.{image_view, image_data_view};
 ghost use Rattle.content_tree.specs.Laws.Paths.{EmptyPath, JoinedPaths, JoinedAtValues, NamedIndex};
 ghost use Rattle.content_tree.specs.Laws.Paths.{SpelledParts};
+ghost use Rattle.content_tree.specs.Laws.Edits.{InsertedIsGot, OthersStay, RemovedIsGone};
+ghost use Rattle.content_tree.specs.Laws.Edits.{LastIsRemoved, OthersRemain, InsertedThenRemoved};
 ghost use Rattle.content_tree.specs.Errors.Kind.{kind_of};
 ghost use Rattle.content_tree.specs.Orders.Trees.{number_cmp};
 ghost use Rattle.content_tree.specs.Orders.Errors.{type_cmp, expected_cmp, kind_cmp, error_cmp};
 ghost use Rattle.content_tree.specs.Values.Text.{text_content, bytes_content};
-ghost use Rattle.content_tree.specs.Values.Tree.{unmarked, unmarked_data};
+ghost use Rattle.content_tree.specs.Values.Tree.{unit, unmarked, unmarked_data};
 ghost use Rattle.content_tree.specs.Values.Value.{tree_of, tree_data_of, struct_tree, enum_tree};
 
 use crate::cow::{CowBytes, CowStr};
@@ -193,3 +195,32 @@ pub fn spelled_parts()
 pub fn named_index()
     ensures { NamedIndex }
 {}
+
+/// A key finds what was [inserted](NamedValue::insert) at it, and a key that doesn't equal it what
+/// it found before.
+pub fn inserted_is_got()
+    ensures got { InsertedIsGot }
+    ensures others { OthersStay }
+{}
+
+/// A key that only one entry had finds nothing after its [removal](NamedValue::remove). Of several
+/// entries the last is removed, and those before it stay. A key that doesn't equal it finds what it
+/// found before.
+pub fn removed_is_gone()
+    ensures gone { RemovedIsGone }
+    ensures last { LastIsRemoved }
+    ensures others { OthersRemain }
+{}
+
+/// A new key that is inserted and then removed leaves the map as it was.
+pub fn inserted_then_removed()
+    ensures { InsertedThenRemoved }
+{}
+
+/// A value that is [taken](NamedValue::take) twice gives the unit the second time.
+pub fn taken_twice<'a, 'n>(value: &mut NamedValue<'a, 'n>) -> NamedValue<'a, 'n>
+    ensures { tree_of result ≡ unit }
+{
+    let _first = value.take();
+    value.take()
+}

@@ -13,10 +13,11 @@
 //! |---|---|
 //! | values | [`Value`], [`Struct`], [`Enum`], [`Data`] |
 //! | numbers, texts, bytes in them | [`Number`], [`CowStr`], [`CowBytes`] |
-//! | values from numbers, texts and so on | `convert` |
+//! | values from numbers, vectors and so on | `convert`, `parts` |
 //! | `get`, `as_str` and so on | `lookup` |
 //! | paths | `pointer` |
-//! | `display` | [`ValueDisplay`] |
+//! | `insert`, `remove` and so on | `edits` |
+//! | `display`, `pretty` | [`ValueDisplay`], [`PrettyDisplay`] |
 //! | `try_clone`; `into_owned` | `copy_value`, `copy_found`, `copy_error`; `owned` |
 //! | `==` and the order | `compare`, [`laws`] |
 //! | errors; what they show | [`Error`], [`ErrorKind`]; [`Found`], [`Expected`] |
@@ -30,6 +31,7 @@ mod copy_found;
 mod copy_value;
 mod cow;
 mod display;
+mod edits;
 mod error;
 mod expected;
 mod found;
@@ -38,13 +40,15 @@ pub mod laws;
 mod lookup;
 mod number;
 mod owned;
+mod parts;
 mod pointer;
 mod quote;
 mod unexpected;
 mod value;
 
 pub use cow::{CowBytes, CowStr};
-pub use display::ValueDisplay;
+pub use display::{PrettyDisplay, ValueDisplay};
+pub use edits::InsertError;
 pub use error::{Error, ErrorKind, Result};
 pub use expected::{DataType, Expected};
 pub use found::{Found, FoundData};

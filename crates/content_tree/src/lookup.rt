@@ -224,7 +224,7 @@ fn last_text<'v, 'a, 'n>(
 }
 
 /// Whether the value is this text.
-fn is_text(value: &NamedValue<'_, '_>, key: &str) -> bool
+pub(crate) fn is_text(value: &NamedValue<'_, '_>, key: &str) -> bool
     ensures { result ≡ is_text key.now (tree_of value.now) }
 {
     match value {

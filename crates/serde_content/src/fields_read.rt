@@ -3,19 +3,24 @@
 //! OthersSkipped<FieldsOfPoint>>>`, so that one proof serves rows of every length.
 
 ghost use Rattle.std.specs.Prelude.{◌≡◌, ℕ, List, [], Option, None, Some, slice_index_or};
+ghost use Rattle.std.specs.Prelude.{IsOk, ⊤};
 ghost use Rattle.content_tree.specs.Errors.Cause.{Cause};
+ghost use Rattle.content_de.specs.Outcomes.{IsTaken};
 ghost use Rattle.content_de.specs.Sources.Deserializer.{subject};
 ghost use Rattle.content_de.specs.Accesses.ByName.{FieldsLeft, field_named, fields_left};
 ghost use Rattle.content_de.specs.Accesses.ByName.{without_field};
+ghost use Rattle.content_de.specs.Accesses.Map.{map_at, struct_at};
 ghost use Rattle.content_de.specs.Accesses.Seq.{SeqLeft, seq_view};
 ghost use Rattle.content_de.specs.Reads.Read.{Reads};
-ghost use Rattle.content_de.specs.Reads.ByName.{found_refusal, FoundGives, missing_field};
+ghost use Rattle.content_de.specs.Reads.ByName.{found_refusal, FoundGives, FoundMemoryless};
+ghost use Rattle.content_de.specs.Reads.ByName.{missing_field};
 ghost use Rattle.content_de.specs.Reads.ByName.{NoOthers, no_others, read_by_name, ReadByName};
 ghost use Rattle.content_de.specs.Reads.Own.{struct_refusal, StructGives};
 ghost use Rattle.content_de.specs.Reads.Tuples.{end_of_parts, NoPart, part_then, PartThen};
+ghost use Rattle.content_de.specs.Reads.Tuples.{MayEnd, MemorylessThen};
 ghost use Rattle.serde_content.specs.Laws.Flattened.{flattened_refusal, FlattenedGives};
 ghost use Rattle.serde_content.specs.Literals.{others_left, row_or_then, row_then};
-ghost use Rattle.serde_content.specs.Literals.{RowOrThen, RowThen};
+ghost use Rattle.serde_content.specs.Literals.{RowMemoryless, RowOrMemoryless, RowOrThen, RowThen};
 
 use crate::absent::Absent;
 use crate::name_lists::{Names, name_at};
@@ -39,6 +44,8 @@ fn field_at<'de, 'n: 'de, K: Names, T: Deserialize<'de>>(
         (field_named (slice_index_or K.names index []) (fields_left fields.old)))
         (FoundGives (λ a. ⊥) T.gives
         (field_named (slice_index_or K.names index []) (fields_left fields.old))) result }
+    ensures succeeds { FoundMemoryless ⊥ T.memoryless
+        (field_named (slice_index_or K.names index []) (fields_left fields.old)) → IsOk result }
     ensures rest { fields_left fields.new
         ≡ without_field (slice_index_or K.names index []) (fields_left fields.old) }
 {
@@ -57,6 +64,8 @@ fn field_at_or<'de, 'n: 'de, K: Names, T: Deserialize<'de> + Absent>(
         (field_named (slice_index_or K.names index []) (fields_left fields.old)))
         (FoundGives T.is_absent T.gives
         (field_named (slice_index_or K.names index []) (fields_left fields.old))) result }
+    ensures succeeds { FoundMemoryless ⊤ T.memoryless
+        (field_named (slice_index_or K.names index []) (fields_left fields.old)) → IsOk result }
     ensures rest { fields_left fields.new
         ≡ without_field (slice_index_or K.names index []) (fields_left fields.old) }
 {
@@ -69,11 +78,14 @@ pub trait ReadFields<'de>: Sized {
     ghost refusal: { FieldsLeft → Option Cause };
     /// What they give.
     ghost gives: { Self → FieldsLeft → Type 0 };
+    /// Where they are read without memory. Where this isn't said, nowhere.
+    ghost memoryless: { FieldsLeft → Type 0 } = { λ f. ⊥ };
 
     /// Reads them. The error is the first refusal, or out of memory in its place.
     fn read<'n: 'de>(alloc: Global, fields: FieldsByName<'de, 'n>) -> Result<Self>
-        ensures { Reads (refusal (fields_left fields.entry))
-            (λ row. gives row (fields_left fields.entry)) result };
+        ensures value { Reads (refusal (fields_left fields.entry))
+            (λ row. gives row (fields_left fields.entry)) result }
+        ensures succeeds { memoryless (fields_left fields.entry) → IsOk result };
 }
 
 /// The field whose name has the index `I` among the names `K`, and those after it.
@@ -86,7 +98,9 @@ impl<'de, K: Names, const I: usize, T: Deserialize<'de>, R: ReadFields<'de>> Rea
 
     ghost gives = { λ row. RowThen (slice_index_or K.names I []) T.gives row.0 (R.gives row.1) };
 
-    #[tactic(auto, unfolding(crate::specs::Literals::row_then, crate::specs::Literals::RowThen))]
+    ghost memoryless = { RowMemoryless (slice_index_or K.names I []) T.memoryless R.memoryless };
+
+    #[tactic(auto, unfolding(crate::specs::Literals::row_then, crate::specs::Literals::RowThen, crate::specs::Literals::RowMemoryless))]
     #[inline(always)]
     fn read<'n: 'de>(alloc: Global, mut fields: FieldsByName<'de, 'n>) -> Result<Self> {
         let value = field_at::<K, T>(alloc, &mut fields, I)?;
@@ -106,7 +120,9 @@ impl<'de, K: Names, const I: usize, T: Deserialize<'de> + Absent, R: ReadFields<
     ghost gives = { λ row. RowOrThen (slice_index_or K.names I []) T.is_absent T.gives row.0
         (R.gives row.1) };
 
-    #[tactic(auto, unfolding(crate::specs::Literals::row_or_then, crate::specs::Literals::RowOrThen))]
+    ghost memoryless = { RowOrMemoryless (slice_index_or K.names I []) T.memoryless R.memoryless };
+
+    #[tactic(auto, unfolding(crate::specs::Literals::row_or_then, crate::specs::Literals::RowOrThen, crate::specs::Literals::RowOrMemoryless))]
     #[inline(always)]
     fn read<'n: 'de>(alloc: Global, mut fields: FieldsByName<'de, 'n>) -> Result<Self> {
         let value = field_at_or::<K, T>(alloc, &mut fields, I)?;
@@ -122,6 +138,8 @@ impl<'de, K: Names> ReadFields<'de> for OthersSkipped<K> {
     ghost refusal = { others_left K.names };
 
     ghost gives = { λ row. NoOthers };
+
+    ghost memoryless = { λ f. others_left K.names f ≡ None };
 
     #[tactic(auto, unfolding(crate::specs::Literals::others_left))]
     #[inline(always)]
@@ -140,6 +158,8 @@ impl<'de, K: Names> ReadFields<'de> for OthersRefused<K> {
 
     ghost gives = { λ row. NoOthers };
 
+    ghost memoryless = { λ f. no_others K.names f ≡ None };
+
     #[inline(always)]
     fn read<'n: 'de>(alloc: Global, fields: FieldsByName<'de, 'n>) -> Result<Self> {
         deny_unknown_fields(alloc, fields, K::names())?;
@@ -155,6 +175,8 @@ pub trait ReadStruct<'de>: Sized {
     ghost refusal: { FieldsLeft → Option Cause };
     /// What they give.
     ghost gives: { Self → FieldsLeft → Type 0 };
+    /// Where they are read without memory. Where this isn't said, nowhere.
+    ghost memoryless: { FieldsLeft → Type 0 } = { λ f. ⊥ };
 
     /// Its name, as code has it.
     fn name() -> &'static str
@@ -162,8 +184,9 @@ pub trait ReadStruct<'de>: Sized {
 
     /// Reads its fields. The error is the first refusal, or out of memory in its place.
     fn read<'n: 'de>(alloc: Global, fields: FieldsByName<'de, 'n>) -> Result<Self>
-        ensures { Reads (refusal (fields_left fields.entry))
-            (λ y. gives y (fields_left fields.entry)) result };
+        ensures value { Reads (refusal (fields_left fields.entry))
+            (λ y. gives y (fields_left fields.entry)) result }
+        ensures succeeds { memoryless (fields_left fields.entry) → IsOk result };
 }
 
 /// Reads a struct whose fields have the names `K`, in any order. The errors are those of
@@ -172,8 +195,10 @@ pub fn read_struct<'de, 'n: 'de, K: Names, T: ReadStruct<'de>>(
     alloc: Global,
     from: Deserializer<'de, 'n>,
 ) -> Result<T>
-    ensures { Reads (struct_refusal T.name (read_by_name T.refusal) (subject from.entry))
+    ensures value { Reads (struct_refusal T.name (read_by_name T.refusal) (subject from.entry))
         (λ y. StructGives T.name (ReadByName (T.gives y)) (subject from.entry)) result }
+    ensures succeeds { IsTaken (struct_at T.name (subject from.entry)) (ReadByName T.memoryless)
+        → IsOk result }
 {
     let fields = from
         .deserialize_struct(alloc, T::name(), K::names())?
@@ -187,8 +212,10 @@ pub fn read_flattened<'de, 'n: 'de, T: ReadFields<'de>>(
     alloc: Global,
     from: Deserializer<'de, 'n>,
 ) -> Result<T>
-    ensures { Reads (flattened_refusal (read_by_name T.refusal) (subject from.entry))
+    ensures value { Reads (flattened_refusal (read_by_name T.refusal) (subject from.entry))
         (λ y. FlattenedGives (ReadByName (T.gives y)) (subject from.entry)) result }
+    ensures succeeds { IsTaken (map_at (subject from.entry)) (ReadByName T.memoryless)
+        → IsOk result }
 {
     let fields = from.deserialize_map(alloc)?.by_name();
     T::read(alloc, fields)
@@ -200,11 +227,14 @@ pub trait ReadParts<'de>: Sized {
     ghost refusal: { SeqLeft → Option Cause };
     /// What they give.
     ghost gives: { Self → SeqLeft → Type 0 };
+    /// Where they are read without memory. Where this isn't said, nowhere.
+    ghost memoryless: { SeqLeft → Type 0 } = { λ s. ⊥ };
 
     /// Reads them. The error is the first refusal, or out of memory in its place.
     fn read<'n: 'de>(alloc: Global, parts: Seq<'de, 'n>) -> Result<Self>
-        ensures { Reads (refusal (seq_view parts.entry))
-            (λ row. gives row (seq_view parts.entry)) result };
+        ensures value { Reads (refusal (seq_view parts.entry))
+            (λ row. gives row (seq_view parts.entry)) result }
+        ensures succeeds { memoryless (seq_view parts.entry) → IsOk result };
 }
 
 /// The part at the place `I` of `N`, and those after it.
@@ -216,6 +246,8 @@ impl<'de, const N: usize, const I: usize, T: Deserialize<'de>, R: ReadParts<'de>
     ghost refusal = { part_then N I T.refusal R.refusal };
 
     ghost gives = { λ row. PartThen T.gives row.0 (R.gives row.1) };
+
+    ghost memoryless = { MemorylessThen T.memoryless R.memoryless };
 
     #[inline(always)]
     fn read<'n: 'de>(alloc: Global, mut parts: Seq<'de, 'n>) -> Result<Self> {
@@ -232,6 +264,8 @@ impl<'de, const N: usize> ReadParts<'de> for PartsEnd<N> {
     ghost refusal = { end_of_parts N };
 
     ghost gives = { λ row. NoPart };
+
+    ghost memoryless = { MayEnd N };
 
     #[inline(always)]
     fn read<'n: 'de>(alloc: Global, parts: Seq<'de, 'n>) -> Result<Self> {

@@ -28,8 +28,8 @@ pub use content_build::Serializer;
 pub use content_de::{Deserializer, ValueVisitor};
 pub use content_tree::{
     CowBytes, CowStr, Data, DataType, Enum, Error, ErrorKind, Expected, Found, FoundData,
-    NamedData, NamedEnum, NamedStruct, NamedValue, Number, Result, Struct, Unexpected, Value,
-    ValueDisplay,
+    InsertError, NamedData, NamedEnum, NamedStruct, NamedValue, Number, PrettyDisplay, Result,
+    Struct, Unexpected, Value, ValueDisplay,
 };
 pub use round::{RoundTrip, round_trip};
 pub use values::{from_value, to_value};

@@ -6,7 +6,7 @@ use content_cbor::{
     DecodeError, decode, decode_prefix, encode, encode_array, from_bytes, read_back, through_cbor,
     to_bytes,
 };
-use serde_content::Value;
+use serde_content::{Error, Value};
 use std::alloc::Global;
 use std::collections::BTreeMap;
 use std::test::Fail;
@@ -155,7 +155,9 @@ fn lists_and_maps_come_back(rt: HostRuntime) -> Result<(), Fail> {
     let list = vec![in alloc; Some(true), None]?;
     assert!(rt; write_and_read_back(alloc, &list, &mut room, 2)? == list);
     let mut full = vec![in alloc; 0]?;
-    assert!(rt; write_and_read_back(alloc, &list, &mut full, 1).is_err());
+    let refused = write_and_read_back(alloc, &list, &mut full, 1);
+    let too_deep = Error::custom(alloc, "refused at byte 0: items nest too deep");
+    assert!(rt; refused.err() == Some(too_deep));
 
     let mut map = BTreeMap::new(alloc);
     map.insert(

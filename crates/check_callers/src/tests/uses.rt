@@ -1,10 +1,11 @@
 //! Records and configurations: the examples of the pages, and cases that they don't show.
 
+use content_cbor::{DecodeError, Fault};
 use content_uses::laws::{put_and_get, put_and_reload, save_twice};
-use content_uses::{Store, merge};
+use content_uses::{LoadError, Store, merge};
 use serde_content::samples::Point;
 use serde_content::{
-    CowStr, Data, Deserializer, Result as Answer, Serializer, Struct, Value, value,
+    CowStr, Data, Deserializer, Error, Result as Answer, Serializer, Struct, Value, value,
 };
 use std::test::Fail;
 
@@ -39,7 +40,18 @@ fn what_is_put_is_got(rt: HostRuntime) -> Result<(), Fail> {
     assert!(rt; put_and_get(alloc, &mut store, &'c')? == 'c');
     assert!(rt; store.len() == 1);
     let none: Answer<bool> = store.get(alloc, 1);
-    assert!(rt; none.is_err());
+    assert!(rt; none.err() == Some(Error::custom(alloc, "no such record")));
+
+    // What a record itself refuses.
+    let fields = vec![in alloc; (CowStr::Owned(String::from_str(alloc, "k")?), Value::Unit)]?;
+    let owned = Struct {
+        name: CowStr::Borrowed("S"),
+        data: Data::Struct { fields },
+    };
+    let refused = store.put(alloc, &owned);
+    let text = r#"failed to deserialize; expected a static string slice, found "k""#;
+    assert!(rt; refused.err() == Some(Error::custom(alloc, text)));
+    assert!(rt; store.len() == 1);
     Ok(())
 }
 
@@ -87,7 +99,9 @@ fn what_is_put_is_reloaded(rt: HostRuntime) -> Result<(), Fail> {
     assert!(rt; put_and_reload(alloc, &mut store, &point, &mut room, 3)? == point);
     assert!(rt; store.len() == 1);
     let mut full = vec![in alloc; 0]?;
-    assert!(rt; put_and_reload(alloc, &mut store, &point, &mut full, 2).is_err());
+    let refused = put_and_reload(alloc, &mut store, &point, &mut full, 2);
+    let fault = Fault::TooDeep;
+    assert!(rt; refused.err() == Some(LoadError::Decode(DecodeError::Refused { at: 1, fault })));
     assert!(rt; store.len() == 2);
     Ok(())
 }

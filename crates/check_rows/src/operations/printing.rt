@@ -34,6 +34,11 @@ pub fn image(out: &mut Answer, pieces: &mut Pieces<'_>) -> Result<()> {
     Ok(())
 }
 
+/// Of a value on several lines.
+pub fn pretty(out: &mut Answer, pieces: &mut Pieces<'_>) {
+    write_printed(out, &read_tree(pieces).pretty());
+}
+
 /// Of an expectation.
 pub fn expected(out: &mut Answer, pieces: &mut Pieces<'_>) {
     write_printed(out, &read_expected(pieces));

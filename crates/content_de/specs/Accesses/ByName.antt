@@ -1,6 +1,6 @@
 -- What is left to be taken by name.
 use Rattle.std.specs.Prelude.{ℕ, List, [], ◌∷◌, ◌++◌, map, Option, Some, None, option_map}
-use Rattle.std.specs.Prelude.{◌≡◌, Bool, true}
+use Rattle.std.specs.Prelude.{◌≡◌, Bool, true, ⊤}
 use Rattle.std.specs.Map.{lookup, remove_entry}
 use Rattle.content_tree.specs.Values.Text.{text_of}
 use Rattle.content_tree.specs.Values.Tree.{Tree, text, unit}
@@ -65,6 +65,15 @@ entries_of (left.Fields q) = map field_entry q.items
 -- what contracts see of a `FieldsByName`
 abbrev pub fields_left : FieldsByName → FieldsLeft
 fields_left f = record { entries = keyless_entry f.keyless ++ entries_of f.left; flags = flags_of f.flags }
+
+-- they are the pairs of a map
+abbrev pub HoldsPairs : Left → Type 0
+HoldsPairs (left.Pairs q) = ⊤
+HoldsPairs (left.Fields q) = ⊥
+
+-- and none is left without its key
+abbrev pub ArePairsLeft : FieldsByName → Type 0
+ArePairsLeft f = (f.keyless ≡ None) × HoldsPairs f.left
 
 -- the entries that are left as a map
 abbrev pub rest_of : FieldsLeft → Subject

@@ -1,5 +1,5 @@
 -- What a map has left.
-use Rattle.std.specs.Prelude.{ℕ, List, [], ◌∷◌, Bool, true, false, Option, Some, None, codes}
+use Rattle.std.specs.Prelude.{ℕ, List, [], ◌∷◌, Bool, true, false, Option, Some, None, codes, ⊤}
 use Rattle.content_tree.specs.Values.Tree.{Tree, unit}
 use Rattle.content_tree.specs.Values.Value.{pairs_view, fields_view}
 use Rattle.content_tree.specs.Errors.Cause.{custom}
@@ -38,6 +38,11 @@ entries_view (entries.Pairs q) key_taken = entries_of_pairs (pairs_view q.items)
 entries_view (entries.Fields f) false = entries_of_fields f.place (fields_view f.left.items)
 entries_view (entries.Fields f) true =
     without_key (entries_of_fields f.place (fields_view f.left.items))
+
+-- they are the pairs of a map
+abbrev pub ArePairs : Entries → Type 0
+ArePairs (entries.Pairs q) = ⊤
+ArePairs (entries.Fields f) = ⊥
 
 -- what contracts see of a `Map`
 abbrev pub map_view : Map → MapLeft

@@ -2,10 +2,11 @@
 
 #![tactic(auto, using(crate::proofs::Values::values))]
 
+ghost use Rattle.std.specs.Prelude.{IfOk};
 ghost use Rattle.content_de.specs.Outcomes.{Answers};
 ghost use Rattle.content_de.specs.Requests.Compounds.{unit_struct_from, newtype_from};
 ghost use Rattle.content_de.specs.Accesses.Seq.{seq_view, seq_at, tuple_at, tuple_struct_at};
-ghost use Rattle.content_de.specs.Accesses.Map.{map_view, map_at, struct_at};
+ghost use Rattle.content_de.specs.Accesses.Map.{map_view, map_at, struct_at, ArePairs};
 ghost use Rattle.content_de.specs.Sources.Deserializer.{subject};
 
 use crate::contents::{is_nothing, take_fields, take_value, take_values};
@@ -109,7 +110,9 @@ impl<'de, 'n> Deserializer<'de, 'n> {
 
     /// Gives the entries of a map.
     pub fn deserialize_map(self, alloc: Global) -> Result<Map<'de, 'n>>
-        ensures { Answers map_view (map_at (subject self.entry)) result }
+        ensures value { Answers map_view (map_at (subject self.entry)) result }
+        // so what is left of them by name is a map without memory
+        ensures pairs { IfOk result (λ map. ArePairs map.entries) }
     {
         let Deserializer { source, flags } = self;
         match source {

@@ -59,7 +59,7 @@ impl<'v, 'a, 'n> fmt::Display for ValueDisplay<'v, 'a, 'n> {
 
 #[cycle(print_value)]
 #[inline(never)]
-fn write_value<'a, 'n, W: fmt::Write>(
+pub(super) fn write_value<'a, 'n, W: fmt::Write>(
     value: &NamedValue<'a, 'n>,
     f: &mut fmt::Formatter<W>,
 ) -> fmt::Result
@@ -103,7 +103,7 @@ fn write_held<'a, 'n, W: fmt::Write>(
 
 #[cycle(print_value)]
 #[inline(never)]
-fn write_list<'a, 'n, W: fmt::Write>(
+pub(super) fn write_list<'a, 'n, W: fmt::Write>(
     before: &str,
     items: &Vec<NamedValue<'a, 'n>>,
     after: &str,
@@ -120,7 +120,7 @@ fn write_list<'a, 'n, W: fmt::Write>(
 
 #[cycle(print_value)]
 #[inline(never)]
-fn write_map<'a, 'n, W: fmt::Write>(
+pub(super) fn write_map<'a, 'n, W: fmt::Write>(
     pairs: &Vec<(NamedValue<'a, 'n>, NamedValue<'a, 'n>)>,
     f: &mut fmt::Formatter<W>,
 ) -> fmt::Result
@@ -195,7 +195,7 @@ fn write_newtype<'a, 'n, W: fmt::Write>(
 
 #[cycle(print_value)]
 #[inline(never)]
-fn write_named<'a, 'n, W: fmt::Write>(
+pub(super) fn write_named<'a, 'n, W: fmt::Write>(
     fields: &Vec<(CowStr<'n>, NamedValue<'a, 'n>)>,
     f: &mut fmt::Formatter<W>,
 ) -> fmt::Result

@@ -36,6 +36,7 @@ pub use Rattle.content_tree.specs.Values.Lookups.{text_in, bytes_in, items_in, p
 pub use Rattle.content_tree.specs.Values.Lookups.{last_value, last_field, field_in, is_text}
 pub use Rattle.content_tree.specs.Values.Paths.{parts_of, path_of, index_of}
 pub use Rattle.content_tree.specs.Values.Pointers.{pointer, leads, follow, lookup_index}
+pub use Rattle.content_tree.specs.Values.Edits.{pushed, inserted, removed, entry_value}
 pub use Rattle.content_tree.specs.Orders.Trees.{same_tree, tree_cmp}
 pub use Rattle.content_ser.specs.Scripts.Script.{and_then}
 pub use Rattle.content_ser.specs.Sending.Loose.{loose}
