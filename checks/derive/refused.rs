@@ -149,7 +149,7 @@ struct A(u8);
 #[derive(Serialize)]
 struct Call(u8);
 
-// 2: A.0: `A` contains itself, which is not covered, as its contract would speak of itself: write its impls by hand
+// 2: A.0: `A` contains itself, which is not covered: write its impls by hand
 #[derive(Serialize)]
 struct A(Option<Box<A>>);
 
@@ -290,8 +290,8 @@ type A5 = (A4, A4, A4, A4);
 #[derive(Serialize)]
 struct A(A5);
 
-// 2: A.next: `A` contains itself, which is not covered, as its contract would speak of itself: write its impls by hand
-// 6: C.X.0: `B` contains itself, which is not covered, as its contract would speak of itself: write its impls by hand
+// 2: A.next: `A` contains itself, which is not covered: write its impls by hand
+// 6: C.X.0: `B` contains itself, which is not covered: write its impls by hand
 #[derive(Serialize)]
 struct A { next: Option<Box<Self>> }
 #[derive(Serialize)]
@@ -454,7 +454,7 @@ struct A { y: y, z: z }
 #[derive(Serialize)]
 struct z { x: u8 }
 
-// 2: A.0: `A` contains itself, which is not covered, as its contract would speak of itself: write its impls by hand
+// 2: A.0: `A` contains itself, which is not covered: write its impls by hand
 #[derive(Serialize)]
 struct A(Option<Box<crate::types::A>>);
 

@@ -202,8 +202,8 @@ class Homes:
                         stack.append((self.items[name], self.parts_of(self.items[name])))
                         break
                     if name not in done:
-                        self.refuse(Refused(f.line, f"`{name}` contains itself, which is not covered, as its contract"
-                                            " would speak of itself: write its impls by hand", where))
+                        self.refuse(Refused(f.line, f"`{name}` contains itself, which is not covered: write its impls by hand",
+                                            where))
                         f.type = Type("()")
                 else:
                     done.add(stack.pop()[0].name)

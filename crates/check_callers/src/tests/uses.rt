@@ -2,7 +2,7 @@
 
 use content_cbor::{DecodeError, Fault};
 use content_uses::laws::{put_and_get, put_and_reload, save_twice};
-use content_uses::{LoadError, Store, merge};
+use content_uses::{Store, merge};
 use serde_content::samples::Point;
 use serde_content::{
     CowStr, Data, Deserializer, Error, Result as Answer, Serializer, Struct, Value, value,
@@ -101,7 +101,10 @@ fn what_is_put_is_reloaded(rt: HostRuntime) -> Result<(), Fail> {
     let mut full = vec![in alloc; 0]?;
     let refused = put_and_reload(alloc, &mut store, &point, &mut full, 2);
     let fault = Fault::TooDeep;
-    assert!(rt; refused.err() == Some(LoadError::Decode(DecodeError::Refused { at: 1, fault })));
+    assert!(rt;
+        refused.err()
+            == Some(content_uses::LoadError::Decode(DecodeError::Refused { at: 1, fault }))
+    );
     assert!(rt; store.len() == 2);
     Ok(())
 }
