@@ -208,7 +208,7 @@ struct A {
 struct A(u8);
 
 // 3: A.x: floats are not covered
-// 4: A.y: serde's `with` on a field is not covered: a function of your own has no contract here
+// 4: A.y: serde's `skip` on a field is not covered: write its impls by hand
 // 6: A.z: `#[cfg(unix)]` is not covered, as the module is written once for all: delete it, or move what it is about to a file of its own
 // 7: A.z: a type that begins with `&` is not covered: hold the value itself, as String for &str
 // 9: A.größe: the name `größe` is not covered, as Rattle takes names in ASCII alone: give it another
@@ -622,11 +622,11 @@ enum B { X, #[serde(other)] Z(u8) }
 #[serde(tag = "t")]
 enum B { X, #[serde(alias = "z")] Z }
 
-// 2: A.0: serde's `skip` is covered in fields with names: give them names
+// 2: A.0: serde's `skip` on a field is not covered: write its impls by hand
 #[derive(Serialize, Deserialize)]
 struct A(#[serde(skip)] u8, u8);
 
-// 2: A: what has no fields that are read is not covered: write it without fields
+// 2: A.x: serde's `skip` on a field is not covered: write its impls by hand
 #[derive(Serialize, Deserialize)]
 struct A { #[serde(skip)] x: u8 }
 

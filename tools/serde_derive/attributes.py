@@ -10,14 +10,15 @@ from .tokens import Cursor, text_of
 COVERED = {
     "a container": {"rename", "rename_all", "rename_all_fields", "deny_unknown_fields", "untagged",
                     "tag", "content", "transparent", "default"},
-    "a variant": {"rename", "rename_all", "alias", "other", "skip", "skip_serializing", "skip_deserializing"},
-    "a field": {"rename", "alias", "default", "flatten", "skip_serializing_if", "skip", "skip_serializing", "skip_deserializing"},
+    "a variant": {"rename", "rename_all", "alias", "other"},
+    "a field": {"rename", "alias", "default", "flatten", "skip_serializing_if"},
 }
 NOT_COVERED = {
     "f32": "floats are not covered", "f64": "floats are not covered",
     "HashMap": "a HashMap is not covered: a BTreeMap is",
     "with": "a function of your own has no contract here",
 }
+NOT_COVERED.update({key: "write its impls by hand" for key in ("skip", "skip_serializing", "skip_deserializing")})
 VALUED = {"tag", "content", "skip_serializing_if", "alias"}
 DERIVES = set("Clone Copy Debug Default Drop Eq Hash Ord PartialEq PartialOrd Serialize Deserialize".split())
 SERDE = {"Serialize", "Deserialize"}
