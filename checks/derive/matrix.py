@@ -167,26 +167,21 @@ def attributes() -> Dict[str, str]:
 
 
 def own_rules() -> Dict[str, str]:
-    """Fields with values and tests of the user's functions, those that are skipped, and variants with other names."""
+    """Fields with values and tests of the user's functions, and those with other names, also of variants."""
     made = {}
     functions = ("\n\nfn yes() -> bool { true }\n\nfn five() -> i32 { -5 }\n\nfn port() -> u16 { 8_080 }\n\nfn text() -> String {"
                  " \"plain\".to_owned() }\n\nfn is_port(n: &u16) -> bool { *n == port() }\n\nfn is_on(on: &bool) -> bool { *on }")
     values = [('default = "yes"', "bool"), ('default = "port", skip_serializing_if = "is_port"', "u16"), ('default = "text"', "String"),
               ('default = "five"', "i32"), ('default = "yes", skip_serializing_if = "is_on"', "bool")]
-    skipped = ["skip", "skip_serializing", 'skip, default = "port"', "skip_deserializing"]
     for count in (1, 2, 5, 9, 12):
         fields = ", ".join(f"#[serde({said})] pub f{i}: {one}" for i, (said, one) in enumerate(islice(cycle(values), count)))
         made[f"own_defaults_{count}"] = f"{ALL}\npub struct Tried {{ {fields} }}{functions}"
         made[f"own_defaults_in_variant_{count}"] = f"{ALL}\npub enum Tried {{ A {{ {fields.replace('pub ', '')} }}, B }}{functions}"
-        fields = ", ".join(f"pub k{i}: u8, #[serde({said})] pub f{i}: u16" for i, said in enumerate(islice(cycle(skipped), count)))
-        made[f"unsent_{count}"] = f"{ALL}\npub struct Tried {{ {fields} }}{functions}"
     for count in (1, 2, 4, 8):
         variants = ", ".join(f'#[serde(alias = "a{i}", alias = "b{i}")] V{i}{held(types, style)}' for i, (types, style) in enumerate(
             islice(cycle([([], ""), (["u8"], "place"), (["i32", "u8"], "named")]), count)))
         made[f"aliases_{count}"] = f"{ALL}\npub enum Tried {{ {variants} }}"
         made[f"other_{count}"] = f"{ALL}\npub enum Tried {{ {variants}, #[serde(other)] Other }}"
-        made[f"unsent_variants_{count}"] = (f"{ALL}\npub enum Tried {{ A(u8), #[serde(skip)] B(String), "
-                                            + ", ".join(f"#[serde(skip_serializing)] V{i}(u8)" for i in range(count)) + " }")
         fields = ", ".join(f'#[serde(alias = "a{i}", alias = "b{i}"{said})] pub f{i}: {one}' for i, (said, one) in enumerate(
             islice(cycle([("", "u8"), (", default", "String"), (', default = "five"', "i32"), ("", "Option<u8>")]), count)))
         made[f"aliased_{count}"] = f"{ALL}\npub struct Tried {{ {fields} }}{functions}"

@@ -220,7 +220,7 @@ struct A(u8);
 #[derive(Serialize)]
 struct A {
     x: f32,
-    #[serde(skip, with = "x")]
+    #[serde(with = "x")]
     y: u8,
     #[cfg(unix)]
     z: BTreeMap<&'static str, u8>,
@@ -782,15 +782,17 @@ enum B { X, #[serde(alias = "X")] Y, #[serde(other)] Z(u8) }
 #[derive(Serialize, Deserialize)]
 enum B { X, #[serde(other)] Z(u8) }
 
+// 3: A.W: serde's `skip` on a variant is not covered: write the impls by hand
+// 3: A.V.a: serde's `skip_deserializing` on a field is not covered: write the impls by hand
 // 3: A.X: a field is called as the tag, `t`: give one of them another name
-// 3: A.Y: `skip_deserializing` and names by direction are not covered beside a tag: delete them
-// 3: A.Z: `alias`, `other` and `skip_deserializing` are covered in enums that are tagged externally: delete them
+// 3: A.Y: names by direction are not covered beside a tag: delete them
+// 3: A.Z: `alias` and `other` are covered in enums that are tagged externally: delete them
 // 5: B: two fields are called `x`: give one another name by `rename`
 // 9: D.x: serde's `default` so is not covered: write `default` alone
 // 9: D.y: serde's `rename` stands twice
 #[derive(Serialize, Deserialize)]
 #[serde(tag = "t")]
-enum A { X { #[serde(alias = "t")] a: u8 }, Y { #[serde(skip_deserializing)] a: u8, b: u8 }, #[serde(skip_deserializing)] Z, #[serde(skip)] W(u8, u8) }
+enum A { X { #[serde(alias = "t")] a: u8 }, Y { #[serde(rename(deserialize = "c"))] a: u8, b: u8 }, #[serde(alias = "z")] Z, #[serde(skip)] W(u8, u8), V { #[serde(skip_deserializing)] a: u8 } }
 #[derive(Serialize, Deserialize)]
 struct B { #[serde(flatten)] c: C, #[serde(rename(deserialize = "x"))] y: u8 }
 #[derive(Serialize, Deserialize)]
@@ -798,16 +800,16 @@ struct C { x: u8 }
 #[derive(Serialize, Deserialize)]
 struct D { #[serde(default(x))] x: u8, #[serde(rename = "a", rename(serialize = "b"))] y: u8 }
 
-// 3: B.Z: `alias`, `other` and `skip_deserializing` are covered in enums that are tagged externally: delete them
+// 3: B.Z: `alias` and `other` are covered in enums that are tagged externally: delete them
 #[derive(Serialize, Deserialize)]
 #[serde(tag = "t")]
 enum B { X, #[serde(alias = "z")] Z }
 
-// 2: A.0: serde's `skip` is covered in fields with names: give them names
+// 2: A.0: serde's `skip` on a field is not covered: write the impls by hand
 #[derive(Serialize, Deserialize)]
 struct A(#[serde(skip)] u8, u8);
 
-// 2: A: what has no fields that are read is not covered: write it without fields
+// 2: A.x: serde's `skip` on a field is not covered: write the impls by hand
 #[derive(Serialize, Deserialize)]
 struct A { #[serde(skip)] x: u8 }
 

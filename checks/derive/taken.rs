@@ -557,16 +557,6 @@ fn low() -> Level { Level::Low }
 struct A { a: u8, b: String }
 impl Default for A { fn default() -> Self { Self { a: 7, b: String::new() } } }
 
-// 2: no RoundTrip is written for `A`: `x` is not sent
-// 4: no RoundTrip is written for `B`: variant `Y` is not sent
-// + UnreadThen (λ (x : ℕ). x ≡ 0) z.x
-// + unsent_script (codes "the enum variant B::Y cannot be serialized")
-// + name "X" ∷ []
-#[derive(PartialEq, Eq, Serialize, Deserialize)]
-struct A { #[serde(skip)] x: u8, #[serde(skip_serializing)] y: u8, z: u8 }
-#[derive(PartialEq, Eq, Serialize, Deserialize)]
-enum B { X, #[serde(skip)] Y(u8) }
-
 // 2: no RoundTrip is written for `A`: `x` has an `alias`
 // + aliased_then (name "x") (name "x" ∷ name "y" ∷ name "z" ∷ []) (Some (missing_field (name "x")))
 // + type TagsOfB = OtherAt<Aliases<AliasesOfB, MeantOfB>, NamesOfB, 1>;

@@ -1,4 +1,4 @@
-//! Fields and variants with values, tests and names of their own, and those that are skipped.
+//! Fields and variants with values, tests and names of their own.
 
 use serde::{Deserialize, Serialize};
 
@@ -102,47 +102,8 @@ impl Default for Extent {
     }
 }
 
-/// An account, of which some fields are skipped.
-#[derive(PartialEq, Eq, Serialize, Deserialize)]
-#[serde(deny_unknown_fields)]
-pub struct Account {
-    /// Its number.
-    pub id: u64,
-    /// What is only kept.
-    #[serde(skip)]
-    pub cached: Vec<u8>,
-    /// What is read, and not sent.
-    #[serde(skip_serializing)]
-    pub secret: String,
-    /// What is sent, and not read.
-    #[serde(skip_deserializing, default = "first")]
-    pub version: u8,
-    /// What is only kept, and begins as one.
-    #[serde(skip, default = "first")]
-    pub uses: u8,
-}
-
 fn first() -> u8 {
     1
-}
-
-/// A message, of which some variants are skipped.
-#[derive(PartialEq, Eq, Serialize, Deserialize)]
-pub enum Notice {
-    /// Both ways.
-    Opened(u8),
-    /// Neither.
-    #[serde(skip)]
-    Line(String),
-    /// Read alone.
-    #[serde(skip_serializing)]
-    Old {
-        /// Its number.
-        id: u8,
-    },
-    /// Sent alone.
-    #[serde(skip_deserializing)]
-    Closed,
 }
 
 /// A task, of which some fields have further names.

@@ -10,14 +10,15 @@ from .tokens import Cursor, text_of
 COVERED = {
     "a container": {"rename", "rename_all", "rename_all_fields", "deny_unknown_fields", "untagged",
                     "tag", "content", "transparent", "default"},
-    "a variant": {"rename", "rename_all", "alias", "other", "skip", "skip_serializing", "skip_deserializing"},
-    "a field": {"rename", "alias", "default", "flatten", "skip_serializing_if", "skip", "skip_serializing", "skip_deserializing"},
+    "a variant": {"rename", "rename_all", "alias", "other"},
+    "a field": {"rename", "alias", "default", "flatten", "skip_serializing_if"},
 }
 # why others of Serde's attributes are not covered, and what to write instead
 NOT_COVERED = {
     **dict.fromkeys(["with", "serialize_with", "deserialize_with"], "a function of your own has no contract here: hold a"
                     " struct around the value, and write its impls by hand"),
     **dict.fromkeys(["from", "try_from", "into"], "a conversion has no contract here: write the impls by hand"),
+    **dict.fromkeys(["skip", "skip_serializing", "skip_deserializing"], "write the impls by hand"),
     **dict.fromkeys(["remote", "getter"], "only your own types are sent: declare one like it, and convert it by hand"),
     "bound": "there are no type parameters: delete it",
     "borrow": "values are owned: delete it",

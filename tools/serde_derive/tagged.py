@@ -27,8 +27,7 @@ def check_tagged(item: Item) -> Iterator[Refused]:
     for v in item.variants:
         where = f"{item.name}.{v.name}"
         if v.aliases() or "other" in v.serde or (v.sent and not v.read):
-            yield Refused(v.line, "`alias`, `other` and `skip_deserializing` are covered in enums that are tagged externally:"
-                          " delete them", where)
+            yield Refused(v.line, "`alias` and `other` are covered in enums that are tagged externally: delete them", where)
         elif not (v.sent or v.read):
             continue
         elif v.data.style == "Tuple" or (v.data.named and content):
@@ -38,7 +37,7 @@ def check_tagged(item: Item) -> Iterator[Refused]:
             yield Refused(v.line, f"a field is called as the tag, `{tag}`: give one of them another name", where)
         elif v.wire != v.known or (not content and any(
                 f.sent and (f.wire != f.known or not f.read) for f in beside_tag(v))):
-            yield Refused(v.line, "`skip_deserializing` and names by direction are not covered beside a tag: delete them", where)
+            yield Refused(v.line, "names by direction are not covered beside a tag: delete them", where)
 
 
 class TaggedHolder(Holder):

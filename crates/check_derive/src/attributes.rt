@@ -1,9 +1,9 @@
-//! Fields and variants with values, tests and names of their own, and those that are skipped.
+//! Fields and variants with values, tests and names of their own.
 //!
 //! Written by `tools/derive` from `attributes.rs`: change that file, and write this one anew.
 
 ghost use Rattle.std.specs.Prelude.{◌≡◌, ◌∷◌, [], ℕ, ℤ, Bool, Option, None, Some, true, false};
-ghost use Rattle.std.specs.Prelude.{negsuc, not, nat_eq, codes, string_bytes, refl};
+ghost use Rattle.std.specs.Prelude.{negsuc, not, nat_eq, string_bytes, refl};
 ghost use Rattle.content_ser.specs.Scripts.Own.{field_first, end_script, unit_variant_script};
 ghost use Rattle.content_ser.specs.Scripts.Own.{newtype_variant_script, struct_script};
 ghost use Rattle.content_ser.specs.Scripts.Own.{struct_variant_script};
@@ -16,15 +16,14 @@ ghost use Rattle.content_de.specs.Requests.Leaves.{bool_from, text_from};
 ghost use Rattle.content_de.specs.Reads.Standard.{HasContent};
 ghost use Rattle.content_de.specs.Accesses.ByName.{fields_left};
 ghost use Rattle.content_de.specs.Reads.Read.{Reads};
-ghost use Rattle.content_de.specs.Reads.ByName.{read_by_name, no_others, missing_field, ReadByName};
-ghost use Rattle.content_de.specs.Reads.ByName.{NoOthers};
+ghost use Rattle.content_de.specs.Reads.ByName.{read_by_name, missing_field, ReadByName, NoOthers};
 ghost use Rattle.content_de.specs.Reads.Own.{enum_refusal, EnumGives, unit_variant_refusal};
 ghost use Rattle.content_de.specs.Reads.Own.{UnitVariantGives, newtype_variant_refusal};
 ghost use Rattle.content_de.specs.Reads.Own.{NewtypeVariantGives, struct_refusal, StructGives};
 ghost use Rattle.content_de.specs.Reads.Own.{struct_variant_refusal, StructVariantGives};
 ghost use Rattle.serde_content.specs.Literals.{name, row_then, row_or_then, RowThen, RowOrThen};
 ghost use Rattle.serde_content.specs.Literals.{others_left};
-ghost use Rattle.serde_content.specs.Skips.{fields_less, field_unless, UnreadThen, unsent_script};
+ghost use Rattle.serde_content.specs.Skips.{fields_less, field_unless};
 ghost use Rattle.serde_content.specs.Aliases.{aliased_then, AliasedThen};
 ghost use Rattle.serde_content.specs.Tags.{meant, meant_among, EnumGivesBy};
 ghost use Rattle.serde_content.specs.Variants.{index_among, variants};
@@ -38,7 +37,7 @@ ghost use Rattle.serde_content.specs.Laws.Records.{struct_back, struct_keeps};
 ghost use Rattle.serde_content.specs.Laws.ByName.{by_name_back, named_back, named_or_back};
 ghost use Rattle.serde_content.specs.Laws.ByName.{skipped_back, by_name_keeps, named_keeps};
 ghost use Rattle.serde_content.specs.Laws.ByName.{named_or_keeps, skipped_keeps};
-ghost use Rattle.serde_content.specs.Laws.Skips.{field_unless_fits, unsent_lawful, keyed_or_back};
+ghost use Rattle.serde_content.specs.Laws.Skips.{field_unless_fits, keyed_or_back};
 ghost use Rattle.serde_content.specs.Laws.Skips.{keyed_unless_back, keyed_skipped_back};
 ghost use Rattle.serde_content.specs.Laws.Skips.{keyed_named};
 ghost use Rattle.serde_content.specs.Laws.Tags.{meant_variant_kept};
@@ -58,19 +57,18 @@ ghost use Rattle.std.specs.declared.vec.Vec.{Vec};
 ghost use Rattle.content_tree.specs.Values.Ranges as kind;
 ghost use Rattle.check_derive.specs.declared.attributes.Grade.{Grade};
 ghost use Rattle.check_derive.specs.declared.attributes.Grade.TheVariants as grade;
-ghost use Rattle.check_derive.specs.declared.attributes.Notice.TheVariants as notice;
 ghost use Rattle.check_derive.specs.declared.attributes.Way.TheVariants as way;
 
 use content_cbor::{CborRoundTrip, NotNull};
 use serde_content::de::{Deserialize, FieldsByName, VariantAccess};
 use serde_content::derive_support::{
-    Aliases, DefaultOf, NameAt, Names, NoName, OfType, OtherAt, OthersRefused, OthersSkipped,
-    ReadAbsent, ReadAliased, ReadAliasedElse, ReadField, ReadFieldElse, ReadFieldOr, ReadFields,
-    ReadMade, ReadStruct, SendEnd, SendField, SendFieldIf, SendOpen, SkipIf, Variants, count_if,
-    default_text, no_such_variant, read_enum, read_enum_by, read_struct, send_row, variant_index,
+    Aliases, DefaultOf, NameAt, Names, NoName, OfType, OtherAt, OthersSkipped, ReadAliased,
+    ReadAliasedElse, ReadField, ReadFieldElse, ReadFieldOr, ReadFields, ReadStruct, SendEnd,
+    SendField, SendFieldIf, SendOpen, SkipIf, Variants, count_if, default_text, no_such_variant,
+    read_enum, read_enum_by, read_struct, send_row, variant_index,
 };
 use serde_content::ser::{Call, Parts, Serialize, Serializer};
-use serde_content::{Deserializer, Error, Result, RoundTrip};
+use serde_content::{Deserializer, Result, RoundTrip};
 use std::alloc::Global;
 
 /// How much is told.
@@ -921,320 +919,6 @@ impl<'de> NotNull<'de> for Extent {
     ghost refuses_null = { record { of_null = λ b e. absurd (cc e) } };
 }
 
-/// An account, of which some fields are skipped.
-#[derive(Drop, PartialEq, Eq)]
-pub struct Account {
-    /// Its number.
-    pub id: u64,
-    /// What is only kept.
-    pub cached: Vec<u8>,
-    /// What is read, and not sent.
-    pub secret: String,
-    /// What is sent, and not read.
-    pub version: u8,
-    /// What is only kept, and begins as one.
-    pub uses: u8,
-}
-
-/// The names of its fields.
-#[derive(Drop)]
-struct FieldsOfAccount;
-
-impl Names for FieldsOfAccount {
-    ghost names = { name "id" ∷ name "secret" ∷ [] };
-
-    #[tactic(auto, unfolding(serde_content::specs::Literals::name))]
-    fn names() -> &'static [&'static str] {
-        &["id", "secret"]
-    }
-}
-
-/// The names of the fields that are sent.
-#[derive(Drop)]
-struct SentOfAccount;
-
-impl Names for SentOfAccount {
-    ghost names = { name "id" ∷ name "version" ∷ [] };
-
-    #[tactic(auto, unfolding(serde_content::specs::Literals::name))]
-    fn names() -> &'static [&'static str] {
-        &["id", "version"]
-    }
-}
-
-/// What is read where the field `version` is missing.
-#[derive(Drop)]
-struct Default4OfAccount;
-
-impl DefaultOf<u8> for Default4OfAccount {
-    ghost is_default = { λ x. x ≡ 1 };
-
-    fn make(_alloc: Global) -> Result<u8> {
-        Ok(1)
-    }
-}
-
-/// What is read where the field `uses` is missing.
-#[derive(Drop)]
-struct Default5OfAccount;
-
-impl DefaultOf<u8> for Default5OfAccount {
-    ghost is_default = { λ x. x ≡ 1 };
-
-    fn make(_alloc: Global) -> Result<u8> {
-        Ok(1)
-    }
-}
-
-type Field1OfAccount = ReadField<FieldsOfAccount, 0, u64, Field2OfAccount>;
-
-type Field2OfAccount = ReadAbsent<Vec<u8>, Field3OfAccount>;
-
-type Field3OfAccount = ReadField<FieldsOfAccount, 1, String, Field4OfAccount>;
-
-type Field4OfAccount = ReadMade<Default4OfAccount, u8, Field5OfAccount>;
-
-type Field5OfAccount = ReadMade<Default5OfAccount, u8, OthersRefused<FieldsOfAccount>>;
-
-impl<'de> ReadStruct<'de> for Account {
-    ghost name = { name "Account" };
-
-    ghost refusal = { row_then (name "id") (⟦<u64 as Deserialize<'de>>⟧.refusal)
-        (row_then (name "secret") (⟦<String as Deserialize<'de>>⟧.refusal)
-        (no_others (name "id" ∷ name "secret" ∷ []))) };
-
-    ghost gives = { λ z.
-        (RowThen (name "id") (⟦<u64 as Deserialize<'de>>⟧.gives) z.id
-        (UnreadThen (λ (x : (Vec ℕ Global)). x.items ≡ []) z.cached
-        (RowThen (name "secret") (⟦<String as Deserialize<'de>>⟧.gives) z.secret
-        (UnreadThen (λ (x : ℕ). x ≡ 1) z.version
-        (UnreadThen (λ (x : ℕ). x ≡ 1) z.uses
-        NoOthers))))) };
-
-    #[tactic(auto, unfolding(serde_content::specs::Literals::name))]
-    fn name() -> &'static str {
-        "Account"
-    }
-
-    fn read<'n: 'de>(alloc: Global, fields: FieldsByName<'de, 'n>) -> Result<Account> {
-        let row: Field1OfAccount = ReadFields::read(alloc, fields)?;
-        let ReadField(id, row, _) = row;
-        let ReadAbsent(cached, row) = row;
-        let ReadField(secret, row, _) = row;
-        let ReadMade(version, row, _) = row;
-        let ReadMade(uses, _, _) = row;
-        Ok(Account {
-            id,
-            cached,
-            secret,
-            version,
-            uses,
-        })
-    }
-}
-
-impl Serialize for Account {
-    ghost script = { λ p. struct_script (name "Account") 2
-        (field_first (name "id") (⟦<u64 as Serialize>⟧.script p.id)
-        (field_first (name "version") (⟦<u8 as Serialize>⟧.script p.version)
-        end_script)) };
-
-    ghost lawful = { λ p readable. struct_lawful
-        (field_fits (leaf_lawful refl)
-        (field_fits (leaf_lawful refl)
-        struct_end_fits)) };
-
-    fn serialize<S: Serializer>(&self, alloc: Global, serializer: &mut S) -> Result<()> {
-        let row = SendEnd;
-        let row = SendField(SentOfAccount, 1, &self.version, row);
-        let row = SendField(SentOfAccount, 0, &self.id, row);
-        let row = SendOpen(Call::Struct(name_account(), 2), row);
-        send_row(alloc, serializer, &row)
-    }
-}
-
-impl<'de> Deserialize<'de> for Account {
-    ghost refusal = { struct_refusal (name "Account") (read_by_name
-        (row_then (name "id") (⟦<u64 as Deserialize<'de>>⟧.refusal)
-        (row_then (name "secret") (⟦<String as Deserialize<'de>>⟧.refusal)
-        (no_others (name "id" ∷ name "secret" ∷ []))))) };
-
-    ghost gives = { λ s p. StructGives (name "Account") (ReadByName
-        (RowThen (name "id") (⟦<u64 as Deserialize<'de>>⟧.gives) p.id
-        (UnreadThen (λ (x : (Vec ℕ Global)). x.items ≡ []) p.cached
-        (RowThen (name "secret") (⟦<String as Deserialize<'de>>⟧.gives) p.secret
-        (UnreadThen (λ (x : ℕ). x ≡ 1) p.version
-        (UnreadThen (λ (x : ℕ). x ≡ 1) p.uses
-        NoOthers)))))) s };
-
-    fn deserialize<'n: 'de>(alloc: Global, from: Deserializer<'de, 'n>) -> Result<Account> {
-        read_struct::<FieldsOfAccount, Self>(alloc, from)
-    }
-}
-
-/// A message, of which some variants are skipped.
-#[derive(Drop, PartialEq, Eq)]
-pub enum Notice {
-    /// Both ways.
-    Opened(u8),
-    /// Neither.
-    Line(String),
-    /// Read alone.
-    Old {
-        /// Its number.
-        id: u8,
-    },
-    /// Sent alone.
-    Closed,
-}
-
-/// The names of its fields.
-#[derive(Drop)]
-struct FieldsOfNoticeOld;
-
-impl Names for FieldsOfNoticeOld {
-    ghost names = { name "id" ∷ [] };
-
-    #[tactic(auto, unfolding(serde_content::specs::Literals::name))]
-    fn names() -> &'static [&'static str] {
-        &["id"]
-    }
-}
-
-type Field1OfNoticeOld = ReadField<FieldsOfNoticeOld, 0, u8, OthersSkipped<FieldsOfNoticeOld>>;
-
-/// Reads the fields, in any order.
-fn read_notice_old<'de, 'n: 'de>(alloc: Global, fields: FieldsByName<'de, 'n>) -> Result<u8>
-    ensures { Reads (
-        (row_then (name "id") (⟦<u8 as Deserialize<'de>>⟧.refusal)
-        (others_left (name "id" ∷ [])))
-        (fields_left fields.entry))
-        (λ z.
-        (RowThen (name "id") (⟦<u8 as Deserialize<'de>>⟧.gives) z
-        NoOthers)
-        (fields_left fields.entry)) result }
-{
-    let row: Field1OfNoticeOld = ReadFields::read(alloc, fields)?;
-    let ReadField(id, _, _) = row;
-    Ok(id)
-}
-
-/// The names of its variants.
-#[derive(Drop)]
-struct NamesOfNotice;
-
-impl Names for NamesOfNotice {
-    ghost names = { name "Opened" ∷ name "Old" ∷ [] };
-
-    #[tactic(auto, unfolding(serde_content::specs::Literals::name))]
-    fn names() -> &'static [&'static str] {
-        &["Opened", "Old"]
-    }
-}
-
-impl Serialize for Notice {
-    ghost script = { elim [
-      | notice.Opened x1 ↦ newtype_variant_script (name "Notice") 0 (name "Opened")
-          (⟦<u8 as Serialize>⟧.script x1)
-      | notice.Line x1 ↦ unsent_script
-          (codes "the enum variant Notice::Line cannot be serialized")
-      | notice.Old x1 ↦ unsent_script
-          (codes "the enum variant Notice::Old cannot be serialized")
-      | notice.Closed ↦ unit_variant_script (name "Notice") 3 (name "Closed")
-    ] };
-
-    ghost lawful = { elim [
-      | notice.Opened x1 ↦ λ readable. newtype_variant_lawful (leaf_lawful refl)
-      | notice.Line x1 ↦ λ readable. unsent_lawful _
-      | notice.Old x1 ↦ λ readable. unsent_lawful _
-      | notice.Closed ↦ λ readable. unit_variant_lawful
-    ] };
-
-    fn serialize<S: Serializer>(&self, alloc: Global, serializer: &mut S) -> Result<()> {
-        match self {
-            Notice::Opened(x1) => {
-                Call::NewtypeVariant(name_notice(), 0, name_opened()).around(x1, alloc, serializer)
-            }
-            Notice::Line(_) => {
-                Err(Error::custom(alloc, "the enum variant Notice::Line cannot be serialized"))
-            }
-            Notice::Old { id: _ } => {
-                Err(Error::custom(alloc, "the enum variant Notice::Old cannot be serialized"))
-            }
-            Notice::Closed => Call::UnitVariant(name_notice(), 3, name_closed()).send(serializer),
-        }
-    }
-}
-
-impl<'de> Variants<'de> for Notice {
-    ghost name = { name "Notice" };
-
-    ghost refusal = { variants (
-        (name "Opened", newtype_variant_refusal (⟦<u8 as Deserialize<'de>>⟧.refusal))
-        ∷ (
-          name "Old",
-          struct_variant_refusal (read_by_name
-              (row_then (name "id") (⟦<u8 as Deserialize<'de>>⟧.refusal)
-              (others_left (name "id" ∷ [])))),
-        )
-        ∷ []) };
-
-    ghost named = { elim [
-      | notice.Opened x1 ↦ name "Opened"
-      | notice.Line x1 ↦ name "Line"
-      | notice.Old x1 ↦ name "Old"
-      | notice.Closed ↦ name "Closed"
-    ] };
-
-    ghost held = { elim [
-      | notice.Opened x1 ↦ NewtypeVariantGives (⟦<u8 as Deserialize<'de>>⟧.gives) x1
-      | notice.Line x1 ↦ λ v. ⊥
-      | notice.Old x1 ↦ StructVariantGives (ReadByName
-          (RowThen (name "id") (⟦<u8 as Deserialize<'de>>⟧.gives) x1
-          NoOthers))
-      | notice.Closed ↦ λ v. ⊥
-    ] };
-
-    #[tactic(auto, unfolding(serde_content::specs::Literals::name))]
-    fn name() -> &'static str {
-        "Notice"
-    }
-
-    fn names() -> &'static [&'static str] {
-        NamesOfNotice::names()
-    }
-
-    fn read_variant<'n: 'de>(
-        alloc: Global,
-        tag: &str,
-        variant: VariantAccess<'de, 'n>,
-    ) -> Result<Notice> {
-        match variant_index(tag, &NamesOfNotice) {
-            Some(0) => Ok(Notice::Opened(variant.newtype_variant(alloc)?)),
-            Some(1) => {
-                let fields = variant
-                    .struct_variant(alloc, FieldsOfNoticeOld::names())?
-                    .by_name();
-                let id = read_notice_old(alloc, fields)?;
-                Ok(Notice::Old { id })
-            }
-            _ => Err(no_such_variant(alloc, tag, &NamesOfNotice)),
-        }
-    }
-}
-
-impl<'de> Deserialize<'de> for Notice {
-    ghost refusal = { enum_refusal (name "Notice") ⟦<Notice as Variants<'de>>⟧.refusal };
-
-    ghost gives = { λ s y. EnumGives (name "Notice")
-        (⟦<Notice as Variants<'de>>⟧.named y)
-        (⟦<Notice as Variants<'de>>⟧.held y) s };
-
-    fn deserialize<'n: 'de>(alloc: Global, from: Deserializer<'de, 'n>) -> Result<Notice> {
-        read_enum(alloc, from)
-    }
-}
-
 /// A task, of which some fields have further names.
 #[derive(Drop, PartialEq, Eq)]
 pub struct Task {
@@ -1701,38 +1385,6 @@ fn name_extent() -> &'static str
     ensures { result.now ≡ name "Extent" }
 {
     "Extent"
-}
-
-/// The name `Account`.
-#[tactic(auto, unfolding(serde_content::specs::Literals::name))]
-fn name_account() -> &'static str
-    ensures { result.now ≡ name "Account" }
-{
-    "Account"
-}
-
-/// The name `Notice`.
-#[tactic(auto, unfolding(serde_content::specs::Literals::name))]
-fn name_notice() -> &'static str
-    ensures { result.now ≡ name "Notice" }
-{
-    "Notice"
-}
-
-/// The name `Opened`.
-#[tactic(auto, unfolding(serde_content::specs::Literals::name))]
-fn name_opened() -> &'static str
-    ensures { result.now ≡ name "Opened" }
-{
-    "Opened"
-}
-
-/// The name `Closed`.
-#[tactic(auto, unfolding(serde_content::specs::Literals::name))]
-fn name_closed() -> &'static str
-    ensures { result.now ≡ name "Closed" }
-{
-    "Closed"
 }
 
 /// The name `Task`.
