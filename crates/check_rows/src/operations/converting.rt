@@ -10,7 +10,6 @@ use crate::show::write_whole;
 use crate::tree::read_tree;
 use serde_content::de::IntoDeserializer;
 use serde_content::{CowBytes, CowStr, Deserializer, Number, Result, Value};
-use std::result::Result as StdResult;
 
 /// The value from what a tree holds, by the type that is named.
 pub fn from(out: &mut Answer, pieces: &mut Pieces<'_>) {
@@ -63,34 +62,39 @@ fn from_bytes(out: &mut Answer, typ: &str, bytes: CowBytes<'_>) {
     }
 }
 
+/// Adds the value that is made of a value's part of this type, or the value itself, which has none.
+macro_rules! write_part {
+    ($out:expr, $typ:ty, $value:expr) => {
+        match <$typ>::try_from($value) {
+            Ok(part) => write_whole($out, Value::from(part)),
+            Err(value) => write_none($out, value),
+        }
+    };
+}
+
 /// What a value gives as this type, made a value again; or the value itself, which has no such
 /// part.
 pub fn part(out: &mut Answer, pieces: &mut Pieces<'_>) {
     let typ = take_word(pieces);
     match (typ, read_tree(pieces)) {
-        ("bool", value) => write_part(out, bool::try_from(value)),
-        ("Number", value) => write_part(out, Number::try_from(value)),
-        ("char", value) => write_part(out, char::try_from(value)),
-        ("CowStr", value) => write_part(out, CowStr::try_from(value)),
-        ("CowBytes", value) => write_part(out, CowBytes::try_from(value)),
-        ("seq", value) => write_part(out, Vec::<Value<'_>>::try_from(value)),
-        ("map", value) => write_part(out, Vec::<(Value<'_>, Value<'_>)>::try_from(value)),
-        ("option", value) => write_part(out, Option::<Box<Value<'_>>>::try_from(value)),
+        ("bool", value) => write_part!(out, bool, value),
+        ("Number", value) => write_part!(out, Number, value),
+        ("char", value) => write_part!(out, char, value),
+        ("CowStr", value) => write_part!(out, CowStr<'_>, value),
+        ("CowBytes", value) => write_part!(out, CowBytes<'_>, value),
+        ("seq", value) => write_part!(out, Vec<Value<'_>>, value),
+        ("map", value) => write_part!(out, Vec<(Value<'_>, Value<'_>)>, value),
+        ("option", value) => write_part!(out, Option<Box<Value<'_>>>, value),
         ("box", Value::Struct(node)) => write_whole(out, Value::from(node)),
         ("box", Value::Enum(node)) => write_whole(out, Value::from(node)),
         _ => out.fail(Failure::NoRow),
     }
 }
 
-/// Adds the value that is made of a part, or the value that has none.
-fn write_part<'a, T: Into<Value<'a>>>(out: &mut Answer, part: StdResult<T, Value<'a>>) {
-    match part {
-        Ok(part) => write_whole(out, part.into()),
-        Err(value) => {
-            out.push_str("none; ");
-            write_whole(out, value);
-        }
-    }
+/// Adds a value that has no such part.
+fn write_none(out: &mut Answer, value: Value<'_>) {
+    out.push_str("none; ");
+    write_whole(out, value);
 }
 
 /// The `Number` from a whole number by its type.
