@@ -173,17 +173,18 @@ def own_rules() -> Dict[str, str]:
                  " \"plain\".to_owned() }\n\nfn is_port(n: &u16) -> bool { *n == port() }\n\nfn is_on(on: &bool) -> bool { *on }")
     values = [('default = "yes"', "bool"), ('default = "port", skip_serializing_if = "is_port"', "u16"), ('default = "text"', "String"),
               ('default = "five"', "i32"), ('default = "yes", skip_serializing_if = "is_on"', "bool")]
-    fields = [f"#[serde({said})] pub f{i}: {one}" for i, (said, one) in enumerate(values)]
-    made["own_defaults_5"] = f"{ALL}\npub struct Tried {{ {', '.join(fields)} }}{functions}"
-    first = ", ".join(fields[:2]).replace("pub ", "")
-    made["own_defaults_in_variant_2"] = f"{ALL}\npub enum Tried {{ A {{ {first} }}, B }}{functions}"
-    sorts = islice(cycle([([], ""), (["u8"], "place"), (["i32", "u8"], "named")]), 4)
-    variants = [f'#[serde(alias = "a{i}", alias = "b{i}")] V{i}{held(types, style)}' for i, (types, style) in enumerate(sorts)]
-    made["aliases_4"] = f"{ALL}\npub enum Tried {{ {', '.join(variants)} }}"
-    made["other_2"] = f"{ALL}\npub enum Tried {{ {', '.join(variants[:2])}, #[serde(other)] Other }}"
-    sorts = [("", "u8"), (", default", "String"), (', default = "five"', "i32"), ("", "Option<u8>")]
-    fields = [f'#[serde(alias = "a{i}", alias = "b{i}"{said})] pub f{i}: {one}' for i, (said, one) in enumerate(sorts)]
-    made["aliased_4"] = f"{ALL}\npub struct Tried {{ {', '.join(fields)} }}{functions}"
+    for count in (1, 2, 5, 9, 12):
+        fields = ", ".join(f"#[serde({said})] pub f{i}: {one}" for i, (said, one) in enumerate(islice(cycle(values), count)))
+        made[f"own_defaults_{count}"] = f"{ALL}\npub struct Tried {{ {fields} }}{functions}"
+        made[f"own_defaults_in_variant_{count}"] = f"{ALL}\npub enum Tried {{ A {{ {fields.replace('pub ', '')} }}, B }}{functions}"
+    for count in (1, 2, 4, 8):
+        variants = ", ".join(f'#[serde(alias = "a{i}", alias = "b{i}")] V{i}{held(types, style)}' for i, (types, style) in enumerate(
+            islice(cycle([([], ""), (["u8"], "place"), (["i32", "u8"], "named")]), count)))
+        made[f"aliases_{count}"] = f"{ALL}\npub enum Tried {{ {variants} }}"
+        made[f"other_{count}"] = f"{ALL}\npub enum Tried {{ {variants}, #[serde(other)] Other }}"
+        fields = ", ".join(f'#[serde(alias = "a{i}", alias = "b{i}"{said})] pub f{i}: {one}' for i, (said, one) in enumerate(
+            islice(cycle([("", "u8"), (", default", "String"), (', default = "five"', "i32"), ("", "Option<u8>")]), count)))
+        made[f"aliased_{count}"] = f"{ALL}\npub struct Tried {{ {fields} }}{functions}"
     made["default_by_hand"] = (f"{ALL}\n#[serde(default)]\npub struct Tried {{ pub a: u8, pub b: String }}\n\nimpl Default for Tried {{"
                                " fn default() -> Self { Self { a: 5, b: String::new() } } }")
     made["two_ways"] = (f'{ALL}\n#[serde(rename_all(serialize = "camelCase", deserialize = "kebab-case"))]\npub struct Tried {{ pub first_name:'
