@@ -7,7 +7,7 @@
 set -eu
 top=$(cd "$(dirname "$0")/.." && pwd)
 cd "$top/crates/check_derive"
-for module in types choices sorts inlined attributes; do
+for module in types choices sorts inlined attributes places; do
     "$top/tools/derive" --crate check_derive --module $module --cbor $module.rs --check src/$module.rt
 done
 "$top/tools/derive" --crate check_derive --module sample sample.rs --check src/sample.rt

@@ -1,10 +1,10 @@
 #!/usr/bin/env bash
 # checks/refused_memory.sh [FOLDER]: runs the programs that `rt ci` leaves in crates/*/out, or those
-# of FOLDER, on small inputs whose answers are stored (checks/refused/lines and calls, crates/*/stdin
-# and stdout): with ample memory; once for each allocation, refused, and once for each from which on
-# all are; once for each read and each write, failed; and with all reads or writes short. A run
-# must end in the stored answer, one with a refusal in that or in `out of memory`, one with a
-# failure in the answer to that; and leave no block unfreed.
+# of FOLDER, on small inputs whose answers are stored (checks/refused/lines, calls and pretty,
+# crates/*/stdin and stdout): with ample memory; once for each allocation, refused, and once for each
+# from which on all are; once for each read and each write, failed; and with all reads or writes
+# short. A run must end in the stored answer, one with a refusal in that or in `out of memory`, one
+# with a failure in the answer to that; and leave no block unfreed.
 # Then it holds the bytes that each sort of operation asks for, on inputs that grow, against a bound
 # (checks/refused/bounds); SHOW=1 prints them.
 # It names each run that ends otherwise, and ends with status 1 where one does. It needs a C

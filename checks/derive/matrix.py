@@ -23,9 +23,9 @@ WORDS = ["name", "codes", "data", "record", "variants", "tree", "kind", "gives",
          "module", "elim", "tag", "fields", "alloc", "names", "refl", "script", "value", "parts", "serializer", "variant"]
 OWN = (f"{ALL}\npub struct Own {{ pub a: u8, pub b: String }}\n\n{ALL}\npub enum Deeper {{ A, B(Own) }}\n\n"
        f"{ALL}\npub struct Deep {{ pub own: Own, pub deeper: Vec<Deeper> }}\n\n")
-SAMPLE = """unit struct_mixed_12 struct_byte_9 skipped_closed_6 sent_20 read_12 place_mixed_9 external_mixed_4 external_units_4
-internal_fields_2 internal_mixed_2 adjacent_one_2 untagged_4 untagged_places skipped_4 skipped_in_variant_2 skipped_beside_tag_2
-default_whole_4 transparent_3 names_of_fields_20 names_of_variants_40 name_of_tag_20 word_data word_in_variant_record flat""".split()
+SAMPLE = """struct_mixed_12 struct_byte_9 skipped_closed_6 sent_20 read_12 place_mixed_9 external_mixed_4 internal_mixed_2
+untagged_4 untagged_places skipped_in_variant_2 skipped_beside_tag_2 default_whole_4 transparent_3
+names_of_fields_20 names_of_variants_40 name_of_tag_20 word_data word_in_variant_record flat""".split()
 CASES = ["lowercase", "UPPERCASE", "PascalCase", "camelCase", "snake_case", "SCREAMING_SNAKE_CASE", "kebab-case",
          "SCREAMING-KEBAB-CASE"]
 

@@ -18,7 +18,7 @@ READS = (b"access", b"ask", b"enum", b"into", b"order", b"read", b"round_trip")
 AGREES = (b"1 rows agree, 0 differ\n", 0)
 OUT_OF_MEMORY = (b"out of memory\n", 3)
 # the programs that read and write by content_lines
-BY_LINES = ("content_cli", "cbor_cli")
+BY_LINES = ("content_cli", "cbor_cli", "cbor_cli --pretty")
 READ_FAILED = (b"read failed\n", 4)
 # what the other programs answer to a read or a write that failed
 PORT_FAILED = (b"a read or a write failed\n", 4)
@@ -40,7 +40,7 @@ class Ran(NamedTuple):
 
 
 class Case(NamedTuple):
-    """A program, an input, and the answer that is wanted with ample memory."""
+    """A program with its arguments, an input, and the answer that is wanted with ample memory."""
 
     program: str
     text: bytes
@@ -64,7 +64,9 @@ def path_of(program):
 
 
 def run(program, text, **environment):
-    """A run of a program. Of one that was stopped the blocks left are -1: it left no report."""
+    """A run of a program, with its arguments behind its name. Of one that was stopped the blocks
+    left are -1: it left no report."""
+    program, *words = program.split()
     report = f"{room}/report{next(reports)}"
     where = {"LD_PRELOAD": f"{room}/shim.so", "REPORT": report}
     where |= {name: str(value) for name, value in environment.items()}
@@ -74,7 +76,7 @@ def run(program, text, **environment):
         file.seek(0)
         how = {"stdin": file, "capture_output": True, "env": where, "timeout": 60}
         try:
-            ran = subprocess.run([path_of(program)], **how)
+            ran = subprocess.run([path_of(program), *words], **how)
             answer = ran.stdout, ran.returncode
         except subprocess.TimeoutExpired:
             answer = b"", "none in 60 seconds"
@@ -162,9 +164,10 @@ def short_lines():
 
 
 def stored(program, name):
-    """A program with each input of a file, behind which stand `-> STATUS ANSWER` and an empty line
-    where another input follows; behind `-|` the input has no newline at its end."""
-    parts = re.split(rb"(?m)^-([>|]) (\d) (.*\n)\n?", contents(f"{here}/{name}"))
+    """A program with each input of a file, behind which stand `-> STATUS ANSWER`, of one line or
+    more, and an empty line where another input follows; behind `-|` the input has no newline at its
+    end."""
+    parts = re.split(rb"(?m)^-([>|]) (\d) (.*\n(?:.+\n)*)\n?", contents(f"{here}/{name}"))
     for text, end, status, answer in zip(*(parts[at::4] for at in range(4))):
         text = text[:-1] if end == b"|" else text
         yield Case(program, text, (answer, int(status)))
@@ -186,6 +189,24 @@ def cases():
     for line, answer in short_lines():
         yield Case("cbor_cli", line + b"\n", (answer + b"\n", 0))
     yield from stored("cbor_cli", "calls")
+    yield from stored("cbor_cli --pretty", "pretty")
+
+
+def usages():
+    """What is wrong with runs that read nothing and take no memory, and how many they are: with an
+    argument that isn't known nothing goes to the standard output; the text of the help stands in
+    the program's README.md, where checks/pages.sh compares it."""
+    tries = [(words, 2) for words in ("--prety", "--pretty 00", "-h", "--" + 99 * "p")]
+    tries += [(words, 0) for words in ("--help", "--pretty --help")]
+    wrong = []
+    for words, status in tries:
+        ran = run(f"cbor_cli {words}", b"00\n")
+        counts = ran.allocations, ran.reads, ran.left
+        if (ran.answer[1], ran.answer[0] == b"") != (status, status == 2) or any(counts):
+            wrong.append(f"{words}: got {told(ran.answer, 0)} and counts {counts}")
+        failed = run(f"cbor_cli {words}", b"00\n", FAIL_WRITE=1)
+        wrong += faults(f"{words}, FAIL_WRITE=1", failed, (b"", 5))
+    return 2 * len(tries), wrong
 
 
 def table(name):
@@ -214,10 +235,10 @@ def head_of(major, count):
 
 
 def written_out(pattern, count):
-    """The text that a pattern of the table of bounds stands for: `\\t` is a tab, `*(item|between)*`
-    so many items, `#` in one its number from 1000; `$count` is how many they are, `$trees` and the
-    like all kinds of node in that form, and `$length` how many kinds so many items have; `$array`,
-    `$map` and `$text` are the heads in CBOR of so many items."""
+    """The text that a pattern of the table of bounds stands for: `\\t` is a tab, `\\n` a new line,
+    `*(item|between)*` so many items, `#` in one its number from 1000; `$count` is how many they are,
+    `$trees` and the like all kinds of node in that form, and `$length` how many kinds so many items
+    have; `$array`, `$map` and `$text` are the heads in CBOR of so many items."""
 
     def items(found):
         item, between = found.groups()
@@ -225,8 +246,9 @@ def written_out(pattern, count):
 
     names = FORMS | {"count": str(count), "length": str(count * KINDS)}
     names |= {"array": head_of(4, count), "map": head_of(5, count), "text": head_of(3, count)}
-    text = re.sub(r"\$(\w+)", lambda found: names[found[1]], pattern.replace(r"\t", "\t"))
-    return re.sub(r"\*\((.*?)\|(.*?)\)\*", items, text)
+    spaced = pattern.replace(r"\t", "\t").replace(r"\n", "\n")
+    text = re.sub(r"\$(\w+)", lambda found: names[found[1]], spaced)
+    return re.sub(r"\*\((.*?)\|(.*?)\)\*", items, text, flags=re.S)
 
 
 def sort_case(sort, count):
@@ -275,5 +297,8 @@ with ThreadPoolExecutor(os.cpu_count()) as pool:
         failed += tell(what, wrong)
         if "SHOW" in os.environ:
             print(f"{what}: asks for {ran.asked} bytes, {ran.most} in use at the most")
+runs, wrong = usages()
+total += runs
+failed += tell("cbor_cli", wrong)
 print(f"{total} runs, {failed} wrong")
 sys.exit(1 if failed else 0)

@@ -13,9 +13,6 @@ pub enum Deeper { A, B(Own) }
 pub struct Deep { pub own: Own, pub deeper: Vec<Deeper> }
 
 #[derive(PartialEq, Eq, Serialize, Deserialize)]
-pub struct Unit;
-
-#[derive(PartialEq, Eq, Serialize, Deserialize)]
 pub struct StructMixed12 { pub f0: String, pub f1: u8, pub f2: Option<u8>, pub f3: bool, pub f4: i32, pub f5: Vec<u8>, pub f6: char, pub f7: u64, pub f8: String, pub f9: u8, pub f10: Option<u8>, pub f11: bool }
 
 #[derive(PartialEq, Eq, Serialize, Deserialize)]
@@ -38,19 +35,8 @@ pub struct PlaceMixed9(pub String, pub u8, pub Option<u8>, pub bool, pub i32, pu
 pub enum ExternalMixed4 { V0, V1(String), V2(u8, bool), V3 { f0: i32, f1: u8, f2: String } }
 
 #[derive(PartialEq, Eq, Serialize, Deserialize)]
-pub enum ExternalUnits4 { V0, V1, V2, V3 }
-
-#[derive(PartialEq, Eq, Serialize, Deserialize)]
-#[serde(tag = "kind")]
-pub enum InternalFields2 { V0 { f0: i32, f1: u8, f2: String }, V1 { f0: i32, f1: u8, f2: String } }
-
-#[derive(PartialEq, Eq, Serialize, Deserialize)]
 #[serde(tag = "kind")]
 pub enum InternalMixed2 { V0, V1 }
-
-#[derive(PartialEq, Eq, Serialize, Deserialize)]
-#[serde(tag = "kind", content = "of")]
-pub enum AdjacentOne2 { V0(u8), V1(u8) }
 
 #[derive(PartialEq, Eq, Serialize, Deserialize)]
 #[serde(untagged)]
@@ -59,9 +45,6 @@ pub enum Untagged4 { V0(bool), V1(i64), V2(String), V3(Vec<u8>) }
 #[derive(Serialize, Deserialize)]
 #[serde(untagged)]
 pub enum UntaggedPlaces { A(u8, String), B(bool, i32, u8), C(String) }
-
-#[derive(PartialEq, Eq, Serialize, Deserialize)]
-pub struct Skipped4 { #[serde(skip_serializing_if = "Option::is_none")] pub f0: Option<String>, #[serde(default, skip_serializing_if = "Vec::is_empty")] pub f1: Vec<u8>, #[serde(default, skip_serializing_if = "String::is_empty")] pub f2: String, #[serde(default, skip_serializing_if = "BTreeMap::is_empty")] pub f3: BTreeMap<String, u8> }
 
 #[derive(PartialEq, Eq, Serialize, Deserialize)]
 pub enum SkippedInVariant2 { A { #[serde(skip_serializing_if = "Option::is_none")] f0: Option<String>, #[serde(default, skip_serializing_if = "Vec::is_empty")] f1: Vec<u8> }, B(u8) }

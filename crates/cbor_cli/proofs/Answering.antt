@@ -8,21 +8,22 @@ use Rattle.content_lines.specs.Lines.{each_line}
 use Rattle.content_lines.specs.Words.{event_in}
 use Rattle.cbor_cli.specs.Answers.{Adds, AddsAll, Answers, calls_last, line_next, AnswersCalls}
 use Rattle.cbor_cli.specs.Answers.{AnswersOther, Earns, SayCalls, ended, all_ended}
+use Rattle.cbor_cli.specs.declared.form.Form.{Form}
 
 -- what is answered of lines of which these are left, after these calls
-abbrev pub HasAnswered : (lines left : List (List ℕ)) (calls : List Event) (out : List ℕ) → Type 0
-HasAnswered lines left calls out =
+abbrev pub HasAnswered : (form : Form) (lines left : List (List ℕ)) (calls : List Event) (out : List ℕ) → Type 0
+HasAnswered form lines left calls out =
     (waiting : List (List ℕ)) × (told : List (List ℕ)) × SayCalls waiting calls × (out ≡ all_ended told)
-    × ((more : List (List ℕ)) → Answers (waiting ++ left) more → Answers lines (told ++ more))
+    × ((more : List (List ℕ)) → Answers form (waiting ++ left) more → Answers form lines (told ++ more))
 
 -- nothing is answered
-pub none_answered : (lines : List (List ℕ)) (calls : List Call) (out : List ℕ) → calls ≡ [] → out ≡ [] → HasAnswered lines lines (events_of calls) out
-none_answered lines calls out none empty = ([], [], sym (ap (λ l. map Some (events_of l)) none), empty, λ more h. h)
+pub none_answered : (form : Form) (lines : List (List ℕ)) (calls : List Call) (out : List ℕ) → calls ≡ [] → out ≡ [] → HasAnswered form lines lines (events_of calls) out
+none_answered form lines calls out none empty = ([], [], sym (ap (λ l. map Some (events_of l)) none), empty, λ more h. h)
 
 -- a call waits
-pub call_waits : (lines all left : List (List ℕ)) (line : List ℕ) (calls new_calls : List Call) (c : Call) (out : List ℕ) → HasAnswered lines all (events_of calls) out → all ≡ line ∷ left
-    → event_in line ≡ Some (event_of c) → new_calls ≡ calls ++ c ∷ [] → HasAnswered lines left (events_of new_calls) out
-call_waits lines all left line calls new_calls c out has cut said pushed =
+pub call_waits : (form : Form) (lines all left : List (List ℕ)) (line : List ℕ) (calls new_calls : List Call) (c : Call) (out : List ℕ) → HasAnswered form lines all (events_of calls) out → all ≡ line ∷ left
+    → event_in line ≡ Some (event_of c) → new_calls ≡ calls ++ c ∷ [] → HasAnswered form lines left (events_of new_calls) out
+call_waits form lines all left line calls new_calls c out has cut said pushed =
     let (waiting, told, say, says, onward) = has in
     let events : events_of new_calls ≡ events_of calls ++ event_of c ∷ [] = ap events_of pushed ∙ map-append event_of calls (c ∷ []) in (
       waiting ++ line ∷ [],
@@ -30,13 +31,13 @@ call_waits lines all left line calls new_calls c out has cut said pushed =
       map-append event_in waiting (line ∷ []) ∙ ap (λ l. l ++ event_in line ∷ []) say ∙ ap (λ o. map Some (events_of calls) ++ o ∷ []) said
           ∙ sym (ap (λ l. map Some l) events ∙ map-append Some (events_of calls) (event_of c ∷ [])),
       says,
-      λ more h. onward more (subst (λ l. Answers l more) (append_assoc waiting (line ∷ []) left ∙ ap (λ l. waiting ++ l) (sym cut)) h),
+      λ more h. onward more (subst (λ l. Answers form l more) (append_assoc waiting (line ∷ []) left ∙ ap (λ l. waiting ++ l) (sym cut)) h),
     )
 
 -- the calls that wait are answered, and a line that is no call
-pub line_answered : (lines all left : List (List ℕ)) (line : List ℕ) (calls new_calls : List Call) (out mid new : List ℕ) → HasAnswered lines all (events_of calls) out → all ≡ line ∷ left
-    → event_in line ≡ None → AddsAll (AnswersCalls (events_of calls)) out mid → Adds (AnswersOther line) mid new → new_calls ≡ [] → HasAnswered lines left (events_of new_calls) new
-line_answered lines all left line calls new_calls out mid new has cut none of_calls of_line cleared =
+pub line_answered : (form : Form) (lines all left : List (List ℕ)) (line : List ℕ) (calls new_calls : List Call) (out mid new : List ℕ) → HasAnswered form lines all (events_of calls) out → all ≡ line ∷ left
+    → event_in line ≡ None → AddsAll (AnswersCalls form (events_of calls)) out mid → Adds (AnswersOther form line) mid new → new_calls ≡ [] → HasAnswered form lines left (events_of new_calls) new
+line_answered form lines all left line calls new_calls out mid new has cut none of_calls of_line cleared =
     let (waiting, told, say, says, onward) = has in
     let (answers, answered, added) = of_calls in
     let (answer, other, one_added) = of_line in
@@ -45,9 +46,9 @@ line_answered lines all left line calls new_calls out mid new has cut none of_ca
       told ++ both,
       sym (ap (λ l. map Some (events_of l)) cleared),
       one_added ∙ ap (λ l. l ++ ended answer) (added ∙ ap (λ l. l ++ all_ended answers) says) ∙ flat_map_more ended (all_ended told) answers answer ∙ sym (flat_map-append ended told both),
-      λ more h. subst (Answers lines) (sym (append_assoc told both more ∙ ap (λ l. told ++ l) (append_assoc answers (answer ∷ []) more)))
+      λ more h. subst (Answers form lines) (sym (append_assoc told both more ∙ ap (λ l. told ++ l) (append_assoc answers (answer ∷ []) more)))
           (onward (answers ++ answer ∷ more)
-          (subst (λ l. Answers (waiting ++ l) (answers ++ answer ∷ more)) (sym cut) (line_next waiting left answers more line answer (events_of calls) say none answered other h))),
+          (subst (λ l. Answers form (waiting ++ l) (answers ++ answer ∷ more)) (sym cut) (line_next waiting left answers more line answer (events_of calls) say none answered other h))),
     )
 
 -- an empty text has no line
@@ -56,8 +57,8 @@ no_lines [] none = refl
 no_lines (b ∷ text) none = absurd (omega (arith, none))
 
 -- no line is left, and the calls that wait are answered
-pub all_answered : (input text : List ℕ) (calls : List Event) (out new : List ℕ) → HasAnswered (each_line input) (each_line text) calls out → length text ≡ 0 → AddsAll (AnswersCalls calls) out new → Earns input new
-all_answered input text calls out new has end of_calls =
+pub all_answered : (form : Form) (input text : List ℕ) (calls : List Event) (out new : List ℕ) → HasAnswered form (each_line input) (each_line text) calls out → length text ≡ 0 → AddsAll (AnswersCalls form calls) out new → Earns form input new
+all_answered form input text calls out new has end of_calls =
     let (waiting, told, say, says, onward) = has in
     let (answers, answered, added) = of_calls in
     let left : waiting ++ each_line text ≡ waiting = ap (λ l. waiting ++ l) (no_lines text end) ∙ append-nil waiting in (

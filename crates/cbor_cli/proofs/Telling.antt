@@ -6,25 +6,26 @@ use Rattle.serde_content.specs.Names.Words.{ErrorKind, Event, Call, event_of, ev
 use Rattle.serde_content.specs.Names.ErrorKind.{Unexpected, Custom, OutOfMemory, Misplaced, Failed}
 use Rattle.serde_content.specs.Names.ErrorKind.{Unfinished}
 use Rattle.content_build.specs.Cuts.{IsCutRefusal}
-use Rattle.cbor_cli.specs.Answers.{AddsAll, AddsFirst, AnswersCalls, no_call, tree, refusal, written}
+use Rattle.cbor_cli.specs.Answers.{AddsAll, AddsFirst, AnswersCalls, no_call, tree, refusal, shown}
 use Rattle.cbor_cli.specs.Answers.{IsRefusedFirst, ended, all_ended, refused_line}
+use Rattle.cbor_cli.specs.declared.form.Form.{Form}
 
 -- what is told of calls of which these are left
-abbrev pub HasTold : (calls left : List Event) (old out : List ℕ) → Type 0
-HasTold calls left old out = (told : List (List ℕ)) × (out ≡ old ++ all_ended told) × ((more : List (List ℕ)) → AnswersCalls left more → AnswersCalls calls (told ++ more))
+abbrev pub HasTold : (form : Form) (calls left : List Event) (old out : List ℕ) → Type 0
+HasTold form calls left old out = (told : List (List ℕ)) × (out ≡ old ++ all_ended told) × ((more : List (List ℕ)) → AnswersCalls form left more → AnswersCalls form calls (told ++ more))
 
 -- nothing is told
-pub none_told : (calls : List Event) (old : List ℕ) → HasTold calls calls old old
-none_told calls old = ([], sym (append-nil old), λ more h. h)
+pub none_told : (form : Form) (calls : List Event) (old : List ℕ) → HasTold form calls calls old old
+none_told form calls old = ([], sym (append-nil old), λ more h. h)
 
 -- a tree is told
-pub tree_told : (calls left : List Event) (old out new : List ℕ) (n : ℕ) → HasTold calls left old out → AddsFirst left (Some n) out new → HasTold calls (drop n left) old new
-tree_told calls left old out new n has adds =
+pub tree_told : (form : Form) (calls left : List Event) (old out new : List ℕ) (n : ℕ) → HasTold form calls left old out → AddsFirst form left (Some n) out new → HasTold form calls (drop n left) old new
+tree_told form calls left old out new n has adds =
     let (told, says, onward) = has in
     let (t, spelled, added) = adds in (
-      told ++ written t ∷ [],
-      added ∙ ap (λ l. l ++ ended (written t)) says ∙ flat_map_more ended old told (written t),
-      λ more h. subst (AnswersCalls calls) (sym (append_assoc told (written t ∷ []) more)) (onward (written t ∷ more) (tree n t spelled h)),
+      told ++ shown form t ∷ [],
+      added ∙ ap (λ l. l ++ ended (shown form t)) says ∙ flat_map_more ended old told (shown form t),
+      λ more h. subst (AnswersCalls form calls) (sym (append_assoc told (shown form t ∷ []) more)) (onward (shown form t ∷ more) (tree n t spelled h)),
     )
 
 -- calls are as many events
@@ -49,8 +50,8 @@ refused_first calls at (Unexpected found expected) h other = absurd h
 refused_first calls at (Custom message) h other = absurd h
 
 -- it is the last that is told
-pub refusal_told : (calls left : List Event) (old out new : List ℕ) → HasTold calls left old out → 0 < length left → AddsFirst left None out new → AddsAll (AnswersCalls calls) old new
-refusal_told calls left old out new has some adds =
+pub refusal_told : (form : Form) (calls left : List Event) (old out new : List ℕ) → HasTold form calls left old out → 0 < length left → AddsFirst form left None out new → AddsAll (AnswersCalls form calls) old new
+refusal_told form calls left old out new has some adds =
     let (told, says, onward) = has in
     let (at, cause, refused, added) = adds in
     let line = refused_line at cause in (
@@ -60,6 +61,6 @@ refusal_told calls left old out new has some adds =
     )
 
 -- no calls are left
-pub all_told : (calls left : List Event) (old out : List ℕ) → length left ≡ 0 → HasTold calls left old out → AddsAll (AnswersCalls calls) old out
-all_told calls [] old out none has = let (told, says, onward) = has in (told, subst (AnswersCalls calls) (append-nil told) (onward [] no_call), says)
-all_told calls (c ∷ left) old out none has = absurd (omega (arith, none))
+pub all_told : (form : Form) (calls left : List Event) (old out : List ℕ) → length left ≡ 0 → HasTold form calls left old out → AddsAll (AnswersCalls form calls) old out
+all_told form calls [] old out none has = let (told, says, onward) = has in (told, subst (AnswersCalls form calls) (append-nil told) (onward [] no_call), says)
+all_told form calls (c ∷ left) old out none has = absurd (omega (arith, none))

@@ -5,9 +5,10 @@ ghost use Rattle.std.specs.String.{string_bytes};
 ghost use Rattle.serde_content.specs.Names.Words.{events_of, kind_of, tree_of};
 ghost use Rattle.serde_content.specs.Names.ErrorKind.{OutOfMemory};
 ghost use Rattle.cbor_cli.specs.Answers.{AddsAll, AddsFirst, AnswersCalls, ended, refused_line};
-ghost use Rattle.cbor_cli.specs.Answers.{written};
+ghost use Rattle.cbor_cli.specs.Answers.{shown};
 
 use crate::answer::write_value;
+use crate::form::Form;
 use content_tree::Value;
 use serde_content::ErrorKind;
 use serde_content::ser::{Call, CallsError, from_calls_prefix};
@@ -27,28 +28,34 @@ fn write_refusal(out: &mut String, refusal: &CallsError) -> Result<(), AllocErro
 }
 
 /// Adds a value, which it drops.
-fn write_tree(alloc: Global, out: &mut String, value: Value<'_>) -> Result<(), AllocError>
+fn write_tree(
+    alloc: Global,
+    form: Form,
+    out: &mut String,
+    value: Value<'_>,
+) -> Result<(), AllocError>
     ensures { OnOk result (string_bytes out.new ≡ string_bytes out.old
-        ++ ended (written (tree_of value.entry))) }
+        ++ ended (shown form (tree_of value.entry))) }
 {
-    write_value(alloc, out, &value)
+    write_value(alloc, form, out, &value)
 }
 
 /// Adds the first tree that the calls spell, and answers how many calls spell it; or why they are
 /// refused.
 fn write_first(
     alloc: Global,
+    form: Form,
     out: &mut String,
     calls: &[Call<'_>],
 ) -> Result<Option<usize>, AllocError>
-    ensures told { IfOk result (λ told. AddsFirst (events_of calls.now) told
+    ensures told { IfOk result (λ told. AddsFirst form (events_of calls.now) told
         (string_bytes out.old) (string_bytes out.new)) }
     ensures some { IfOk result (λ told. IfSome told (λ count. 0 < count)) }
     ensures within { IfOk result (λ told. IfSome told (λ count. count ≤ length calls.now)) }
 {
     match from_calls_prefix(alloc, calls) {
         Ok((value, count)) => {
-            write_tree(alloc, out, value)?;
+            write_tree(alloc, form, out, value)?;
             Ok(Some(count))
         }
         Err(refusal) => {
@@ -59,14 +66,19 @@ fn write_first(
 }
 
 /// Adds each tree that the calls spell, one after another, up to one that is refused.
-pub fn write_trees(alloc: Global, out: &mut String, calls: &[Call<'_>]) -> Result<(), AllocError>
-    ensures { OnOk result (AddsAll (AnswersCalls (events_of calls.now)) (string_bytes out.old)
+pub fn write_trees(
+    alloc: Global,
+    form: Form,
+    out: &mut String,
+    calls: &[Call<'_>],
+) -> Result<(), AllocError>
+    ensures { OnOk result (AddsAll (AnswersCalls form (events_of calls.now)) (string_bytes out.old)
         (string_bytes out.new)) }
 {
     let mut start = 0usize;
     'trees: while start < calls.len() {
         let (_, rest) = calls.split_at(start);
-        match write_first(alloc, out, rest)? {
+        match write_first(alloc, form, out, rest)? {
             Some(count) => start += count,
             None => return Ok(()),
         }

@@ -6,12 +6,13 @@ ghost use Rattle.cbor_cli.specs.Answers.{Earns};
 
 use crate::answer::write_answer;
 use crate::calls::write_trees;
+use crate::form::Form;
 use content_lines::{cut_line, read_line};
 use std::alloc::{AllocError, Global};
 
-/// The answers to calls that come together, and that to each other line, each a line.
-pub fn answer_lines(alloc: Global, input: &[u8]) -> Result<String, AllocError>
-    ensures { IfOk result (λ text. Earns input.now (string_bytes text)) }
+/// The answers to calls that come together, and that to each other line, with values in this form.
+pub fn answer_lines(alloc: Global, form: Form, input: &[u8]) -> Result<String, AllocError>
+    ensures { IfOk result (λ text. Earns form input.now (string_bytes text)) }
 {
     let mut out = String::new(alloc);
     let mut calls = Vec::new(alloc);
@@ -21,13 +22,13 @@ pub fn answer_lines(alloc: Global, input: &[u8]) -> Result<String, AllocError>
         match read_line(line) {
             Some(said) => calls.push(said.into_call(alloc)?)?,
             None => {
-                write_trees(alloc, &mut out, calls.as_slice())?;
+                write_trees(alloc, form, &mut out, calls.as_slice())?;
                 calls.clear();
-                write_answer(alloc, &mut out, line)?;
+                write_answer(alloc, form, &mut out, line)?;
             }
         }
         text = after;
     }
-    write_trees(alloc, &mut out, calls.as_slice())?;
+    write_trees(alloc, form, &mut out, calls.as_slice())?;
     Ok(out)
 }

@@ -4,6 +4,7 @@
 pub mod attributes;
 pub mod choices;
 pub mod inlined;
+pub mod places;
 pub mod sample;
 pub mod sorts;
 pub mod types;

@@ -6,6 +6,7 @@
 mod edits;
 mod lists;
 mod nodes;
+mod paths;
 mod reading;
 mod tally;
 mod uses;
@@ -23,6 +24,7 @@ fn make_calls(tally: &mut Tally, alloc: Global) -> Made<()> {
     edits::run(tally, alloc)?;
     reading::run(tally, alloc)?;
     variants::run(tally, alloc)?;
+    paths::run(tally, alloc)?;
     writing::run(tally, alloc)?;
     lists::run(tally, alloc)?;
     uses::run(tally, alloc)

@@ -15,6 +15,7 @@
 //! | read fields by name | [`FieldsByName`], [`named_field`], [`field_or`], [`deny_unknown_fields`] |
 //! | read enums with a tag field, or untagged | [`tag_field`], [`internal_tag`], [`attempt`] |
 //! | read a value in plain form | [`ValueVisitor`] |
+//! | add a part to the path of a refusal | [`Deserializer::deserialize_item`], [`Deserializer::deserialize_field`] |
 //! | prove something of these | [`laws`] |
 
 #![tactic(auto)]
@@ -44,6 +45,7 @@ mod seq;
 mod source;
 mod unknown_names;
 mod variant_access;
+mod within;
 
 pub use attempts::{attempt, attempt_fitting};
 pub use by_name::FieldsByName;

@@ -19,7 +19,7 @@ use content_tree::{CowStr, Error, ErrorKind, Result};
 use std::alloc::Global;
 
 /// Reads the field of this name, wherever it is, for a type of your own. The entry is taken away
-/// also where its reading is refused. Only the type and the text of an error take memory.
+/// also where its reading is refused. Only the type and a refusal take memory.
 ///
 /// # Errors
 ///
@@ -40,13 +40,13 @@ pub fn named_field<'de, 'n: 'de, T: Deserialize<'de>>(
     ensures pairs { ArePairsLeft from.old → ArePairsLeft from.new }
 {
     match from.take_named(name) {
-        Some(field) => T::deserialize(alloc, field),
+        Some(field) => field.deserialize_field(alloc, name),
         None => Err(missing_field(alloc, name)),
     }
 }
 
-/// Reads the field of this name, or gives this value where there is none. Only the type takes
-/// memory.
+/// Reads the field of this name, or gives this value where there is none. Only the type and a
+/// refusal take memory.
 ///
 /// # Errors
 ///
@@ -67,13 +67,13 @@ pub fn field_or<'de, 'n: 'de, T: Deserialize<'de>>(
     ensures pairs { ArePairsLeft from.old → ArePairsLeft from.new }
 {
     match from.take_named(name) {
-        Some(value) => T::deserialize(alloc, value),
+        Some(value) => value.deserialize_field(alloc, name),
         None => Ok(missing),
     }
 }
 
-/// Reads the text of the field of this name, for an enum of your own that it tags. It takes no
-/// memory.
+/// Reads the text of the field of this name, for an enum of your own that it tags. Only a refusal
+/// takes memory.
 ///
 /// # Errors
 ///
@@ -89,7 +89,10 @@ pub fn tag_field<'de, 'n: 'de>(
     ensures pairs { ArePairsLeft from.old → ArePairsLeft from.new }
 {
     match from.take_named(name) {
-        Some(value) => value.deserialize_str(alloc),
+        Some(value) => match value.deserialize_str(alloc) {
+            Ok(tag) => Ok(tag),
+            Err(error) => Err(error.at_name(alloc, name)),
+        },
         None => Err(missing_field(alloc, name)),
     }
 }

@@ -40,7 +40,7 @@ pub fn next_part<'de, 'n: 'de, T: Deserialize<'de>>(
 {
     match from.next_deserializer() {
         None => Err(too_few(alloc, expected, found)),
-        Some(item) => T::deserialize(alloc, item),
+        Some(item) => item.deserialize_item(alloc, found),
     }
 }
 
@@ -119,7 +119,7 @@ pub fn next_field<'de, 'n: 'de, T: Deserialize<'de>>(
 {
     if from.next_is_named(name) {
         if let Some(value) = from.take_value() {
-            return T::deserialize(alloc, value);
+            return value.deserialize_field(alloc, name);
         }
     }
     read_field(alloc, from, name)

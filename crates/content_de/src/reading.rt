@@ -18,6 +18,7 @@ use crate::enum_access::EnumAccess;
 use crate::map::Map;
 use crate::seq::Seq;
 use crate::variant_access::VariantAccess;
+use crate::within::read_entry;
 use content_tree::Result;
 use std::alloc::Global;
 
@@ -40,7 +41,7 @@ impl<'de, 'n> Deserializer<'de, 'n> {
 
 impl<'de, 'n> Seq<'de, 'n> {
     /// Reads the next item as this type, or answers none at the end. The item is taken away also
-    /// where its reading is refused. Only the type takes memory.
+    /// where its reading is refused. Only the type and a refusal take memory.
     ///
     /// # Errors
     ///
@@ -53,9 +54,10 @@ impl<'de, 'n> Seq<'de, 'n> {
             → IsOk result }
         ensures rest { seq_view self.new ≡ after_item (seq_view self.old) }
     {
+        let index = self.taken();
         match self.next_deserializer() {
             None => Ok(None),
-            Some(item) => Ok(Some(T::deserialize(alloc, item)?)),
+            Some(item) => Ok(Some(item.deserialize_item(alloc, index)?)),
         }
     }
 }
@@ -77,13 +79,13 @@ impl<'de, 'n> Map<'de, 'n> {
     {
         match self.take_key() {
             None => Ok(None),
-            Some(key) => Ok(Some(K::deserialize(alloc, key)?)),
+            Some(key) => Ok(Some(key.deserialize_unplaced(alloc)?)),
         }
     }
 
     /// Reads the value of the next entry as this type. The entry is taken away also where the
-    /// reading is refused, and whether or not its key was read. Only the type and the text of an
-    /// error take memory.
+    /// reading is refused, and whether or not its key was read; the path of a refusal is that of
+    /// the map. Only the type and the text of an error take memory.
     ///
     /// # Errors
     ///
@@ -97,16 +99,18 @@ impl<'de, 'n> Map<'de, 'n> {
         ensures rest { map_view self.new ≡ after_entry (map_view self.old) }
     {
         let value = self.next_value_deserializer(alloc)?;
-        V::deserialize(alloc, value)
+        value.deserialize_unplaced(alloc)
     }
 
-    /// Reads the key and then the value of the next entry as these types, or answers none at the
-    /// end. The entry is taken away also where the reading is refused; where that of the key is,
-    /// the value isn't read. Only the types take memory.
+    /// Reads the key and the value of the next entry as these types, or answers none at the end.
+    /// The entry is taken away also where the reading is refused. The value is read first, but the
+    /// refusal of the key goes before that of the value. Only the types and a refusal take memory.
     ///
     /// # Errors
     ///
-    /// That of the first refusal; out of memory in its place.
+    /// That of the first refusal; out of memory in its place. The [path](content_tree::Error::path)
+    /// of a refused value begins with its key, where that is a text, a character, a number or a
+    /// name.
     pub fn next_entry<K: Deserialize<'de>, V: Deserialize<'de>>(
         &mut self,
         alloc: Global,
@@ -122,9 +126,7 @@ impl<'de, 'n> Map<'de, 'n> {
         let Some((key, value)) = self.take_entry() else {
             return Ok(None);
         };
-        let key = K::deserialize(alloc, key)?;
-        let value = V::deserialize(alloc, value)?;
-        Ok(Some((key, value)))
+        Ok(Some(read_entry(alloc, key, value)?))
     }
 }
 
@@ -144,14 +146,15 @@ impl<'de, 'n> EnumAccess<'de, 'n> {
         ensures succeeds { TagMemoryless T.memoryless (enum_view self.entry) → IsOk result }
     {
         let (tag, variant) = self.variant_deserializer(alloc)?;
-        let tag = T::deserialize(alloc, tag)?;
+        let tag = tag.deserialize_unplaced(alloc)?;
         Ok((tag, variant))
     }
 }
 
 impl<'de, 'n> VariantAccess<'de, 'n> {
-    /// Reads the one value of a newtype variant, or whatever a map's entry holds, as this type.
-    /// Only the type and the making of an error take memory.
+    /// Reads the one value of a newtype variant, or whatever a map's entry holds, as this type. The
+    /// path of a refusal doesn't begin with the variant: [`Error::at_name`](content_tree::Error::at_name)
+    /// adds it. Only the type and the making of an error take memory.
     ///
     /// # Errors
     ///

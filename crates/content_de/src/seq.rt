@@ -17,6 +17,8 @@ use std::collections::VecDeque;
 pub struct Seq<'de, 'n> {
     items: VecDeque<NamedValue<'de, 'n>>,
     flags: Flags,
+    /// How many items there were at first.
+    count: usize,
 }
 
 impl<'de, 'n> Seq<'de, 'n> {
@@ -24,9 +26,11 @@ impl<'de, 'n> Seq<'de, 'n> {
     pub(crate) fn new(items: Vec<NamedValue<'de, 'n>>, flags: Flags) -> Seq<'de, 'n>
         ensures { seq_view result ≡ items_under (flags_of flags) (trees_view items.entry.items) }
     {
+        let count = items.len();
         Seq {
             items: VecDeque::from_vec(items),
             flags,
+            count,
         }
     }
 
@@ -37,6 +41,11 @@ impl<'de, 'n> Seq<'de, 'n> {
         self.flags.buffered
     }
 
+    /// How many items were given out.
+    pub(crate) fn taken(&self) -> usize {
+        self.count.saturating_sub(self.items.len())
+    }
+
     /// How many items are left, exactly. It takes no memory.
     #[tactic(auto, using(crate::proofs::Counts::count_values))]
     pub fn size_hint(&self) -> Option<usize>
@@ -45,8 +54,9 @@ impl<'de, 'n> Seq<'de, 'n> {
         Some(self.items.len())
     }
 
-    /// Gives the next item, to be read under the flags of the sequence, or none at the end. It
-    /// takes no memory.
+    /// Gives the next item, to be read under the flags of the sequence, or none at the end. A
+    /// refusal of it is told with its index by [`Deserializer::deserialize_item`]. It takes no
+    /// memory.
     pub fn next_deserializer(&mut self) -> Option<Deserializer<'de, 'n>>
         ensures value { option_map subject result ≡ first_item (seq_view self.old) }
         ensures rest { seq_view self.new ≡ after_item (seq_view self.old) }

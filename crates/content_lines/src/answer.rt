@@ -30,8 +30,13 @@ fn write_out<W: Output>(writer: &mut W, bytes: &[u8]) -> Result<(), Fault>
     Ok(())
 }
 
-/// Writes the text, and answers the status, or 5 where the writer failed.
-fn finish<W: Output>(writer: &mut W, text: &str, status: u8) -> u8
+/// Writes the text, and answers the status; or 5 where the writer failed, after any part of it. The
+/// writer mustn't have failed before. It takes no memory.
+///
+/// ```rust
+/// let status = tell_text(&mut output, "ok ()\n", 0);
+/// ```
+pub fn tell_text<W: Output>(writer: &mut W, text: &str, status: u8) -> u8
     requires { W.has_failed writer.old ≡ false }
     ensures failed { W.has_failed writer.new ≡ true → result ≡ 5 }
     ensures told { W.has_failed writer.new ≡ false → (result ≡ status) × Appends
@@ -58,7 +63,7 @@ pub fn tell<W: Output>(writer: &mut W, answer: Result<Answer, Failure>) -> u8
     ensures failed { W.has_failed writer.new ≡ true → result ≡ 5 }
 {
     match answer {
-        Ok(answer) => finish(writer, answer.text.as_str(), answer.status),
-        Err(failure) => finish(writer, failure.line(), failure.status()),
+        Ok(answer) => tell_text(writer, answer.text.as_str(), answer.status),
+        Err(failure) => tell_text(writer, failure.line(), failure.status()),
     }
 }

@@ -6,9 +6,9 @@
 //! match read_line(line) {
 //!     Some(said) => calls.push(said.into_call(alloc)?)?,
 //!     None => {
-//!         write_trees(alloc, &mut out, calls.as_slice())?;
+//!         write_trees(alloc, form, &mut out, calls.as_slice())?;
 //!         calls.clear();
-//!         write_answer(alloc, &mut out, line)?;
+//!         write_answer(alloc, form, &mut out, line)?;
 //!     }
 //! }
 //! text = after;
@@ -20,7 +20,7 @@
 //! | read lines | [`cut_line`], [`split_line`], [`read_printable`], [`first_bad_line`] |
 //! | read the limit on nesting that the first line may set | [`split_limit`] |
 //! | read and write bytes as hexadecimal digits | [`read_hex`], [`write_hex`] |
-//! | read all input and write one answer, as both programs do | [`read_all`], [`tell`], [`Port`] |
+//! | read all input and write one answer | [`read_all`], [`tell`], [`tell_text`], [`Port`] |
 //!
 //! Inside, `words` has the calls by name, `forms` and `numbers` their arguments.
 
@@ -38,7 +38,7 @@ mod port;
 mod ports;
 mod words;
 
-pub use answer::{Answer, tell};
+pub use answer::{Answer, tell, tell_text};
 pub use failure::Failure;
 pub use hex::{read_hex, write_hex};
 pub use input::read_all;

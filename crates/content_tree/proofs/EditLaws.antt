@@ -48,7 +48,7 @@ got_put test v (pair_then k t ps) qs h =
     got_step test v k t ps qs (value_replaced test v ps) refl (λ rs e. got_put test v ps rs e) h
 
 -- a pair after the last is found
-got_added : (test : Tree → Bool) (key v : Tree) (ps : Pairs) → test key ≡ true → last_value test (pair_added key v ps) ≡ Some v
+pub got_added : (test : Tree → Bool) (key v : Tree) (ps : Pairs) → test key ≡ true → last_value test (pair_added key v ps) ≡ Some v
 got_added test key v no_pairs is = ap (λ b. if b then Some v else None) is
 got_added test key v (pair_then k t ps) is = ap (λ o. or_else o (if test k then Some t else None)) (got_added test key v ps is)
 

@@ -21,7 +21,7 @@ abbrev pub value_after : List (List ℕ) → Place → Option Tree
 value_after ss place = value_by (unescape_each ss) place
 
 -- where no part is spelled, no key is its text
-no_key : (k : Tree) → is_key None k ≡ false
+pub no_key : (k : Tree) → is_key None k ≡ false
 no_key (text t) = refl
 no_key k = refl
 
@@ -29,7 +29,7 @@ no_pair : (ps : Pairs) → last_value (is_key None) ps ≡ None
 no_pair no_pairs = refl
 no_pair (pair_then k t ps) = rw (no_pair ps, no_key k) refl
 
-no_field : (fs : Fields) → found_field None fs ≡ None
+pub no_field : (fs : Fields) → found_field None fs ≡ None
 no_field no_fields = refl
 no_field (field_then k t fs) = ap (λ r. or_else r None) (no_field fs)
 
@@ -45,15 +45,15 @@ found_none (at t) = refl
 found_none (inside d) = ap (option_map at) (none_in d)
 
 -- a part that is spelled finds what it finds
-key_is : (part : List ℕ) (k : Tree) → is_key (Some part) k ≡ is_text part k
+pub key_is : (part : List ℕ) (k : Tree) → is_key (Some part) k ≡ is_text part k
 key_is part (text t) = refl
 key_is part k = refl
 
-pair_is : (part : List ℕ) (ps : Pairs) → last_value (is_key (Some part)) ps ≡ last_value (is_text part) ps
+pub pair_is : (part : List ℕ) (ps : Pairs) → last_value (is_key (Some part)) ps ≡ last_value (is_text part) ps
 pair_is part no_pairs = refl
 pair_is part (pair_then k t ps) = ap₂ (λ o b. or_else o (if b then Some t else None)) (pair_is part ps) (key_is part k)
 
-field_is : (part : List ℕ) (fs : Fields) → found_field (Some part) fs ≡ last_field part fs
+pub field_is : (part : List ℕ) (fs : Fields) → found_field (Some part) fs ≡ last_field part fs
 field_is part no_fields = refl
 field_is part (field_then k t fs) = ap (λ o. or_else o (if bytes_eq k.content part then Some t else None)) (field_is part fs)
 

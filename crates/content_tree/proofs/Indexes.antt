@@ -80,7 +80,7 @@ part_no_index piece part e other =
     (cases_Bool (is_index part))
 
 -- a piece names the index that its part names
-same_index : (piece : List ℕ) (o : Option (List ℕ)) (b : Bool) → unescape piece ≡ o → is_index piece ≡ b → option_and_then index_of o ≡ index_of piece
+pub same_index : (piece : List ℕ) (o : Option (List ℕ)) (b : Bool) → unescape piece ≡ o → is_index piece ≡ b → option_and_then index_of o ≡ index_of piece
 same_index piece o true e names =
     let itself : escape piece ≡ piece = digits_spelled piece (index_digits piece names).0 in
     ap (option_and_then index_of) (sym e ∙ (ap unescape (sym itself) ∙ unescape-escape piece))

@@ -59,7 +59,7 @@ path_read : (parts : List (List ℕ)) → parts_of (path_of parts) ≡ Some part
 path_read parts = ap (λ ss. option_and_then unescape_each (after_root ss)) (split_path parts) ∙ each_read parts
 
 -- what goes on comes from something
-went_on : {A B : Type 0} (f : A → Option B) (o : Option A) (y : B) → option_and_then f o ≡ Some y → (x : A) × (o ≡ Some x) × (f x ≡ Some y)
+pub went_on : {A B : Type 0} (f : A → Option B) (o : Option A) (y : B) → option_and_then f o ≡ Some y → (x : A) × (o ≡ Some x) × (f x ≡ Some y)
 went_on f None y e = absurd (cc e)
 went_on f (Some x) y e = (x, refl, e)
 
@@ -103,7 +103,7 @@ both_on : {A : Type 0} (f g h : A → Option A) → ((x : A) → f x ≡ option_
 both_on f g h same None = refl
 both_on f g h same (Some x) = same x
 
-follow_joined : (ps qs : List (List ℕ)) (place : Place) → follow (ps ++ qs) place ≡ option_and_then (follow qs) (follow ps place)
+pub follow_joined : (ps qs : List (List ℕ)) (place : Place) → follow (ps ++ qs) place ≡ option_and_then (follow qs) (follow ps place)
 follow_joined [] qs place = refl
 follow_joined (p ∷ ps) qs place = both_on (follow (ps ++ qs)) (follow qs) (follow ps) (λ next. follow_joined ps qs next) (step p place)
 
@@ -127,7 +127,7 @@ joined_paths path more place p q =
     leads_joined path more ps.0 qs.0 place ps.1 qs.1
 
 -- a value is at its place
-value_place : (place : Place) (t : Tree) → value_at place ≡ Some t → place ≡ at t
+pub value_place : (place : Place) (t : Tree) → value_at place ≡ Some t → place ≡ at t
 value_place (at u) t e = let same : u ≡ t = cc e in ap at same
 value_place (inside d) t e = absurd (cc e)
 

@@ -40,7 +40,7 @@ pub text_ended : (left text : List ℕ) (i : ℕ) → length text ≤ i → byte
 text_ended left text i past = ap (λ l. bytes_eq left (escape l)) (drop_all i text past) ∙ nothing_left left
 
 -- a plain byte is read as itself
-read_plain : (x : ℕ) (xs : List ℕ) → nat_eq x 126 ≡ false → nat_eq x 47 ≡ false → unescape (x ∷ xs) ≡ option_map (λ part. x ∷ part) (unescape xs)
+pub read_plain : (x : ℕ) (xs : List ℕ) → nat_eq x 126 ≡ false → nat_eq x 47 ≡ false → unescape (x ∷ xs) ≡ option_map (λ part. x ∷ part) (unescape xs)
 read_plain x [] f g = rw (f, g) refl
 read_plain x (y ∷ xs) f g = rw (f, g) refl
 

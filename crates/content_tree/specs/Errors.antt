@@ -2,3 +2,4 @@
 pub mod Kind
 pub mod Cause
 pub mod Unexpected
+pub mod Where

@@ -4,3 +4,4 @@ pub mod RankedTree
 pub mod RankedImage
 pub mod Paths
 pub mod Edits
+pub mod PathEdits

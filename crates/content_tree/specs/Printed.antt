@@ -2,5 +2,6 @@
 pub mod Images
 pub mod Values
 pub mod Errors
+pub mod Paths
 pub mod Escapes
 pub mod Pretty

@@ -9,4 +9,6 @@ pub mod Paths
 pub mod Pointers
 pub mod Places
 pub mod Edits
+pub mod PathEdits
+pub mod Trades
 pub mod Parts

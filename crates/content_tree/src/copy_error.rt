@@ -3,6 +3,7 @@
 ghost use Rattle.std.specs.Prelude.{◌≡◌, None, IsTrue, IsOk, IfOk, IfErr};
 ghost use Rattle.content_tree.specs.Errors.Cause.{expectation_of, cause_of, name_view};
 ghost use Rattle.content_tree.specs.Errors.Kind.{kind_of, IsOutOfMemory};
+ghost use Rattle.content_tree.specs.Errors.Where.{places, IsKept};
 ghost use Rattle.content_tree.specs.Memory.{is_free_expectation, is_free_cause};
 
 use crate::error::{Error, ErrorKind, Result};
@@ -91,17 +92,18 @@ impl ErrorKind {
 }
 
 impl Error {
-    /// Copies the error: the same kind, with its image, expectation or text.
+    /// Copies the error: the same kind, with its image, expectation or text, and the same path.
     ///
-    /// It takes memory for owned texts, vectors and boxes, and nothing for the rest; where that
-    /// fails: an error of kind `OutOfMemory`.
+    /// It takes memory for the path, and for owned texts, vectors and boxes, and nothing for the
+    /// rest; where that fails: no path, or an error of kind `OutOfMemory`.
     pub fn try_clone(&self, alloc: Global) -> Result<Error>
         ensures value { IfOk result
             (λ copy. cause_of (kind_of copy) ≡ cause_of (kind_of self.now)) }
+        ensures path { IfOk result (λ copy. IsKept (places self.now) (places copy)) }
         ensures succeeds { IsTrue (is_free_cause (cause_of (kind_of self.now))) → IsOk result }
         ensures memory { IfErr result (λ e. IsOutOfMemory e) }
     {
         let kind = self.kind().try_clone(alloc)?;
-        Ok(Error::from(kind))
+        Ok(Error::at(kind, self.trail.try_clone(alloc)))
     }
 }

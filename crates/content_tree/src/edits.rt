@@ -232,7 +232,7 @@ fn remove_text<'a, 'n>(
 }
 
 /// Removes the pair of this index, and gives its value.
-fn remove_pair<'a, 'n>(
+pub(crate) fn remove_pair<'a, 'n>(
     pairs: &mut Vec<(NamedValue<'a, 'n>, NamedValue<'a, 'n>)>,
     index: usize,
 ) -> NamedValue<'a, 'n>

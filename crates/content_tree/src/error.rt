@@ -9,6 +9,7 @@ ghost use Rattle.content_tree.specs.Printed.Errors.{kind_text, error_text};
 
 use crate::expected::Expected;
 use crate::found::Found;
+use crate::trail::Trail;
 use std::alloc::{AllocError, AllocFailed, Global};
 use std::fmt;
 use std::fmt::Display;
@@ -38,8 +39,9 @@ pub enum ErrorKind {
     Unfinished,
 }
 
-/// An error: one [`ErrorKind`], with no box. `Unexpected` and `Custom` are `serde-content`'s kinds;
-/// the other four are not in it.
+/// An error: one [`ErrorKind`], with no box, and the [path](Error::path) to what was refused, which
+/// takes memory once it has a step.
+/// `Unexpected` and `Custom` are `serde-content`'s kinds; the other four are not in it.
 ///
 /// ```rust
 /// let error = Error::unexpected(Found::Bool(true), Expected::Unit);
@@ -49,16 +51,22 @@ pub enum ErrorKind {
 /// );
 /// assert!(rt; matches!(error.kind(), ErrorKind::Unexpected { .. }));
 /// ```
-#[derive(Debug, Drop, PartialEq, Eq, PartialOrd, Ord)]
+#[derive(Drop)]
+#[derive_where(Debug, PartialEq, Eq, PartialOrd, Ord)]
 pub struct Error {
     kind: ErrorKind,
+    #[derive_where(skip)]
+    pub(crate) trail: Trail,
 }
 
 impl From<ErrorKind> for Error {
     ghost from_gives = { λ kind e. kind_of e ≡ kind };
 
     fn from(kind: ErrorKind) -> Error {
-        Error { kind }
+        Error {
+            kind,
+            trail: Trail::Here,
+        }
     }
 }
 
@@ -76,6 +84,7 @@ impl<T: Drop> From<AllocFailed<T>> for Error {
     fn from(_refused: AllocFailed<T>) -> Error {
         Error {
             kind: ErrorKind::OutOfMemory,
+            trail: Trail::Here,
         }
     }
 }
@@ -86,9 +95,7 @@ impl Error {
     pub fn unexpected(found: Found, expected: Expected) -> Error
         ensures { kind_of result ≡ Unexpected found expected }
     {
-        Error {
-            kind: ErrorKind::Unexpected { found, expected },
-        }
+        Error::from(ErrorKind::Unexpected { found, expected })
     }
 
     /// Makes an error of a text: of kind [`ErrorKind::Custom`] with a copy of the text, or of kind
@@ -97,9 +104,7 @@ impl Error {
         ensures { IsCustomOrMemory text.now (kind_of result) }
     {
         match String::from_str(alloc, text) {
-            Ok(text) => Error {
-                kind: ErrorKind::Custom(text),
-            },
+            Ok(text) => Error::from(ErrorKind::Custom(text)),
             Err(refused) => Error::from(refused),
         }
     }
@@ -115,8 +120,25 @@ impl Error {
     pub fn into_kind(self) -> ErrorKind
         ensures { result ≡ kind_of self }
     {
-        let Error { kind } = self;
+        let Error { kind, trail: _ } = self;
         kind
+    }
+
+    /// An error of this kind, met after these steps.
+    pub(crate) fn at(kind: ErrorKind, trail: Trail) -> Error
+        ensures kind { kind_of result ≡ kind }
+        ensures trail { result.trail ≡ trail }
+    {
+        Error { kind, trail }
+    }
+
+    /// The kind and the steps.
+    pub(crate) fn into_parts(self) -> (ErrorKind, Trail)
+        ensures kind { result.0 ≡ kind_of self }
+        ensures trail { result.1 ≡ self.trail }
+    {
+        let Error { kind, trail } = self;
+        (kind, trail)
     }
 }
 

@@ -8,6 +8,8 @@ ghost use Rattle.content_tree.specs.Laws.Paths.{EmptyPath, JoinedPaths, JoinedAt
 ghost use Rattle.content_tree.specs.Laws.Paths.{SpelledParts};
 ghost use Rattle.content_tree.specs.Laws.Edits.{InsertedIsGot, OthersStay, RemovedIsGone};
 ghost use Rattle.content_tree.specs.Laws.Edits.{LastIsRemoved, OthersRemain, InsertedThenRemoved};
+ghost use Rattle.content_tree.specs.Laws.PathEdits.{SetGivesFound, PutIsFound, SetIsFound};
+ghost use Rattle.content_tree.specs.Laws.PathEdits.{RemovedIsFound};
 ghost use Rattle.content_tree.specs.Errors.Kind.{kind_of};
 ghost use Rattle.content_tree.specs.Orders.Trees.{number_cmp};
 ghost use Rattle.content_tree.specs.Orders.Errors.{type_cmp, expected_cmp, kind_cmp, error_cmp};
@@ -215,6 +217,20 @@ pub fn removed_is_gone()
 /// A new key that is inserted and then removed leaves the map as it was.
 pub fn inserted_then_removed()
     ensures { InsertedThenRemoved }
+{}
+
+/// What [`set_pointer`](NamedValue::set_pointer) gives back is what the path found before, and the
+/// path finds what was put in place of that. It finds what was added, too, unless its last part is
+/// `-`.
+pub fn set_is_found()
+    ensures given { SetGivesFound }
+    ensures put { PutIsFound }
+    ensures found { SetIsFound }
+{}
+
+/// What [`remove_pointer`](NamedValue::remove_pointer) gives is what the path found.
+pub fn removed_is_found()
+    ensures { RemovedIsFound }
 {}
 
 /// A value that is [taken](NamedValue::take) twice gives the unit the second time.

@@ -143,7 +143,7 @@ fn last_spelled_key<'v, 'a, 'n>(
 }
 
 /// Whether a piece of a path spells the text that this key is.
-fn spells_key(piece: &str, key: &NamedValue<'_, '_>) -> bool
+pub(crate) fn spells_key(piece: &str, key: &NamedValue<'_, '_>) -> bool
     ensures { result ≡ is_key (unescape piece.now) (tree_of key.now) }
 {
     match key {
@@ -171,7 +171,7 @@ fn last_spelled_field<'v, 'a, 'n>(
 }
 
 /// Whether a piece of a path spells this text.
-fn spells(piece: &str, text: &str) -> bool
+pub(crate) fn spells(piece: &str, text: &str) -> bool
     ensures { result ≡ is_part (unescape piece.now) text.now }
 {
     let mut left = piece.as_bytes();
@@ -198,7 +198,7 @@ fn strip_escaped(piece: &[u8], byte: u8) -> Option<&[u8]>
 }
 
 /// The index that a piece of a path names, if it is within `usize`.
-fn index_of(piece: &str) -> Option<usize>
+pub(crate) fn index_of(piece: &str) -> Option<usize>
     ensures { MatchOption result (IfSome (index_of piece.now) (λ index. 2 ^ 64 ≤ index))
         (λ index. index_of piece.now ≡ Some index) }
 {

@@ -25,9 +25,12 @@ pub trait FieldNames {
     /// The names.
     ghost names: { List (List ℕ) };
 
-    /// The value of the first of them that there is, taken away. It takes no memory.
-    fn take<'de, 'n>(fields: &mut FieldsByName<'de, 'n>) -> Option<Deserializer<'de, 'n>>
-        ensures value { option_map subject result ≡ found_by names (fields_left fields.old) }
+    /// The value of the first of them that there is, taken away, and that name. It takes no memory.
+    fn take<'de, 'n>(
+        fields: &mut FieldsByName<'de, 'n>,
+    ) -> Option<(Deserializer<'de, 'n>, &'static str)>
+        ensures value { option_map (λ found. subject found.0) result
+            ≡ found_by names (fields_left fields.old) }
         ensures rest { fields_left fields.new ≡ left_by names (fields_left fields.old) };
 }
 
@@ -38,7 +41,9 @@ pub struct NoName;
 impl FieldNames for NoName {
     ghost names = { [] };
 
-    fn take<'de, 'n>(_fields: &mut FieldsByName<'de, 'n>) -> Option<Deserializer<'de, 'n>> {
+    fn take<'de, 'n>(
+        _fields: &mut FieldsByName<'de, 'n>,
+    ) -> Option<(Deserializer<'de, 'n>, &'static str)> {
         None
     }
 }
@@ -50,9 +55,12 @@ pub struct NameAt<K, const I: usize, N>(PhantomData<(K, N)>);
 impl<K: Names, const I: usize, N: FieldNames> FieldNames for NameAt<K, I, N> {
     ghost names = { slice_index_or K.names I [] ∷ N.names };
 
-    fn take<'de, 'n>(fields: &mut FieldsByName<'de, 'n>) -> Option<Deserializer<'de, 'n>> {
-        match fields.take_named(name_at::<K>(I)) {
-            Some(found) => Some(found),
+    fn take<'de, 'n>(
+        fields: &mut FieldsByName<'de, 'n>,
+    ) -> Option<(Deserializer<'de, 'n>, &'static str)> {
+        let name = name_at::<K>(I);
+        match fields.take_named(name) {
+            Some(found) => Some((found, name)),
             None => N::take(fields),
         }
     }
@@ -107,7 +115,7 @@ fn found<'de, 'n: 'de, N: FieldNames, T: Deserialize<'de>>(
     ensures rest { fields_left fields.new ≡ left_by N.names (fields_left fields.old) }
 {
     match N::take(fields) {
-        Some(field) => T::deserialize(alloc, field),
+        Some((field, name)) => field.deserialize_field(alloc, name),
         None => Err(missing(alloc, name)),
     }
 }
@@ -123,7 +131,7 @@ fn found_or_made<'de, 'n: 'de, N: FieldNames, D: DefaultOf<T>, T: Deserialize<'d
     ensures rest { fields_left fields.new ≡ left_by N.names (fields_left fields.old) }
 {
     match N::take(fields) {
-        Some(field) => T::deserialize(alloc, field),
+        Some((field, name)) => field.deserialize_field(alloc, name),
         None => D::make(alloc),
     }
 }

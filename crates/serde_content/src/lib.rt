@@ -28,8 +28,8 @@ pub use content_build::Serializer;
 pub use content_de::{Deserializer, ValueVisitor};
 pub use content_tree::{
     CowBytes, CowStr, Data, DataType, Enum, Error, ErrorKind, Expected, Found, FoundData,
-    InsertError, NamedData, NamedEnum, NamedStruct, NamedValue, Number, PrettyDisplay, Result,
-    Struct, Unexpected, Value, ValueDisplay,
+    InsertError, Located, NamedData, NamedEnum, NamedStruct, NamedValue, Number, Path,
+    PrettyDisplay, Result, Struct, Unexpected, Value, ValueDisplay,
 };
 pub use round::{RoundTrip, round_trip};
 pub use values::{from_value, to_value};

@@ -35,7 +35,7 @@ pub(crate) fn name_at<K: Names>(index: usize) -> &'static str
 }
 
 /// The index of the first of these names that is the tag.
-fn position_of(tag: &str, names: &[&str]) -> Option<usize>
+pub(crate) fn position_of(tag: &str, names: &[&str]) -> Option<usize>
     ensures { result ≡ position (λ name. bytes_eq tag.now name.now) names.now }
 {
     names.iter().position(|name| tag == *name)

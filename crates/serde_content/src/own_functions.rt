@@ -54,7 +54,7 @@ fn field_at_else<'de, 'n: 'de, K: Names, T: Deserialize<'de>, D: DefaultOf<T>>(
         ≡ without_field (slice_index_or K.names index []) (fields_left fields.old) }
 {
     match fields.take_named(name_at::<K>(index)) {
-        Some(field) => T::deserialize(alloc, field),
+        Some(field) => field.deserialize_field(alloc, name_at::<K>(index)),
         None => D::make(alloc),
     }
 }

@@ -8,7 +8,7 @@ ghost use Rattle.content_de.specs.Reads.Read.{Reads};
 ghost use Rattle.serde_content.specs.Tags.{EnumGivesBy, meant, meant_among};
 
 use crate::name_lists::{Names, index_of, name_at};
-use crate::variants::Variants;
+use crate::variants::{Variants, in_variant};
 use content_de::Deserializer;
 use content_tree::{CowStr, Result};
 use std::alloc::Global;
@@ -81,5 +81,9 @@ pub fn read_enum_by<'de, 'n: 'de, N: Tags, T: Variants<'de>>(
 {
     let access = from.deserialize_enum(alloc, T::name(), T::names())?;
     let (tag, variant) = access.variant::<CowStr<'de>>(alloc)?;
-    T::read_variant(alloc, N::meant(tag.as_str()), variant)
+    let name = N::meant(tag.as_str());
+    match T::read_variant(alloc, name, variant) {
+        Ok(value) => Ok(value),
+        Err(error) => Err(in_variant::<T>(alloc, name, tag.as_str(), error)),
+    }
 }

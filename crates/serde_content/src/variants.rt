@@ -3,6 +3,7 @@
 
 ghost use Rattle.std.specs.Prelude.{◌≡◌, ℕ, List, Option};
 ghost use Rattle.content_tree.specs.Errors.Cause.{Cause};
+ghost use Rattle.content_de.specs.Outcomes.{cause};
 ghost use Rattle.content_de.specs.Sources.Deserializer.{subject};
 ghost use Rattle.content_de.specs.Accesses.ByName.{FieldsLeft, fields_left};
 ghost use Rattle.content_de.specs.Accesses.Enum.{VariantLeft, variant_view};
@@ -13,8 +14,9 @@ ghost use Rattle.content_de.specs.Reads.Tagged.{tag_then, TagThen, tag_then_buff
 ghost use Rattle.content_de.specs.Reads.Tagged.{TagThenBuffered};
 ghost use Rattle.serde_content.specs.Variants.{VariantGives};
 
+use crate::name_lists::position_of;
 use content_de::{Deserializer, FieldsByName, VariantAccess, internal_tag, tag_field};
-use content_tree::{CowStr, Result};
+use content_tree::{CowStr, Error, Result};
 use std::alloc::Global;
 
 /// An enum that is tagged externally.
@@ -90,7 +92,27 @@ pub fn read_enum<'de, 'n: 'de, T: Variants<'de>>(
 {
     let access = from.deserialize_enum(alloc, T::name(), T::names())?;
     let (tag, variant) = access.variant::<CowStr<'de>>(alloc)?;
-    T::read_variant(alloc, tag.as_str(), variant)
+    match T::read_variant(alloc, tag.as_str(), variant) {
+        Ok(value) => Ok(value),
+        Err(error) => Err(in_variant::<T>(alloc, tag.as_str(), tag.as_str(), error)),
+    }
+}
+
+/// The error with the tag added to its path, if this name is that of a variant.
+#[cold]
+#[inline(never)]
+pub(crate) fn in_variant<'de, T: Variants<'de>>(
+    alloc: Global,
+    name: &str,
+    tag: &str,
+    error: Error,
+) -> Error
+    ensures { cause result ≡ cause error }
+{
+    match position_of(name, T::names()) {
+        Some(_) => error.at_name(alloc, tag),
+        None => error,
+    }
 }
 
 /// The tag of an enum that is tagged internally, wherever it is, and then the variant.

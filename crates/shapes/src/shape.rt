@@ -66,7 +66,10 @@ impl<'de> Deserialize<'de> for Shape {
                 variant.unit_variant(alloc)?;
                 Ok(Shape::Dot)
             }
-            "Ring" => Ok(Shape::Ring(variant.newtype_variant(alloc)?)),
+            "Ring" => {
+                let radius = variant.newtype_deserializer(alloc)?;
+                Ok(Shape::Ring(radius.deserialize_field(alloc, "Ring")?))
+            }
             tag => Err(unknown_variant(alloc, tag, &["Dot", "Ring"])),
         }
     }

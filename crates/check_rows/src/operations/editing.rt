@@ -63,6 +63,34 @@ pub fn remove_str(out: &mut Answer, pieces: &mut Pieces<'_>) {
     write_edited(out, removed, &value);
 }
 
+/// A value without what a path leads to.
+pub fn remove_pointer(out: &mut Answer, pieces: &mut Pieces<'_>) {
+    let Value::String(path) = read_tree(pieces) else {
+        return out.fail(Failure::NoRow);
+    };
+    let mut value = read_tree(pieces);
+    let removed = value.remove_pointer(path.as_str());
+    write_edited(out, removed, &value);
+}
+
+/// A value with another where a path leads.
+pub fn set_pointer(out: &mut Answer, pieces: &mut Pieces<'_>) {
+    let alloc = out.alloc();
+    let Value::String(path) = read_tree(pieces) else {
+        return out.fail(Failure::NoRow);
+    };
+    let item = read_tree(pieces);
+    let mut value = read_tree(pieces);
+    match value.set_pointer(alloc, path.as_str(), item) {
+        Ok(before) => write_edited(out, before, &value),
+        Err(InsertError::WrongKind(item)) => {
+            out.push_str("wrong kind ");
+            write_edited(out, Some(item), &value);
+        }
+        Err(InsertError::OutOfMemory(_)) => out.fail(Failure::OutOfMemory),
+    }
+}
+
 /// Adds what an edit gives, or that it gives nothing, and the value after it.
 fn write_edited(out: &mut Answer, given: Option<Value<'_>>, value: &Value<'_>) {
     match given {

@@ -61,7 +61,8 @@ fn read_items<'de, 'n: 'de, T: Deserialize<'de>>(
 {
     let mut items = Vec::with_capacity(alloc, from.size_hint().unwrap_or(0))?;
     while let Some(item) = from.next_deserializer() {
-        items.push_reserved(T::deserialize(alloc, item)?);
+        let index = items.len();
+        items.push_reserved(item.deserialize_item(alloc, index)?);
     }
     Ok(items)
 }

@@ -12,6 +12,7 @@ ghost use Rattle.content_de.specs.Reads.Maps.{map_refusal, MapGives, put_in};
 use crate::deserialize::Deserialize;
 use crate::deserializer::Deserializer;
 use crate::map::Map;
+use crate::within::read_entry;
 use content_tree::Result;
 use std::alloc::{AllocError, Global};
 use std::cmp::Ordering;
@@ -42,9 +43,7 @@ fn read_entries<'de, 'n: 'de, K: Deserialize<'de> + Ord, V: Deserialize<'de>>(
 {
     let mut entries = Vec::with_capacity(alloc, from.size_hint().unwrap_or(0))?;
     while let Some(entry) = from.take_entry() {
-        let key = K::deserialize(alloc, entry.0)?;
-        let value = V::deserialize(alloc, entry.1)?;
-        entries.push_reserved((key, value));
+        entries.push_reserved(read_entry(alloc, entry.0, entry.1)?);
     }
     Ok(entries)
 }

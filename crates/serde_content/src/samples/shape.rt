@@ -10,6 +10,8 @@ ghost use Rattle.content_ser.specs.Scripts.Own.{end_script, field_first, newtype
 ghost use Rattle.content_ser.specs.Scripts.Own.{struct_variant_script, tuple_field_first};
 ghost use Rattle.content_ser.specs.Scripts.Own.{tuple_variant_script, unit_variant_script};
 ghost use Rattle.content_de.specs.Reads.Tuples.{part_then, end_of_parts, PartThen, NoPart};
+ghost use Rattle.content_de.specs.Accesses.Map.{map_view};
+ghost use Rattle.content_de.specs.Reads.Read.{Reads};
 ghost use Rattle.content_de.specs.Reads.Own.{field_then, no_field, FieldThen, NoField};
 ghost use Rattle.content_de.specs.Reads.Own.{enum_refusal, variant_or, no_variant, EnumGives};
 ghost use Rattle.content_de.specs.Reads.Own.{unit_variant_refusal, UnitVariantGives};
@@ -30,7 +32,7 @@ ghost use Rattle.serde_content.specs.Laws.Variants.{unit_variant_keeps, newtype_
 ghost use Rattle.serde_content.specs.Laws.Variants.{tuple_variant_keeps, struct_variant_keeps};
 
 use crate::round::RoundTrip;
-use content_de::{Deserialize, Deserializer, next_field, two_parts};
+use content_de::{Deserialize, Deserializer, Map, next_field, two_parts};
 use content_ser::{Call, Parts, Serialize, Serializer};
 use content_tree::{CowStr, Error, Result};
 use std::alloc::Global;
@@ -141,20 +143,36 @@ impl<'de> Deserialize<'de> for Shape {
                 variant.unit_variant(alloc)?;
                 Ok(Shape::Dot)
             }
-            "Ring" => Ok(Shape::Ring(variant.newtype_variant(alloc)?)),
-            "Span" => {
-                let (a, b) = two_parts(alloc, variant.tuple_variant(alloc, 2)?)?;
-                Ok(Shape::span(a, b))
+            "Ring" => {
+                let radius = variant.newtype_deserializer(alloc)?;
+                Ok(Shape::Ring(radius.deserialize_field(alloc, "Ring")?))
             }
-            "Area" => {
-                let mut fields = variant.struct_variant(alloc, &["w", "h"])?;
-                let w = next_field(alloc, &mut fields, "w")?;
-                let h = next_field(alloc, &mut fields, "h")?;
-                Ok(Shape::Area { w, h })
-            }
+            "Span" => match two_parts(alloc, variant.tuple_variant(alloc, 2)?) {
+                Ok((a, b)) => Ok(Shape::span(a, b)),
+                Err(error) => Err(error.at_name(alloc, "Span")),
+            },
+            "Area" => match read_area(alloc, variant.struct_variant(alloc, &["w", "h"])?) {
+                Ok((w, h)) => Ok(Shape::Area { w, h }),
+                Err(error) => Err(error.at_name(alloc, "Area")),
+            },
             _ => Err(Error::custom(alloc, "unknown variant")),
         }
     }
+}
+
+/// The width and the height.
+fn read_area<'de, 'n: 'de>(alloc: Global, mut fields: Map<'de, 'n>) -> Result<(u32, u32)>
+    ensures { Reads
+        (field_then (codes "w") (⟦<u32 as Deserialize<'de>>⟧.refusal)
+        (field_then (codes "h") (⟦<u32 as Deserialize<'de>>⟧.refusal)
+        no_field) (map_view fields.entry))
+        (λ p. FieldThen (⟦<u32 as Deserialize<'de>>⟧.gives) p.0
+        (FieldThen (⟦<u32 as Deserialize<'de>>⟧.gives) p.1
+        NoField) (map_view fields.entry)) result }
+{
+    let w = next_field(alloc, &mut fields, "w")?;
+    let h = next_field(alloc, &mut fields, "h")?;
+    Ok((w, h))
 }
 
 impl<'de> RoundTrip<'de> for Shape {

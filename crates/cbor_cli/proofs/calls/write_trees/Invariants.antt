@@ -7,7 +7,7 @@ use Rattle.cbor_cli.proofs.calls.write_trees.Given as goal
 abbrev pub invariant-trees : goal.invariant-trees
 invariant-trees l = record {
   within : l.start ≤ length l.calls;
-  told : HasTold (events_of l.calls) (drop l.start (events_of l.calls)) (string_bytes l.initial.out) (string_bytes l.out);
+  told : HasTold l.form (events_of l.calls) (drop l.start (events_of l.calls)) (string_bytes l.initial.out) (string_bytes l.out);
 }
 
 abbrev pub decreases-trees : goal.decreases-trees

@@ -1,0 +1,151 @@
+//! Reads what is inside something: a refusal there gets the place.
+
+ghost use Rattle.std.specs.Prelude.{◌≡◌, ◌≢◌, Some, IsOk};
+ghost use Rattle.content_tree.specs.Errors.Cause.{out_of_memory};
+ghost use Rattle.content_de.specs.Outcomes.{cause};
+ghost use Rattle.content_de.specs.Sources.Deserializer.{subject};
+ghost use Rattle.content_de.specs.Reads.Access.{entry_refusal, EntryGives, EntryMemoryless};
+ghost use Rattle.content_de.specs.Reads.Read.{Reads, first_of};
+
+use crate::deserialize::Deserialize;
+use crate::deserializer::Deserializer;
+use crate::source::Source;
+use content_tree::{Error, NamedValue, Number, Result};
+use std::alloc::{AllocError, Global};
+
+impl<'de, 'n> Deserializer<'de, 'n> {
+    /// Reads a value of this type, which is the item of this index of a sequence, a tuple or the
+    /// like: the [path](Error::path) of a refusal begins with the index. Only the type and a
+    /// refusal take memory.
+    ///
+    /// # Errors
+    ///
+    /// That of the type's first refusal, in reading order; out of memory in its place.
+    #[inline(always)]
+    pub fn deserialize_item<T: Deserialize<'de>>(self, alloc: Global, index: usize) -> Result<T>
+    where
+        'n: 'de,
+        ensures value { Reads (T.refusal (subject self.entry)) (T.gives (subject self.entry))
+            result }
+        ensures succeeds { T.memoryless (subject self.entry) → IsOk result }
+    {
+        match T::deserialize(alloc, self) {
+            Ok(value) => Ok(value),
+            Err(error) => Err(error.at_index(alloc, index)),
+        }
+    }
+
+    /// Reads a value of this type, which is the field, or what a variant of this name holds: the
+    /// [path](Error::path) of a refusal begins with the name. Only the type and a refusal take
+    /// memory.
+    ///
+    /// # Errors
+    ///
+    /// That of the type's first refusal, in reading order; out of memory in its place.
+    #[inline(always)]
+    pub fn deserialize_field<T: Deserialize<'de>>(self, alloc: Global, name: &str) -> Result<T>
+    where
+        'n: 'de,
+        ensures value { Reads (T.refusal (subject self.entry)) (T.gives (subject self.entry))
+            result }
+        ensures succeeds { T.memoryless (subject self.entry) → IsOk result }
+    {
+        match T::deserialize(alloc, self) {
+            Ok(value) => Ok(value),
+            Err(error) => Err(error.at_name(alloc, name)),
+        }
+    }
+
+    /// Reads a part of this type that a path can't name: the path of a refusal is that of what
+    /// contains it.
+    #[inline(always)]
+    pub(crate) fn deserialize_unplaced<K: Deserialize<'de>>(self, alloc: Global) -> Result<K>
+    where
+        'n: 'de,
+        ensures value { Reads (K.refusal (subject self.entry)) (K.gives (subject self.entry))
+            result }
+        ensures succeeds { K.memoryless (subject self.entry) → IsOk result }
+    {
+        match K::deserialize(alloc, self) {
+            Ok(key) => Ok(key),
+            Err(error) => Err(error.at_whole()),
+        }
+    }
+
+    /// The error of what has this key: that of the value under it, with the key added to its path.
+    fn error_under(&self, alloc: Global, error: Error) -> Error
+        ensures { cause result ≡ cause error }
+    {
+        match &self.source {
+            Source::Identifier { name, index: _ } => error.at_name(alloc, name.as_str()),
+            Source::Tree(NamedValue::String(text)) => error.at_name(alloc, text.as_str()),
+            Source::Tree(NamedValue::Char(character)) => {
+                at_text(alloc, error, format!(in alloc; "{character}"))
+            }
+            Source::Tree(NamedValue::Number(number)) => {
+                at_text(alloc, error, decimal(alloc, *number))
+            }
+            _ => error.at_whole(),
+        }
+    }
+}
+
+/// Reads an entry, its key and its value. The value is read first, while its key is still there to
+/// tell where it is.
+#[inline(always)]
+pub(crate) fn read_entry<'de, 'n: 'de, K: Deserialize<'de>, V: Deserialize<'de>>(
+    alloc: Global,
+    key: Deserializer<'de, 'n>,
+    value: Deserializer<'de, 'n>,
+) -> Result<(K, V)>
+    ensures value { Reads
+        (entry_refusal K.refusal V.refusal (subject key.entry, subject value.entry))
+        (EntryGives K.gives V.gives (subject key.entry, subject value.entry)) result }
+    ensures succeeds { EntryMemoryless K.memoryless V.memoryless
+        (subject key.entry, subject value.entry) → IsOk result }
+{
+    match V::deserialize(alloc, value) {
+        Ok(value) => {
+            let key = key.deserialize_unplaced(alloc)?;
+            Ok((key, value))
+        }
+        Err(error) => Err(refused_value::<K>(alloc, key, error)),
+    }
+}
+
+/// The error of an entry whose value was refused with this one: that of its key, if that is refused
+/// too.
+#[cold]
+#[inline(never)]
+fn refused_value<'de, 'n: 'de, K: Deserialize<'de>>(
+    alloc: Global,
+    key: Deserializer<'de, 'n>,
+    error: Error,
+) -> Error
+    ensures { cause result ≢ out_of_memory
+        → first_of (K.refusal (subject key.entry)) (Some (cause error)) ≡ Some (cause result) }
+{
+    let error = key.error_under(alloc, error);
+    match key.deserialize_unplaced::<K>(alloc) {
+        Ok(_key) => error,
+        Err(of_key) => of_key,
+    }
+}
+
+/// The error under this name; without a path where there was no memory for the name.
+fn at_text(alloc: Global, error: Error, name: std::result::Result<String, AllocError>) -> Error
+    ensures { cause result ≡ cause error }
+{
+    match name {
+        Ok(name) => error.at_name(alloc, name.as_str()),
+        Err(_) => error.at_unknown(),
+    }
+}
+
+/// A number in decimal.
+fn decimal(alloc: Global, number: Number) -> std::result::Result<String, AllocError> {
+    match number.as_i128() {
+        Some(small) => format!(in alloc; "{small}"),
+        None => format!(in alloc; "{}", number.as_u128().unwrap_or(u128::MAX)),
+    }
+}
