@@ -1,6 +1,6 @@
 #!/usr/bin/env bash
 # checks/located.sh [--write]: compares the paths at which the cases of crates/check_callers/src/tests/located.rt are refused,
-# and those that Serde's derives and serde_path_to_error give, with the page checks/located/paths.md, or writes them there. It
+# and those that Serde's derives and serde_path_to_error give, with the table checks/located/paths.tsv, or writes them there. It
 # stands outside the gate, proves and runs nothing of ours (the tests do), and takes half a minute. It needs cargo, python3 and
 # Debian's librust-serde-dev, librust-serde-derive-dev, librust-serde-json-dev and librust-serde-path-to-error-dev.
 set -euo pipefail
@@ -20,7 +20,7 @@ done
 python3 "$parts/located.py" cases "$cases" > "$room/cases"
 (cd "$room/driver" && cargo run --offline --quiet) < "$room/cases" > "$room/serde"
 version=$(sed -n '/name = "serde_path_to_error"/{n;s/.*"\(.*\)"/\1/p}' "$room/driver/Cargo.lock")
-python3 "$parts/located.py" page "$cases" "$room/serde" "$version" > "$room/paths.md"
-[ "${1-}" != --write ] || cp "$room/paths.md" "$parts/paths.md"
-diff "$parts/paths.md" "$room/paths.md"
-echo "of $(grep -c '| `' "$room/paths.md") paths $(grep -c '| the same |$' "$room/paths.md") are Serde's, the others as the page has them"
+python3 "$parts/located.py" table "$cases" "$room/serde" "$version" > "$room/paths.tsv"
+[ "${1-}" != --write ] || cp "$room/paths.tsv" "$parts/paths.tsv"
+diff "$parts/paths.tsv" "$room/paths.tsv"
+echo "of $(grep -c $'\t' "$room/paths.tsv") paths $(grep -c $'\tthe same$' "$room/paths.tsv") are Serde's, the others as the table has them"

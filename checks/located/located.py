@@ -1,7 +1,7 @@
-"""Stands between the cases of crates/check_callers/src/tests/located.rt, the page of their paths, and Serde.
+"""Takes the cases out of crates/check_callers/src/tests/located.rt, and compares their paths with Serde's.
 
-  located.py cases CASES.rt          prints each case as a line: the type, a tab, JSON
-  located.py page CASES.rt SERDE     prints the page, with Serde's path of each case out of the file SERDE
+  located.py cases CASES.rt                  prints each case as a line: the type, a tab, JSON
+  located.py table CASES.rt SERDE VERSION    prints the table, with Serde's path of each case out of the file SERDE
 """
 import json
 import re
@@ -16,11 +16,14 @@ WHOLE = re.compile(
     rf"check::<(?P<type>.+)>\(\s*&rt,\s*alloc,\s*value_of\(alloc, {TEXT}\)\?,\s*{TEXT},\s*text,?\s*\)"
 )
 
-HEAD = """# Paths of errors, here and in Serde
-
-A token of a depot is replaced, and the depot is refused at this path: in the tests of `crates/check_callers/src/tests/located.rt`, which have these cases, and in Serde by `serde_path_to_error` {version}. The type is that of `crates/check_derive/places.rs`, the depot JSON without double quotes. `checks/located.sh` compares both paths with this page, or with `--write` stores them here.
-
-Serde's path ends at what Serde buffers: a struct with an inlined one, if what is inlined is refused, and the variant of an enum that a field tells. It has `?` for a number that is a key, and leads to an unknown field, not to the struct.
+HEAD = """\
+# Paths of errors, here and in Serde: what checks/located.sh compares, or with --write stores. A line has four parts, with
+# tabs between: what is replaced in the depot, by what, the path at which the depot is refused then, and the path of
+# serde_path_to_error {version}. In the last part it is the type that is read, and from what. The type of the depot is in
+# crates/check_derive/places.rs; it is JSON without double quotes.
+# Serde's path ends at what Serde buffers: a struct with an inlined one, if what is inlined is refused, and the variant of
+# an enum that a field tells. It has `?` for a number that is a key, and leads to an unknown field, a refused key and an
+# unknown tag, not to what contains them.
 """
 
 
@@ -83,28 +86,24 @@ def lines_of(source: str):
         yield f"{match['type']}\t{written(tokens(unescaped(match[2])))}"
 
 
-def code(text: str) -> str:
-    return f"`` {text} ``" if "`" in text else f"`{text}`" if text else ""
-
-
-def page(source: str, serde, version: str):
+def table(source: str, serde, version: str):
     paths = iter(serde)
     if next(paths) != "none":
         sys.exit("located: Serde refuses the depot")
     yield HEAD.format(version=version)
     for what, cases in cases_of(source):
-        yield f"## {what}\n\n| Replaced | By | Path | Serde's |\n|---|---|---|---|"
+        yield f"# {what}"
         for token, others, path, _ in cases:
-            yield f"| {code(token)} | {code(others)} | {code(path)} | {told(path, next(paths))} |"
+            yield "\t".join((token, others, path, told(path, next(paths))))
         yield ""
-    yield "## Other types\n\n| Read as | From | Path | Serde's |\n|---|---|---|---|"
+    yield "# Other types"
     for match in WHOLE.finditer(source):
         value, path = unescaped(match[2]), unescaped(match[3])
-        yield f"| {code(match['type'])} | {code(value)} | {code(path)} | {told(path, next(paths))} |"
+        yield "\t".join((match["type"], value, path, told(path, next(paths))))
 
 
 def told(path: str, serde: str) -> str:
-    return "the same" if path == serde else "no JSON" if serde == "none" else code(serde) or "the whole value"
+    return "the same" if path == serde else "no JSON" if serde == "none" else serde or "the whole value"
 
 
 if __name__ == "__main__":
@@ -113,4 +112,4 @@ if __name__ == "__main__":
     if command == "cases":
         print(*lines_of(text), sep="\n")
     else:
-        print(*page(text, Path(rest[0]).read_text().split("\n")[:-1], rest[1]), sep="\n")
+        print(*table(text, Path(rest[0]).read_text().split("\n")[:-1], rest[1]), sep="\n")

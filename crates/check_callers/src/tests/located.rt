@@ -17,8 +17,9 @@ use std::collections::BTreeMap;
 use std::process::Abort;
 use std::test::Fail;
 
-/// A depot, as JSON without double quotes, whose tokens stand apart. A number or a character, in
-/// single quotes, may be a key; `null` is an absent option. Each token that a case replaces occurs once.
+/// A depot, as JSON without double quotes, with a space between tokens. A number or a character, in
+/// single quotes, may be a key; `null` is an absent option. Each token that a case replaces occurs
+/// once.
 const DEPOT: &str = "\
     { name: north, \
       home: { streetName: Mill, floor: 1 }, \
@@ -528,7 +529,7 @@ fn put(builder: &mut Builder<'static>, token: &str, is_item: bool) -> Answer<boo
     Ok(true)
 }
 
-/// The value of a text in which the other tokens stand in place of each that is this one.
+/// The value of a text, with the other tokens in place of each token that is this one.
 fn changed(alloc: Global, text: &str, token: &str, others: &str) -> Answer<Value<'static>> {
     let mut builder: Builder<'static> = Builder::new(alloc, false);
     let mut is_item = false;
