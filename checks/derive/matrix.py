@@ -88,6 +88,10 @@ def enums() -> Dict[str, str]:
     for count in (1, 2, 4, 6):
         body = ", ".join(f"V{i}({t})" for i, t in enumerate(untagged[:count]))
         made[f"untagged_{count}"] = f"{ALL}\n#[serde(untagged)]\npub enum Tried {{ {body} }}"
+    for sort, body in (("alone", "Null"), ("first", "Null, Number(i64), Text(String)"), ("last", "Pair(u8, String), Null"),
+                       ("among", "A(u8), B(bool), C(char), Null, D(String), E(i32, u8)")):
+        made[f"untagged_unit_{sort}"] = f"{ALL}\n#[serde(untagged)]\npub enum Tried {{ {body} }}"
+    made["untagged_unit_named"] = f"{BOTH}\n#[serde(untagged)]\npub enum Tried {{ A {{ x: u8 }}, Null, B(String) }}"
     made["untagged_places"] = f"{BOTH}\n#[serde(untagged)]\npub enum Tried {{ A(u8, String), B(bool, i32, u8), C(String) }}"
     return made
 

@@ -410,13 +410,13 @@ struct A(u8);
 struct A(u8, Größe, <u8 as X>::Y, *const u8, impl X, !, Vec<u8>::Item, m!(x), A<3>, A<{ 3 }>, Vec<'a>);
 
 // 3: A.X: of an enum that is tagged adjacently, only variants with no values and with one value are covered: hold a tuple or a struct of them
-// 6: B.X: of an untagged enum, only variants with values by name, and with one to four by place, are covered: hold `()`
+// 6: B.X: of an untagged enum, only variants with no values, with values by name, and with one to four by place, are covered: hold a struct of them
 #[derive(Serialize, Deserialize)]
 #[serde(tag = "t", content = "c")]
 enum A { X(u8, u8) }
 #[derive(Serialize, Deserialize)]
 #[serde(untagged)]
-enum B { X, Y { x: u8 } }
+enum B { X(u8, u8, u8, u8, u8), Y { x: u8 } }
 
 // 3: A: the name `a"b` is not covered: printable ASCII but " and \ is
 // 6: B: the name `\x00` is not covered: printable ASCII but " and \ is
@@ -601,8 +601,8 @@ struct B { x: u8 }
 enum A { B(u8) }
 
 // 3: A: `derive(Copy)` needs Clone: derive that too
-// 5: A.X: of an untagged enum, only variants with values by name, and with one to four by place, are covered: hold `()`
-// 6: A.Y: of an untagged enum, only variants with values by name, and with one to four by place, are covered: hold a struct of them
+// 5: A.X: what has no fields is covered without brackets alone: delete them
+// 6: A.Y: of an untagged enum, only variants with no values, with values by name, and with one to four by place, are covered: hold a struct of them
 // 7: A.Z.0: floats are not covered: hold a whole number of a smaller unit, or a String
 // 11: B: the tag and the content are both called `t`: give one of them another name
 // 13: B.X: of an enum that is tagged adjacently, only variants with no values and with one value are covered: hold a tuple or a struct of them
@@ -618,7 +618,7 @@ enum A { B(u8) }
 #[serde(untagged)]
 enum A {
     W(u8),
-    X,
+    X(),
     Y(u8, u8, u8, u8, u8),
     Z(f64),
 }

@@ -342,6 +342,13 @@ struct A { #[serde(skip_serializing_if = "Vec::is_empty")] x: Vec<u8> }
 #[derive(PartialEq, Eq, Serialize, Deserialize)]
 #[serde(untagged)] enum D { X(Option<u8>) }
 
+// 2: no RoundTrip is written for `A`: a value of `Y` may be read as `X`: tag the enum, or hold tuples of different lengths
+// + impl<'de> RoundTrip<'de> for B
+#[derive(PartialEq, Eq, Serialize, Deserialize)]
+#[serde(untagged)] enum A { X, Y }
+#[derive(PartialEq, Eq, Serialize, Deserialize)]
+#[serde(untagged)] enum B { X, Y(u8) }
+
 // 5: no RoundTrip is written for `B`: which values `A` in `X` takes is not known: hold a struct of this file with named fields, or a type of std's but Option
 // 7: no RoundTrip is written for `C`: which values `A` in `X` takes is not known: hold a struct of this file with named fields, or a type of std's but Option
 // + impl<'de> RoundTrip<'de> for A

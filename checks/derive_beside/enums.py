@@ -313,6 +313,8 @@ class Enums(Structs):
             self.check_buffer(source.tree)
         kept = source.buffered("kept")
         for variant in item.variants:
+            if variant.data.style == "Unit" and source.tree == NONE and ALIKE not in self.on:
+                return UNIT
             try:
                 return self.read(variant.held(), kept)
             except Refused:

@@ -473,3 +473,14 @@ pub enum Packed {
     Sparse(Sparse),
     Config(Config),
 }
+
+/// Values without a tag, of which two hold nothing.
+#[derive(Serialize, Deserialize)]
+#[serde(untagged)]
+pub enum Id {
+    Number(i64),
+    Null,
+    Text(String),
+    Pair(u8, Option<bool>),
+    Never,
+}

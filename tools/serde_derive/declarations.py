@@ -209,10 +209,12 @@ class Variant(Named):
         return any(f.type.name in SIGNED for f in self.data.fields)
 
     def held(self) -> Type:
-        """What a variant is read as, where its enum is untagged: one of values by name as a struct."""
+        """What a variant is read as, where its enum is untagged: one of values by name as a struct, one without as a unit."""
         if self.data.named:
             return Type(pascal(self.owner))
         types = tuple(f.type for f in self.data.fields)
+        if not types:
+            return Type("()")
         return types[0] if len(types) == 1 else Type("tuple", types)
 
 
@@ -310,6 +312,8 @@ class Item(Named):
         it does what they hold."""
         held = [f for v in self.variants if v.beside for f in v.beside.data.leaves()]
         held += [f for v in self.variants if not v.beside for f in v.data.leaves()] + self.data.leaves()
+        if "untagged" in self.serde and any(v.data.style == "Unit" for v in self.variants):
+            return False
         return self.comes_back() and not any(v.aliases() or "other" in v.serde for v in self.variants) and bool(
             self.variants or held) and all(
             f.type.comes_back_from_cbor() and not f.skips for f in held)

@@ -17,9 +17,9 @@ def check_untagged(item: Item) -> Iterator[Refused]:
         where, count = f"{item.name}.{v.name}", len(v.data.fields)
         if v.aliases() or "other" in v.serde or not (v.sent and v.read):
             yield Refused(v.line, "of an untagged enum no variant is skipped, or has another name: delete what says so", where)
-        elif not count or (count > 4 and not v.data.named):
-            yield Refused(v.line, "of an untagged enum, only variants with values by name, and with one to four by place, are"
-                          f" covered: hold {'a struct of them' if count else '`()`'}", where)
+        elif count > 4 and not v.data.named:
+            yield Refused(v.line, "of an untagged enum, only variants with no values, with values by name, and with one to four by"
+                          " place, are covered: hold a struct of them", where)
 
 
 class UntaggedWriter(EnumWriter):
@@ -66,6 +66,8 @@ class UntaggedWriter(EnumWriter):
         if v.data.named:
             return self.structs[v.name].holder.script(values)
         parts = [f"{f.type.member('Serialize', 'script')} {x}" for f, x in zip(v.data.fields, values)]
+        if not parts:
+            return f"{v.held().member('Serialize', 'script')} tt"
         return parts[0] if len(parts) == 1 else UntaggedWriter.tuple_script(parts)
 
     @staticmethod
@@ -76,13 +78,13 @@ class UntaggedWriter(EnumWriter):
     def lawful(self, v: Variant, values: List[str]) -> str:
         if v.data.named:
             return self.structs[v.name].holder.lawful(values)
-        laws = [f.type.lawful(x) for f, x in zip(v.data.fields, values)]
+        laws = [f.type.lawful(x) for f, x in zip(v.data.fields, values)] or [v.held().lawful("tt")]
         if len(laws) == 1:
             return laws[0]
         return "tuple_lawful" + nest([f"element_fits ({law})" for law in laws], "end_fits")
 
     def send(self, v: Variant) -> str:
-        places = v.data.places()
+        places = v.data.places() or ["()"]
         if len(places) == 1 and not v.data.named:
             return f"{places[0]}.serialize(alloc, serializer)"
         return f"{self.whole_name(v)}(alloc, serializer, self, {', '.join(places)})"
@@ -118,6 +120,8 @@ class UntaggedWriter(EnumWriter):
     @staticmethod
     def found(v: Variant) -> str:
         """What was read for a variant, as a pattern of its values."""
+        if not v.data.fields:
+            return "_"
         return v.data.made(v.held().name, v.data.places()) if v.data.named else together(v.data.places())
 
     def given(self, v: Variant) -> str:
@@ -142,11 +146,13 @@ class UntaggedWriter(EnumWriter):
         return f"{first.counts()} {second.counts()}"
 
     def back(self, v: Variant, holder: Holder, values: List[str]) -> str:
-        law = self.held(v, holder, values, [f.type.typed_back() for f in v.data.fields], "back", "parts_end", " (buffering f)")
+        laws = [f.type.typed_back() for f in v.data.fields] or [v.held().back()]
+        law = self.held(v, holder, values, laws, "back", "parts_end", " (buffering f)")
         return f"λ real f. such_seen (λ t one. {self.seen_as(v, 'one', 'in_buffer (tree_under f t)', 'f t')})\n{law}"
 
     def kept(self, v: Variant, holder: Holder, values: List[str]) -> str:
-        law = self.held(v, holder, values, [f.type.typed_kept() for f in v.data.fields], "kept", "parts_end_kept", "")
+        laws = [f.type.typed_kept() for f in v.data.fields] or [v.held().kept()]
+        law = self.held(v, holder, values, laws, "kept", "parts_end_kept", "")
         seen = self.seen_as(v, "(one fits true)", "in_buffer (read_in b (form t))", "(flags_in b) (form t)")
         return f"λ real. such_seen (λ t one fits b. {seen})\n{law}"
 
@@ -161,7 +167,7 @@ class UntaggedWriter(EnumWriter):
         asked = v.data.asked()
         real = ["tt" if f not in asked else "real" if len(asked) == 1 else f"real.{asked.index(f)}" for f in v.data.fields]
         if len(laws) == 1:
-            return f"({laws[0]}.of_value {values[0]} {real[0]}{flags})"
+            return f"({laws[0]}.of_value {together(values)} {real[0] if real else 'tt'}{flags})"
         parts = nest([f"element_{member} {law} {x} {r} {see} {len(laws)} {i}" for i, (law, x, r, see) in enumerate(
             zip(laws, values, real, self.sees(holder)))], f"({end} {len(laws)})")
         return f"(tuple_{member}{parts}\n{flags.lstrip()}{' ' * bool(flags)}(λ y h. h))"
@@ -174,6 +180,8 @@ class UntaggedWriter(EnumWriter):
             return pattern + f"taken_by_one {self.apart(read, sent)} refl {source} {self.taken('it', read)}.0 {one}.free"
         if at > first:
             return pattern + f"not_refused _ {one}.free it.{first}"
+        if not values:
+            return pattern + "refl"
         only = f"{one}.only {together(values)} {self.taken('it', read)}.1"
         return pattern + (only if len(values) == 1 else f"let same = {only} in {all_hold(facts(len(values), 'same'))}")
 
