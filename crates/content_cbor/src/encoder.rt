@@ -1,7 +1,7 @@
 //! A serialiser that writes bytes.
 
 ghost use Rattle.std.specs.Prelude.{◌≡◌, ◌++◌, Ok, Some, None, true, false, length};
-ghost use Rattle.std.specs.Prelude.{IsOk, if◌then◌else◌};
+ghost use Rattle.std.specs.Prelude.{IsOk, IsErr, if◌then◌else◌};
 ghost use Rattle.content_tree.specs.Errors.Kind.{kind_of};
 ghost use Rattle.content_tree.specs.Values.Tree as tree;
 ghost use Rattle.content_ser.specs.Calls.Call.{event_of};
@@ -271,13 +271,17 @@ impl Encoder {
         self.output.bytes
     }
 
-    /// From now on it has failed, for this cause.
-    fn fail(&mut self, cause: ErrorKind) -> Error
+    /// From now on it has failed, for this cause. It is seldom called, and so isn't inlined.
+    #[cold]
+    #[inline(never)]
+    fn fail(&mut self, cause: ErrorKind, error: &mut Error) -> Sent
         ensures state { self.new ≡ record { written = self.old.written; failed = true } }
-        ensures value { kind_of result ≡ cause }
+        ensures value { IsErr result }
+        ensures cause { kind_of error.new ≡ cause }
     {
         self.failed = true;
-        Error::from(cause)
+        *error = Error::from(cause);
+        Err(Aside)
     }
 }
 
@@ -315,15 +319,13 @@ impl Serializer for Encoder {
         ensures succeeds { TakenInPlace self.old (event_of call.entry) → IsOk result }
     {
         if self.failed {
-            *error = Error::from(ErrorKind::Failed);
-            return Err(Aside);
+            return self.fail(ErrorKind::Failed, error);
         }
         match self.output.write(&call) {
-            Ok(true) => return Ok(()),
-            Ok(false) => *error = self.fail(ErrorKind::Misplaced),
-            Err(AllocError) => *error = self.fail(ErrorKind::OutOfMemory),
+            Ok(true) => Ok(()),
+            Ok(false) => self.fail(ErrorKind::Misplaced, error),
+            Err(AllocError) => self.fail(ErrorKind::OutOfMemory, error),
         }
-        Err(Aside)
     }
 
     fn is_human_readable(&self) -> bool {

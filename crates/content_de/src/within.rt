@@ -1,6 +1,6 @@
-//! Reads what is inside something: a refusal there gets the place.
+//! Reads what something contains, and adds its place to the path of a refusal.
 
-ghost use Rattle.std.specs.Prelude.{◌≡◌, ◌≢◌, Some, IsOk};
+ghost use Rattle.std.specs.Prelude.{◌≡◌, ◌≢◌, Some, IsErrAnd, IsOk};
 ghost use Rattle.content_tree.specs.Errors.Cause.{out_of_memory};
 ghost use Rattle.content_de.specs.Outcomes.{cause};
 ghost use Rattle.content_de.specs.Sources.Deserializer.{subject};
@@ -31,13 +31,13 @@ impl<'de, 'n> Deserializer<'de, 'n> {
     {
         match T::deserialize(alloc, self) {
             Ok(value) => Ok(value),
-            Err(error) => Err(error.at_index(alloc, index)),
+            Err(error) => refused_at(alloc, error, index),
         }
     }
 
-    /// Reads a value of this type, which is the field, or what a variant of this name holds: the
-    /// [path](Error::path) of a refusal begins with the name. Only the type and a refusal take
-    /// memory.
+    /// Reads a value of this type, which is the field of this name, or what the variant of this
+    /// name holds: the [path](Error::path) of a refusal begins with the name. Only the type and a
+    /// refusal take memory.
     ///
     /// # Errors
     ///
@@ -52,7 +52,7 @@ impl<'de, 'n> Deserializer<'de, 'n> {
     {
         match T::deserialize(alloc, self) {
             Ok(value) => Ok(value),
-            Err(error) => Err(error.at_name(alloc, name)),
+            Err(error) => refused_under(alloc, error, name),
         }
     }
 
@@ -68,11 +68,11 @@ impl<'de, 'n> Deserializer<'de, 'n> {
     {
         match K::deserialize(alloc, self) {
             Ok(key) => Ok(key),
-            Err(error) => Err(error.at_whole()),
+            Err(error) => refused_whole(error),
         }
     }
 
-    /// The error of what has this key: that of the value under it, with the key added to its path.
+    /// The error of the value of this key, with the key put before its path.
     fn error_under(&self, alloc: Global, error: Error) -> Error
         ensures { cause result ≡ cause error }
     {
@@ -90,8 +90,38 @@ impl<'de, 'n> Deserializer<'de, 'n> {
     }
 }
 
-/// Reads an entry, its key and its value. The value is read first, while its key is still there to
-/// tell where it is.
+// Refusals are answered by functions that aren't inlined. An error that is made or moved in the same
+// function as a value makes that cost more instructions.
+
+/// The refusal, with this index in its path.
+#[cold]
+#[inline(never)]
+pub(crate) fn refused_at<R>(alloc: Global, error: Error, index: usize) -> Result<R>
+    ensures { IsErrAnd result (λ e. cause e ≡ cause error) }
+{
+    Err(error.at_index(alloc, index))
+}
+
+/// The refusal, with this name in its path.
+#[cold]
+#[inline(never)]
+fn refused_under<R>(alloc: Global, error: Error, name: &str) -> Result<R>
+    ensures { IsErrAnd result (λ e. cause e ≡ cause error) }
+{
+    Err(error.at_name(alloc, name))
+}
+
+/// The refusal, with the path of the whole.
+#[cold]
+#[inline(never)]
+fn refused_whole<R>(error: Error) -> Result<R>
+    ensures { IsErrAnd result (λ e. cause e ≡ cause error) }
+{
+    Err(error.at_whole())
+}
+
+/// Reads the key and the value of an entry. The value is read first: the path of its refusal needs
+/// the key.
 #[inline(always)]
 pub(crate) fn read_entry<'de, 'n: 'de, K: Deserialize<'de>, V: Deserialize<'de>>(
     alloc: Global,
@@ -109,30 +139,30 @@ pub(crate) fn read_entry<'de, 'n: 'de, K: Deserialize<'de>, V: Deserialize<'de>>
             let key = key.deserialize_unplaced(alloc)?;
             Ok((key, value))
         }
-        Err(error) => Err(refused_value::<K>(alloc, key, error)),
+        Err(error) => refused_value::<K, _>(alloc, key, error),
     }
 }
 
-/// The error of an entry whose value was refused with this one: that of its key, if that is refused
-/// too.
+/// The refusal of an entry whose value was refused with this error: that of its key, if that is
+/// refused too.
 #[cold]
 #[inline(never)]
-fn refused_value<'de, 'n: 'de, K: Deserialize<'de>>(
+pub(crate) fn refused_value<'de, 'n: 'de, K: Deserialize<'de>, R>(
     alloc: Global,
     key: Deserializer<'de, 'n>,
     error: Error,
-) -> Error
-    ensures { cause result ≢ out_of_memory
-        → first_of (K.refusal (subject key.entry)) (Some (cause error)) ≡ Some (cause result) }
+) -> Result<R>
+    ensures { IsErrAnd result (λ e. cause e ≢ out_of_memory
+        → first_of (K.refusal (subject key.entry)) (Some (cause error)) ≡ Some (cause e)) }
 {
     let error = key.error_under(alloc, error);
     match key.deserialize_unplaced::<K>(alloc) {
-        Ok(_key) => error,
-        Err(of_key) => of_key,
+        Ok(_key) => Err(error),
+        Err(of_key) => Err(of_key),
     }
 }
 
-/// The error under this name; without a path where there was no memory for the name.
+/// The error with this name put before its path; without a path if the name got no memory.
 fn at_text(alloc: Global, error: Error, name: std::result::Result<String, AllocError>) -> Error
     ensures { cause result ≡ cause error }
 {

@@ -10,6 +10,7 @@ ghost use Rattle.content_de.specs.Reads.Standard.{seq_refusal, SeqGives};
 use crate::deserialize::Deserialize;
 use crate::deserializer::Deserializer;
 use crate::seq::Seq;
+use crate::within::refused_at;
 use content_tree::Result;
 use std::alloc::Global;
 
@@ -61,8 +62,10 @@ fn read_items<'de, 'n: 'de, T: Deserialize<'de>>(
 {
     let mut items = Vec::with_capacity(alloc, from.size_hint().unwrap_or(0))?;
     while let Some(item) = from.next_deserializer() {
-        let index = items.len();
-        items.push_reserved(item.deserialize_item(alloc, index)?);
+        match T::deserialize(alloc, item) {
+            Ok(value) => items.push_reserved(value),
+            Err(error) => return refused_at(alloc, error, items.len()),
+        }
     }
     Ok(items)
 }

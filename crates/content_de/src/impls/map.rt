@@ -12,7 +12,7 @@ ghost use Rattle.content_de.specs.Reads.Maps.{map_refusal, MapGives, put_in};
 use crate::deserialize::Deserialize;
 use crate::deserializer::Deserializer;
 use crate::map::Map;
-use crate::within::read_entry;
+use crate::within::refused_value;
 use content_tree::Result;
 use std::alloc::{AllocError, Global};
 use std::cmp::Ordering;
@@ -43,7 +43,10 @@ fn read_entries<'de, 'n: 'de, K: Deserialize<'de> + Ord, V: Deserialize<'de>>(
 {
     let mut entries = Vec::with_capacity(alloc, from.size_hint().unwrap_or(0))?;
     while let Some(entry) = from.take_entry() {
-        entries.push_reserved(read_entry(alloc, entry.0, entry.1)?);
+        match V::deserialize(alloc, entry.1) {
+            Ok(value) => entries.push_reserved((entry.0.deserialize_unplaced(alloc)?, value)),
+            Err(error) => return refused_value::<K, _>(alloc, entry.0, error),
+        }
     }
     Ok(entries)
 }
