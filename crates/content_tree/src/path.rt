@@ -24,26 +24,26 @@ use std::alloc::Global;
 use std::fmt;
 use std::fmt::Display;
 
-/// The path to what was refused. It prints as a JSON Pointer (RFC 6901): `/servers/3/port`, and
-/// nothing for the whole value. [`NamedValue::pointer`](crate::NamedValue::pointer) follows it
-/// where each key is a text that no later key equals, and nothing is inside `Some` or a newtype
-/// struct.
+/// The path to what was refused. It prints as a JSON Pointer (RFC 6901), such as `/servers/3/port`;
+/// the path of the whole value prints nothing. [`NamedValue::pointer`](crate::NamedValue::pointer)
+/// can follow it if each key on it is a text that no later key equals, and it doesn't lead through
+/// `Some` or a newtype struct.
 #[derive(Drop)]
 pub struct Path<'e> {
     trail: &'e Trail,
 }
 
-/// An error with the path to what was refused, to be printed: what [`Error::located`] gives.
+/// An error that prints with its path. [`Error::located`] gives it.
 #[derive(Drop)]
 pub struct Located<'e> {
     error: &'e Error,
 }
 
 impl Error {
-    /// The path from the value that was read to what was refused in it, or to what holds that; none
-    /// where memory ran out as the path was kept. It takes no memory.
+    /// The path from the value that was read to what was refused, or to what contains that. It is
+    /// `None` if memory ran out while the path was made. This takes no memory.
     ///
-    /// `==`, the order and the printed text of an error go by its kind alone.
+    /// `==`, the order and the printed text of an error ignore the path.
     ///
     /// ```rust
     /// let error = Error::custom(alloc, "too many").at_index(alloc, 3).at_name(alloc, "servers");
@@ -59,7 +59,7 @@ impl Error {
         }
     }
 
-    /// The error with its path, to be printed: `servers[3].port: expected a string, found true`. It
+    /// The error as it prints with its path: `servers[3].port: expected a string, found true`. This
     /// takes no memory; what it is printed into may.
     pub fn located(&self) -> Located<'_>
         ensures { located_error result ≡ self.now }
@@ -67,8 +67,8 @@ impl Error {
         Located { error: self }
     }
 
-    /// The error of a sequence, a tuple or the like, in which this one was met at the item of this
-    /// index. It takes memory for the path, which is left out where that fails.
+    /// The same error, with this index put before its path: for an error of an item of a sequence,
+    /// a tuple or the like. The path takes memory; if there is none, the error has no path.
     #[cold]
     #[inline(never)]
     pub fn at_index(self, alloc: Global, index: usize) -> Error
@@ -79,9 +79,9 @@ impl Error {
         Error::at(kind, trail.in_item(alloc, index))
     }
 
-    /// The error of a struct, a map or an enum, in which this one was met under the field, the key
-    /// or the variant of this name. It takes memory for the path, which is left out where that
-    /// fails.
+    /// The same error, with this name put before its path: for an error of a field, of the value of
+    /// a key, or of what a variant holds. The path takes memory; if there is none, the error has no
+    /// path.
     #[cold]
     #[inline(never)]
     pub fn at_name(self, alloc: Global, name: &str) -> Error
@@ -92,7 +92,7 @@ impl Error {
         Error::at(kind, trail.in_named(alloc, name))
     }
 
-    /// The same error without a path, since it isn't known. It takes no memory.
+    /// The same error, without a path. It takes no memory.
     #[cold]
     #[inline(never)]
     pub fn at_unknown(self) -> Error
@@ -102,7 +102,7 @@ impl Error {
         Error::at(self.into_kind(), Trail::Unknown)
     }
 
-    /// The same error of the whole value, without the path inside. It takes no memory.
+    /// The same error, with the path of the whole value. It takes no memory.
     #[cold]
     #[inline(never)]
     pub fn at_whole(self) -> Error
@@ -150,7 +150,7 @@ fn write_path<W: fmt::Write>(steps: &Vec<Step>, f: &mut fmt::Formatter<W>) -> fm
     Ok(())
 }
 
-/// Writes a step as a JSON Pointer has it.
+/// Writes a step of a JSON Pointer.
 fn write_step<W: fmt::Write>(step: &Step, f: &mut fmt::Formatter<W>) -> fmt::Result
     ensures { WritesStyledOnOk W.write_str_gives f.old result
         (place_text (place_of step.now)) f.new }
@@ -177,7 +177,7 @@ fn write_part<W: fmt::Write>(name: &str, f: &mut fmt::Formatter<W>) -> fmt::Resu
     f.write_str(rest)
 }
 
-/// A byte that is escaped, as a part of a JSON Pointer has it.
+/// How a part of a JSON Pointer spells a byte that it escapes.
 fn escape(byte: u8) -> &'static str
     requires { is_special byte ≡ true }
     ensures { result.now ≡ escaped byte }
@@ -205,7 +205,7 @@ fn first_special(text: &str) -> Option<usize>
         .position(|byte| *byte == b'~' || *byte == b'/')
 }
 
-/// Writes where something was refused, if it is inside the value and known.
+/// Writes the path and a colon, unless the path is unknown or that of the whole value.
 #[tactic(auto, using(crate::proofs::Paths::where_inside, crate::proofs::Printing::two_writes))]
 fn write_where<W: fmt::Write>(trail: &Trail, f: &mut fmt::Formatter<W>) -> fmt::Result
     ensures { WritesStyledOnOk W.write_str_gives f.old result
@@ -220,7 +220,7 @@ fn write_where<W: fmt::Write>(trail: &Trail, f: &mut fmt::Formatter<W>) -> fmt::
     }
 }
 
-/// Writes steps as people do.
+/// Writes steps as in `servers[3].port`.
 fn write_readable<W: fmt::Write>(steps: &Vec<Step>, f: &mut fmt::Formatter<W>) -> fmt::Result
     ensures { WritesStyledOnOk W.write_str_gives f.old result
         (written_path [] (places_of steps.now.items)) f.new }
@@ -235,7 +235,7 @@ fn write_readable<W: fmt::Write>(steps: &Vec<Step>, f: &mut fmt::Formatter<W>) -
     Ok(())
 }
 
-/// Writes a step as people do: a word after this lead, all else between brackets.
+/// Writes a step: a word after this lead, an index or any other name in brackets.
 fn write_readable_step<W: fmt::Write>(
     lead: &str,
     step: &Step,
@@ -250,7 +250,7 @@ fn write_readable_step<W: fmt::Write>(
     }
 }
 
-/// Writes a name as people do.
+/// Writes a name: a word after this lead, any other in quotes and brackets.
 fn write_name<W: fmt::Write>(lead: &str, name: &str, f: &mut fmt::Formatter<W>) -> fmt::Result
     ensures { WritesStyledOnOk W.write_str_gives f.old result
         (written_place lead.now (under name.now)) f.new }
@@ -284,7 +284,7 @@ fn is_word_byte(byte: u8) -> bool
     byte.is_ascii_alphanumeric() || (byte == b'_' || byte == b'-')
 }
 
-/// Writes a kind of error, in short.
+/// Writes a kind of error, without the words that it begins with if something else was expected.
 fn write_short<W: fmt::Write>(kind: &ErrorKind, f: &mut fmt::Formatter<W>) -> fmt::Result
     ensures { WritesStyledOnOk W.write_str_gives f.old result (short_text kind.now) f.new }
 {

@@ -26,10 +26,10 @@ use std::result::Result as StdResult;
 
 impl<'a, 'n> NamedValue<'a, 'n> {
     /// Removes what a path leads to, as [`pointer`](NamedValue::pointer) follows it, and gives it:
-    /// an item of a sequence, which later ones move up after, or the last entry of a map whose key
-    /// is the last part. Nothing is removed where the path leads nowhere, nor from what has its
-    /// parts for good: a tuple, a struct, a variant. The empty path leads to the whole value, which
-    /// [`take`](NamedValue::take) gives. It takes no memory.
+    /// an item of a sequence, or the value of the last entry of a map whose key is the path's last
+    /// part. A tuple, a struct and a variant keep their parts, so nothing is removed from them. The
+    /// empty path removes nothing either: [`take`](NamedValue::take) gives the whole value. This
+    /// takes no memory.
     pub fn remove_pointer(&mut self, path: &str) -> Option<NamedValue<'a, 'n>>
         ensures { IsTakenOut (removed_at path.now (tree_of self.old)) (tree_of self.old)
             result (tree_of self.new) }

@@ -1,4 +1,4 @@
-//! The steps that lead to what was refused: kept with an error, and added from the inside out.
+//! The steps that lead to what was refused. An error keeps them, added from the inside out.
 
 ghost use Rattle.std.specs.Prelude.{◌≡◌, ◌∷◌, [], Some, IfOk, map};
 ghost use Rattle.content_tree.specs.Errors.Where.{place_of, trail_places, IsInside, IsKept};
@@ -6,7 +6,7 @@ ghost use Rattle.content_tree.specs.Errors.Where.{places_of, item, under};
 
 use std::alloc::{AllocError, Global};
 
-/// A step into a value.
+/// A step into a value: a `Place` in the words of contracts.
 #[derive(Drop)]
 pub(crate) enum Step {
     /// To the item of this index.
@@ -22,7 +22,7 @@ pub(crate) enum Trail {
     Here,
     /// These, the innermost first.
     Steps(Box<Vec<Step>>),
-    /// They are unknown: memory ran out as they were kept.
+    /// Unknown: memory ran out while they were kept.
     Unknown,
 }
 
@@ -46,14 +46,14 @@ impl Step {
 }
 
 impl Trail {
-    /// The trail from outside the item of this index.
+    /// This trail, with a step to the item of this index put before it.
     pub(crate) fn in_item(self, alloc: Global, index: usize) -> Trail
         ensures { IsInside (item index) (trail_places self) (trail_places result) }
     {
         self.after(alloc, Step::Index(index))
     }
 
-    /// The trail from outside what has this name.
+    /// This trail, with a step to this name put before it.
     pub(crate) fn in_named(self, alloc: Global, name: &str) -> Trail
         ensures { IsInside (under name.now) (trail_places self) (trail_places result) }
     {
@@ -63,7 +63,7 @@ impl Trail {
         }
     }
 
-    /// The trail after this step.
+    /// This trail, with this step put before it.
     fn after(self, alloc: Global, step: Step) -> Trail
         ensures { IsInside (place_of step) (trail_places self) (trail_places result) }
     {
@@ -84,7 +84,7 @@ impl Trail {
         Ok(Trail::Steps(Box::new(alloc, vec![in alloc; step]?)?))
     }
 
-    /// A copy; unknown where memory ran out.
+    /// A copy, or unknown if memory ran out.
     pub(crate) fn try_clone(&self, alloc: Global) -> Trail
         ensures { IsKept (trail_places self.now) (trail_places result) }
     {
@@ -96,7 +96,7 @@ impl Trail {
     }
 }
 
-/// A trail of a copy of steps.
+/// The trail of a copy of these steps.
 fn clone_trail(alloc: Global, steps: &Vec<Step>) -> Result<Trail, AllocError>
     ensures { IfOk result (λ trail. trail_places trail ≡ Some (places_of steps.now.items)) }
 {

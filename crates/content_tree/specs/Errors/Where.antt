@@ -8,7 +8,7 @@ use Rattle.content_tree.specs.declared.trail.Step.TheVariants as step
 use Rattle.content_tree.specs.declared.trail.Trail.{Trail}
 use Rattle.content_tree.specs.declared.trail.Trail.TheVariants.{Here, Steps, Unknown}
 
--- a step into a value: to the item of this index, or to what has this name
+-- a step into a value, a `Step` of the code: to the item of this index, or to what has this name
 pub data Place : Type 0 where
   item : ℕ → Place
   under : List ℕ → Place

@@ -36,12 +36,12 @@ is_word_byte c = is_ascii_alphanumeric c || (c == 95 || c == 45)
 abbrev pub is_word : List ℕ → Bool
 is_word text = not (length text == 0) && list_all is_word_byte text
 
--- a place as people write it: a word after a lead, and an index or any other name between brackets
+-- a place in a readable path: a word after this lead, an index or any other name in brackets
 abbrev pub written_place : List ℕ → Place → List ℕ
 written_place lead (item n) = codes "[" ++ (decimal n ++ codes "]")
 written_place lead (under text) = if is_word text then lead ++ text else codes "[" ++ (quoted text ++ codes "]")
 
--- a path as people write it, with this lead before the first place: `servers[3].port`
+-- a readable path, `servers[3].port`, with this lead before its first place if that is a word
 abbrev pub written_path : List ℕ → List Place → List ℕ
 written_path lead [] = []
 written_path lead (place ∷ inner) = written_place lead place ++ written_path (codes ".") inner
