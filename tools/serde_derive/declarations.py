@@ -312,6 +312,7 @@ class Item(Named):
         it does what they hold."""
         held = [f for v in self.variants if v.beside for f in v.beside.data.leaves()]
         held += [f for v in self.variants if not v.beside for f in v.data.leaves()] + self.data.leaves()
+        # an untagged variant without values is sent as the unit, which CBOR makes null
         if "untagged" in self.serde and any(v.data.style == "Unit" for v in self.variants):
             return False
         return self.comes_back() and not any(v.aliases() or "other" in v.serde for v in self.variants) and bool(

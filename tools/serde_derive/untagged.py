@@ -23,7 +23,7 @@ def check_untagged(item: Item) -> Iterator[Refused]:
 
 
 class UntaggedWriter(EnumWriter):
-    """The impls of an untagged enum, whose variants hold values by place."""
+    """The impls of an untagged enum, whose variants hold nothing, or values by place or by name."""
 
     def __init__(self, item: Item):
         super().__init__(item)

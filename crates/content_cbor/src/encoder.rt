@@ -271,7 +271,7 @@ impl Encoder {
         self.output.bytes
     }
 
-    /// From now on it has failed, for this cause. It is seldom called, and so isn't inlined.
+    /// Marks it as failed, and answers an error of this cause. It is seldom called, so it isn't inlined.
     #[cold]
     #[inline(never)]
     fn fail(&mut self, cause: ErrorKind, error: &mut Error) -> Sent

@@ -54,9 +54,9 @@ impl<'de, 'n> Seq<'de, 'n> {
         Some(self.items.len())
     }
 
-    /// Gives the next item, to be read under the flags of the sequence, or none at the end. Read by
-    /// [`Deserializer::deserialize_item`], a refusal of it has the index in its path. This takes no
-    /// memory.
+    /// Gives the next item, to be read under the flags of the sequence, or none at the end. If
+    /// [`Deserializer::deserialize_item`] reads it, the path of a refusal has its index. This takes
+    /// no memory.
     pub fn next_deserializer(&mut self) -> Option<Deserializer<'de, 'n>>
         ensures value { option_map subject result ≡ first_item (seq_view self.old) }
         ensures rest { seq_view self.new ≡ after_item (seq_view self.old) }

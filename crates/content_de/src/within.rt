@@ -90,8 +90,8 @@ impl<'de, 'n> Deserializer<'de, 'n> {
     }
 }
 
-// Refusals are answered by functions that aren't inlined. An error that is made or moved in the same
-// function as a value makes that cost more instructions.
+// Refusals are answered by functions that aren't inlined: a function that also makes or moves an
+// error takes more instructions to give a value.
 
 /// The refusal, with this index in its path.
 #[cold]
