@@ -1,6 +1,7 @@
 -- What each call does to a tape.
-use Rattle.std.proofs.Common.{◌≡◌, ℕ, suc, List, [], ◌∷◌, ◌++◌, Option, Some, None, Ok}
+use Rattle.std.proofs.Common.{◌≡◌, ℕ, suc, ◌+◌, List, [], ◌∷◌, ◌++◌, Option, Some, None, Ok}
 use Rattle.std.proofs.Common.{length, take, refl, sym, ap, subst, ◌∙◌, arith, get_or, append_assoc}
+use Rattle.std.proofs.Common.{length-append}
 use Rattle.std.proofs.Common.{Bool, true, false, cond, IfSome}
 use Rattle.std.proofs.Math.ListN.{set}
 use Rattle.std.proofs.lemmas.List.{length-map, length-reverse}
@@ -18,11 +19,12 @@ use Rattle.content_build.specs.Inner.Cells as cells
 use Rattle.content_build.specs.Inner.Cells.{Label, Cell, cell, Wait, Open, opened, flat}
 use Rattle.content_build.specs.Inner.Cells.{flat_fields, slots_cells, slots_opens}
 use Rattle.content_build.specs.Inner.Cells.{slot_wait, wrap_label, series_label, record_label, Stood}
-use Rattle.content_build.specs.Inner.Frames.{frame_view, label_view, wait_view, cells_of}
+use Rattle.content_build.specs.Inner.Cells.{Waiting}
+use Rattle.content_build.specs.Inner.Frames.{frame_view, label_view, wait_view, open_view, cells_of}
 use Rattle.content_build.specs.Inner.Frames.{opens_view}
 use Rattle.content_build.specs.Inner.Sound.{meaning, IsSound, Stands, IsWaiting, IsKept, viewed}
 use Rattle.content_build.specs.Inner.Taken.{TakenTo, TakesStep, TakesToken}
-use Rattle.content_build.specs.Inner.Steps.{IsDue, IsIdle, Opens}
+use Rattle.content_build.specs.Inner.Steps.{Fills, IsDue, IsIdle, Opens}
 use Rattle.content_build.specs.declared.frame.Frame.{Frame}
 use Rattle.content_build.specs.declared.frame.Opening.{Opening}
 use Rattle.content_build.proofs.Algebra.{slot_waits}
@@ -44,6 +46,41 @@ pub waiting_whole : (ps : List Slot) (es new : List Frame) (hs : List Opening) (
     → IsWaiting new hs ps t
 waiting_whole ps es new hs e t w l one n =
     (ap cells_of n ∙ (cells-push es e ∙ (ap (λ x. x ++ frame_view e ∷ []) w.0 ∙ ap (λ x. slots_cells ps ++ x) (ap (λ x. cell (label_view e.label) x ∷ []) one ∙ l))), w.1)
+
+idle_compound : (c : Compound) → IsIdle (cells.compound_wait c)
+idle_compound (partial.in_series r ts) = tt
+idle_compound (partial.in_map prs) = tt
+idle_compound (partial.in_record h fs) = tt
+
+-- where the innermost opening waits for a tree, slots wait for it
+busy_slots : (s : Partial) (cs : List Cell) (at last : ℕ) (w : Wait) (os : List Open) → (IsIdle w → ⊥) → Stood cs (opened at last w ∷ os) s → (ps : List Slot) × (s ≡ due ps)
+busy_slots (due ps) cs at last w os b (c, o) = (ps, refl)
+busy_slots (between k ps) cs at last w os b (c, o) = let e : cells.compound_wait k ≡ w = cc in absurd (b (subst IsIdle e (idle_compound k)))
+busy_slots (done t) cs at last w os b (c, o) = absurd (cc)
+
+-- an opening that waits for an item is filled by a leaf that is not at the end of the tape yet
+pub filled : (es : List Frame) (hs : List Opening) (n : ℕ) (h new : Opening) (w : Wait) → suc n ≡ length hs → h ≡ get_or hs n h → wait_view h.waits ≡ w → (IsIdle w → ⊥) → IsSound es hs
+    → ((ps : List Slot) (t : Tree) (cs : List Cell) → length cs ≡ length es + 1 → Waiting cs (opened h.at h.last w ∷ opens_view (take n hs)) ps t → Stood cs (open_view new ∷ opens_view (take n hs)) (fill ps t))
+    → Fills es hs (set hs n new)
+filled es hs n h new w l here was busy sound arm =
+    let o : opens_view hs ≡ opened h.at h.last w ∷ opens_view (take n hs) = opens-last hs n h l here ∙ ap (λ x. opened h.at h.last x ∷ opens_view (take n hs)) was in
+    let (ps, e) = busy_slots (meaning es hs) (cells_of es) h.at h.last w (opens_view (take n hs)) busy (sound.0, sym o ∙ sound.1) in
+    let stands : Stands es hs (due ps) = subst (Stands es hs) e sound in (
+      ps,
+      e,
+      λ t one.
+          let size : length (cells_of es ++ flat t) ≡ length es + 1 = length-append (cells_of es) (flat t) ∙ omega (arith, length-cells es, one) in
+          let st = arm ps t (cells_of es ++ flat t) size (ap (λ x. x ++ flat t) stands.0, sym o ∙ stands.1) in
+          (st.0, opens-set hs n new l ∙ st.1),
+    )
+
+-- a leaf that fills them is at the end of the tape
+pub took_leaf : (es after : List Frame) (old new : List Opening) (e : Frame) (t : Tree) → Fills es old new → cell (label_view e.label) 1 ∷ [] ≡ flat t → e.size ≡ 1 → after ≡ es ++ e ∷ []
+    → TakenTo (step_token (meaning es old) (token.leaf t)) (Ok tt) after new
+took_leaf es after old new e t (ps, is, fills) l one n =
+    let st = fills t (sym (ap length l)) in
+    subst (λ s. TakenTo (step_token s (token.leaf t)) (Ok tt) after new) (sym is)
+    (ap cells_of n ∙ (cells-push es e ∙ (ap (λ x. cells_of es ++ x) (ap (λ x. cell (label_view e.label) x ∷ []) one ∙ l) ∙ st.0)), st.1)
 
 -- a tree where none is due
 pub late_leaf : (s : Partial) (t : Tree) → (IsDue s → ⊥) → step_token s (token.leaf t) ≡ None

@@ -1,13 +1,13 @@
 //! Calls on the frames and the openings of a tape.
 
-ghost use Rattle.std.specs.Prelude.{◌≡◌, ◌↔◌, ◌∷◌, [], IsTrue, IfOk, Some};
+ghost use Rattle.std.specs.Prelude.{◌≡◌, ◌↔◌, ◌∷◌, [], IsTrue, IsFalse, IfOk, Some};
 ghost use Rattle.content_ser.specs.Calls.Head.{head_of};
 ghost use Rattle.content_ser.specs.Grammar.Token as token;
 ghost use Rattle.content_build.specs.Partial.{step_token};
 ghost use Rattle.content_build.specs.Inner.Cells.{cell, flat};
 ghost use Rattle.content_build.specs.Inner.Frames.{label_view, wait_view};
 ghost use Rattle.content_build.specs.Inner.Sound.{meaning, IsSound};
-ghost use Rattle.content_build.specs.Inner.Steps.{IsDue, IsIdle, Opens};
+ghost use Rattle.content_build.specs.Inner.Steps.{Fills, IsDue, IsIdle, Opens};
 ghost use Rattle.content_build.specs.Inner.Taken.{TakenTo};
 ghost use Rattle.content_build.specs.Inner.Tokens.{item_call_view, leaf_tree, token_view};
 
@@ -62,9 +62,71 @@ fn whole_label(alloc: Global, leaf: LeafCall<'_>) -> Result<Label, AllocError>
     }
 }
 
+/// Where an item waits for a tree, which is what most trees come to, its opening is changed before
+/// the tree is there. It says whether one did: if not, nothing is changed.
+#[inline(always)]
+fn fill_item(frames: &Vec<Frame>, openings: &mut Vec<Opening>) -> bool
+    requires { IsSound frames.now.items openings.old.items }
+    ensures filled { IsTrue result
+        → Fills frames.now.items openings.old.items openings.new.items }
+    ensures unfilled { IsFalse result → openings.new.items ≡ openings.old.items }
+{
+    let count = openings.len();
+    if count == 0 {
+        return false;
+    }
+    let opening = &mut openings[count - 1];
+    match opening.waits {
+        Waits::Element => {
+            opening.waits = Waits::InElements;
+            true
+        }
+        Waits::TupleField => {
+            opening.waits = Waits::InTupleFields;
+            true
+        }
+        Waits::Field => {
+            opening.waits = Waits::InRecord;
+            true
+        }
+        Waits::EntryKey => {
+            opening.last = frames.len() + 1;
+            opening.waits = Waits::EntryValue;
+            true
+        }
+        Waits::EntryValue => {
+            opening.waits = Waits::InMap;
+            true
+        }
+        _ => false,
+    }
+}
+
 /// A call whose tree is whole.
 #[inline(always)]
 fn put(
+    alloc: Global,
+    frames: &mut Vec<Frame>,
+    openings: &mut Vec<Opening>,
+    leaf: LeafCall<'_>,
+) -> Taken
+    requires { IsSound frames.old.items openings.old.items }
+    ensures { TakenTo
+        (step_token (meaning frames.old.items openings.old.items)
+        (token.leaf (leaf_tree leaf.entry)))
+        result frames.new.items openings.new.items }
+{
+    if !fill_item(frames, openings) {
+        return put_anywhere(alloc, frames, openings, leaf);
+    }
+    let label = whole_label(alloc, leaf)?;
+    push_one(frames, Frame { label, size: 1 })?;
+    Ok(())
+}
+
+/// The same whatever the innermost opening waits for. It is less often done, and so isn't inlined.
+#[inline(never)]
+fn put_anywhere(
     alloc: Global,
     frames: &mut Vec<Frame>,
     openings: &mut Vec<Opening>,

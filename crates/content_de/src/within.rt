@@ -68,7 +68,7 @@ impl<'de, 'n> Deserializer<'de, 'n> {
     {
         match K::deserialize(alloc, self) {
             Ok(key) => Ok(key),
-            Err(error) => refused_whole(error),
+            Err(error) => Err(error.at_whole()),
         }
     }
 
@@ -111,15 +111,6 @@ fn refused_under<R>(alloc: Global, error: Error, name: &str) -> Result<R>
     Err(error.at_name(alloc, name))
 }
 
-/// The refusal, with the path of the whole.
-#[cold]
-#[inline(never)]
-fn refused_whole<R>(error: Error) -> Result<R>
-    ensures { IsErrAnd result (λ e. cause e ≡ cause error) }
-{
-    Err(error.at_whole())
-}
-
 /// Reads the key and the value of an entry. The value is read first: the path of its refusal needs
 /// the key.
 #[inline(always)]
@@ -139,26 +130,26 @@ pub(crate) fn read_entry<'de, 'n: 'de, K: Deserialize<'de>, V: Deserialize<'de>>
             let key = key.deserialize_unplaced(alloc)?;
             Ok((key, value))
         }
-        Err(error) => refused_value::<K, _>(alloc, key, error),
+        Err(error) => Err(refused_value::<K>(alloc, key, error)),
     }
 }
 
-/// The refusal of an entry whose value was refused with this error: that of its key, if that is
-/// refused too.
+/// The error of an entry whose value was refused with this one: that of its key, if that is refused
+/// too.
 #[cold]
 #[inline(never)]
-pub(crate) fn refused_value<'de, 'n: 'de, K: Deserialize<'de>, R>(
+pub(crate) fn refused_value<'de, 'n: 'de, K: Deserialize<'de>>(
     alloc: Global,
     key: Deserializer<'de, 'n>,
     error: Error,
-) -> Result<R>
-    ensures { IsErrAnd result (λ e. cause e ≢ out_of_memory
-        → first_of (K.refusal (subject key.entry)) (Some (cause error)) ≡ Some (cause e)) }
+) -> Error
+    ensures { cause result ≢ out_of_memory
+        → first_of (K.refusal (subject key.entry)) (Some (cause error)) ≡ Some (cause result) }
 {
     let error = key.error_under(alloc, error);
     match key.deserialize_unplaced::<K>(alloc) {
-        Ok(_key) => Err(error),
-        Err(of_key) => Err(of_key),
+        Ok(_key) => error,
+        Err(of_key) => of_key,
     }
 }
 

@@ -46,7 +46,7 @@ fn read_entries<'de, 'n: 'de, K: Deserialize<'de> + Ord, V: Deserialize<'de>>(
         // The value is read first: the path of its refusal needs the key.
         match V::deserialize(alloc, entry.1) {
             Ok(value) => entries.push_reserved((entry.0.deserialize_unplaced(alloc)?, value)),
-            Err(error) => return refused_value::<K, _>(alloc, entry.0, error),
+            Err(error) => return Err(refused_value::<K>(alloc, entry.0, error)),
         }
     }
     Ok(entries)
