@@ -2,10 +2,12 @@
 
 use crate::answer::Answer;
 use crate::deserializer::{write_handed, write_inside};
+use crate::failure::Failure;
 use crate::flags::{Flags, flags_word};
-use crate::show::{write_comma, write_text};
+use crate::order::equals;
+use crate::show::{write_comma, write_quoted};
 use serde_content::de::{EnumAccess, Map, Node, Seq, VariantAccess};
-use serde_content::{CowStr, Deserializer, Error, ErrorKind, Expected, Found, Result};
+use serde_content::{Deserializer, ErrorKind, Expected, Found, NamedValue, Result};
 use std::alloc::Global;
 
 /// Adds the opening of an access with these flags.
@@ -17,112 +19,108 @@ fn write_opening(out: &mut Answer, word: &str, flags: Flags) {
 }
 
 /// Adds the items of a sequence.
-pub fn write_seq(out: &mut Answer, flags: Flags, mut items: Seq<'_, 'static>) -> Result<()> {
-    write_opening(out, "seq", flags);
-    for place in 0..usize::MAX {
-        let Some(item) = items.next_deserializer() else {
-            break;
-        };
-        write_comma(out, place);
-        write_inside(out, flags, item)?;
+pub fn write_seq(out: &mut Answer, flags: Flags, items: Result<Seq<'_, 'static>>) {
+    if let Some(mut items) = out.given(items) {
+        write_opening(out, "seq", flags);
+        for place in 0..usize::MAX {
+            let Some(item) = items.next_deserializer() else {
+                break;
+            };
+            write_comma(out, place);
+            write_inside(out, flags, item);
+        }
+        out.push(')');
     }
-    out.push(')');
-    Ok(())
 }
 
 /// Adds the entries of a map, of each its key and then its value.
-pub fn write_map(out: &mut Answer, flags: Flags, mut entries: Map<'_, 'static>) -> Result<()> {
-    write_opening(out, "map", flags);
-    for place in 0..usize::MAX {
-        if !write_entry(out, flags, place, &mut entries)? {
-            break;
+pub fn write_map(out: &mut Answer, flags: Flags, entries: Result<Map<'_, 'static>>) {
+    if let Some(mut entries) = out.given(entries) {
+        write_opening(out, "map", flags);
+        for place in 0..usize::MAX {
+            let key = entries.next_key_deserializer(out.alloc());
+            let Some(key) = out.given(key).flatten() else {
+                break;
+            };
+            write_comma(out, place);
+            write_inside(out, flags, key);
+            write_value(out, flags, &mut entries);
         }
+        out.push(')');
     }
-    out.push(')');
-    Ok(())
 }
 
-/// Adds the next entry of a map, and says whether there is one.
-fn write_entry(
-    out: &mut Answer,
-    flags: Flags,
-    place: usize,
-    entries: &mut Map<'_, 'static>,
-) -> Result<bool> {
-    let Some(key) = entries.next_key_deserializer(out.alloc())? else {
-        return Ok(false);
-    };
-    write_comma(out, place);
-    write_inside(out, flags, key)?;
-    out.push_str(" => ");
-    write_inside(out, flags, entries.next_value_deserializer(out.alloc())?)?;
-    Ok(true)
+/// Adds the value of the entry whose key was read.
+fn write_value(out: &mut Answer, flags: Flags, entries: &mut Map<'_, 'static>) {
+    let value = entries.next_value_deserializer(out.alloc());
+    if let Some(value) = out.given(value) {
+        out.push_str(" => ");
+        write_inside(out, flags, value);
+    }
 }
 
 /// The variant that a node is.
-fn enum_of<'de>(node: Node<'de, 'static>) -> Option<EnumAccess<'de, 'static>> {
+fn enum_of<'de>(out: &mut Answer, node: Node<'de, 'static>) -> Option<EnumAccess<'de, 'static>> {
     match node {
         Node::Enum(access) => Some(access),
-        _ => None,
+        _ => {
+            out.fail(Failure::NoRow);
+            None
+        }
     }
 }
 
 /// The variant that is there: requested under a name, or as whatever is there.
 fn request_enum<'de>(
-    alloc: Global,
+    out: &mut Answer,
     from: Deserializer<'de, 'static>,
     name: Option<&'static str>,
-) -> Result<Option<EnumAccess<'de, 'static>>> {
+) -> Option<EnumAccess<'de, 'static>> {
+    let alloc = out.alloc();
     match name {
-        Some(name) => from.deserialize_enum(alloc, name, &[]).map(Some),
-        None => from.deserialize_any(alloc).map(enum_of),
+        Some(name) => out.given(from.deserialize_enum(alloc, name, &[])),
+        None => {
+            let node = out.given(from.deserialize_any(alloc))?;
+            enum_of(out, node)
+        }
     }
 }
 
 /// The tag of the variant that is there, and what it holds.
-fn open<'de>(
-    alloc: Global,
-    from: &Deserializer<'de, 'static>,
+pub fn open<'de>(
+    out: &mut Answer,
+    from: Deserializer<'de, 'static>,
     name: Option<&'static str>,
-) -> Result<Option<(Deserializer<'de, 'static>, VariantAccess<'de, 'static>)>> {
-    match request_enum(alloc, from.try_clone(alloc)?, name)? {
-        Some(access) => access.variant_deserializer(alloc).map(Some),
-        None => Ok(None),
-    }
+) -> Option<(Deserializer<'de, 'static>, VariantAccess<'de, 'static>)> {
+    let access = request_enum(out, from, name)?;
+    out.given(access.variant_deserializer(out.alloc()))
 }
 
-/// The tag of the variant that is there.
-fn tag_of<'de>(
-    alloc: Global,
+/// The same of a copy.
+fn open_copy<'de>(
+    out: &mut Answer,
     from: &Deserializer<'de, 'static>,
     name: Option<&'static str>,
-) -> Result<Option<Deserializer<'de, 'static>>> {
-    match open(alloc, from, name)? {
-        Some((tag, _held)) => Ok(Some(tag)),
-        None => Ok(None),
+) -> Option<(Deserializer<'de, 'static>, VariantAccess<'de, 'static>)> {
+    let copy = out.given(from.try_clone(out.alloc()))?;
+    open(out, copy, name)
+}
+
+/// Adds the tag of the variant that is there.
+fn write_tag(out: &mut Answer, from: &Deserializer<'_, 'static>, name: Option<&'static str>) {
+    if let Some((tag, _held)) = open_copy(out, from, name) {
+        write_handed(out, tag);
     }
 }
 
 /// What the variant that is there holds.
 fn variant_of<'de>(
-    alloc: Global,
+    out: &mut Answer,
     from: &Deserializer<'de, 'static>,
     name: Option<&'static str>,
-) -> Result<Option<VariantAccess<'de, 'static>>> {
-    match open(alloc, from, name)? {
-        Some((_tag, variant)) => Ok(Some(variant)),
-        None => Ok(None),
-    }
-}
-
-/// The same, twice.
-fn variants_of<'de>(
-    alloc: Global,
-    from: &Deserializer<'de, 'static>,
-    name: Option<&'static str>,
-) -> Result<Option<(VariantAccess<'de, 'static>, VariantAccess<'de, 'static>)>> {
-    let variant = variant_of(alloc, from, name)?;
-    Ok(variant.zip(variant_of(alloc, from, name)?))
+) -> Option<VariantAccess<'de, 'static>> {
+    let (_tag, variant) = open_copy(out, from, name)?;
+    Some(variant)
 }
 
 /// What a variant answers when it is asked for another sort than its own. After that comes what a
@@ -138,44 +136,26 @@ fn refusal_of<'de>(
     }
 }
 
-/// What was found, and the name of the enum that was expected.
-fn told_by(refusal: Result<()>) -> Result<Option<(Found, String)>> {
-    let Err(error) = refusal else {
-        return Ok(None);
-    };
-    match error.into_kind() {
-        ErrorKind::OutOfMemory => Err(Error::from(ErrorKind::OutOfMemory)),
-        ErrorKind::Unexpected { found, expected } => match expected {
-            Expected::Enum {
-                name: Some(name),
-                typ: _,
-            } => Ok(Some((found, name))),
-            _ => Ok(None),
-        },
-        _ => Ok(None),
-    }
-}
-
-/// What the refusal of a variant tells: what was found, the name of the enum that was expected, and
-/// what a newtype variant would hold, if it would.
-fn told<'de>(
-    alloc: Global,
-    from: &Deserializer<'de, 'static>,
-    name: Option<&'static str>,
-) -> Result<Option<(Found, String, Option<Deserializer<'de, 'static>>)>> {
-    let Some((variant, same)) = variants_of(alloc, from, name)? else {
-        return Ok(None);
-    };
-    let (refusal, inner) = refusal_of(alloc, variant, same);
-    let told = told_by(refusal)?;
-    Ok(told.map(|(found, expected)| (found, expected, inner)))
+/// The image of a tree.
+fn image_of(alloc: Global, tree: &NamedValue<'_, '_>) -> Result<Found> {
+    tree.try_clone(alloc)?.into_found(alloc)
 }
 
 /// Whether what is read has this image.
-fn has_image(alloc: Global, from: &Deserializer<'_, '_>, image: &Found) -> Result<bool> {
+fn has_image(out: &mut Answer, from: &Deserializer<'_, '_>, image: &Found) -> bool {
     match from.as_value() {
-        Some(tree) => Ok(tree.try_clone(alloc)?.into_found(alloc)? == *image),
-        None => Ok(false),
+        Some(tree) => match out.given(image_of(out.alloc(), tree)) {
+            Some(found) => equals(found, image),
+            None => false,
+        },
+        None => false,
+    }
+}
+
+/// Adds a copy of what is read inside an access with these flags.
+fn write_copy(out: &mut Answer, flags: Flags, from: &Deserializer<'_, 'static>) {
+    if let Some(copy) = out.given(from.try_clone(out.alloc())) {
+        write_inside(out, flags, copy);
     }
 }
 
@@ -187,56 +167,67 @@ fn write_held(
     found: &Found,
     inner: Option<&Deserializer<'_, 'static>>,
     node: &Deserializer<'_, 'static>,
-) -> Result<()> {
-    let alloc = out.alloc();
+) {
     if let Some(inner) = inner {
-        if has_image(alloc, inner, found)? {
+        if has_image(out, inner, found) {
             out.push_str("value ");
-            return write_inside(out, flags, inner.try_clone(alloc)?);
+            return write_copy(out, flags, inner);
         }
     }
     if matches!(found, Found::Unit) {
         out.push_str("nothing");
-        return Ok(());
-    }
-    out.push_str("enum ");
-    if has_image(alloc, node, found)? {
-        write_inside(out, flags, node.try_clone(alloc)?)
+    } else if has_image(out, node, found) {
+        out.push_str("enum ");
+        write_copy(out, flags, node);
     } else {
-        out.push_str("another tree");
-        Ok(())
+        out.push_str("enum another tree");
     }
 }
 
-/// Adds the name that errors say was expected, and the tag.
-fn write_tag(
+/// Adds the variant that was refused so: the name that the refusal says was expected, the tag, and
+/// what the variant holds, whose image it says was found.
+fn write_told(
     out: &mut Answer,
     flags: Flags,
-    expected: String,
-    tag: Deserializer<'_, 'static>,
-) -> Result<()> {
-    write_opening(out, "enum", flags);
-    write_text(out, 's', &CowStr::Owned(expected));
-    out.push_str("; ");
-    write_handed(out, tag)?;
-    out.push_str("; ");
-    Ok(())
+    from: &Deserializer<'_, 'static>,
+    name: Option<&'static str>,
+    refusal: &ErrorKind,
+    inner: Option<&Deserializer<'_, 'static>>,
+) {
+    match refusal {
+        ErrorKind::OutOfMemory => out.fail(Failure::OutOfMemory),
+        ErrorKind::Unexpected {
+            found,
+            expected: Expected::Enum {
+                name: Some(expected),
+                ..
+            },
+        } => {
+            write_opening(out, "enum", flags);
+            write_quoted(out, 'o', expected.as_str());
+            out.push_str("; ");
+            write_tag(out, from, name);
+            out.push_str("; ");
+            write_held(out, flags, found, inner, from);
+            out.push(')');
+        }
+        _ => out.fail(Failure::NoRow),
+    }
 }
 
-/// Adds the variant of an enum, requested under a name or as whatever is there: the name that
-/// errors say was expected, the tag, and what the variant holds.
+/// Adds the variant of an enum, requested under a name or as whatever is there.
 pub fn write_enum(
     out: &mut Answer,
     flags: Flags,
-    from: Deserializer<'_, 'static>,
+    from: &Deserializer<'_, 'static>,
     name: Option<&'static str>,
-) -> Result<()> {
-    let Some(tag) = tag_of(out.alloc(), &from, name)? else {
-        return out.no_row();
-    };
-    let Some((found, expected, inner)) = told(out.alloc(), &from, name)? else {
-        return out.no_row();
-    };
-    write_tag(out, flags, expected, tag)?;
-    write_held(out, flags, &found, inner.as_ref(), &from).map(|()| out.push(')'))
+) {
+    let variants = variant_of(out, from, name).zip(variant_of(out, from, name));
+    if let Some((variant, same)) = variants {
+        let (refusal, inner) = refusal_of(out.alloc(), variant, same);
+        match &refusal {
+            Err(error) => write_told(out, flags, from, name, error.kind(), inner.as_ref()),
+            Ok(()) => out.fail(Failure::NoRow),
+        }
+    }
 }

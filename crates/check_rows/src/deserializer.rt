@@ -3,7 +3,7 @@
 use crate::answer::Answer;
 use crate::flags::{Flags, flags_of, flags_word, with_flags};
 use crate::piece::{Pieces, take_if_word, take_mark, take_name, take_parsed};
-use crate::show::{write_text, write_value};
+use crate::show::{write_text, write_whole};
 use crate::tree::read_tree;
 use serde_content::{CowStr, Data, Deserializer, Enum, Result, Value};
 use std::alloc::Global;
@@ -51,47 +51,57 @@ fn index_of(alloc: Global, name: &Deserializer<'_, 'static>) -> Result<u64> {
 }
 
 /// Adds what reads a name: its text, and its index.
-fn write_name(out: &mut Answer, name: Deserializer<'_, 'static>) -> Result<()> {
-    let index = index_of(out.alloc(), &name)?;
-    let text = name.deserialize_str(out.alloc())?;
-    out.push_str("id(");
-    write_text(out, 's', &text);
-    out.print(format_args!(", {index})"));
-    Ok(())
+fn write_name(out: &mut Answer, name: Deserializer<'_, 'static>) {
+    let index = out.given(index_of(out.alloc(), &name)).unwrap_or(0);
+    if let Some(text) = out.given(name.deserialize_str(out.alloc())) {
+        out.push_str("id(");
+        write_text(out, 's', &text);
+        out.print(format_args!(", {index})"));
+    }
 }
 
-/// Adds flags, a colon and what is read.
-pub fn write_handed(out: &mut Answer, from: Deserializer<'_, 'static>) -> Result<()> {
-    let flags = flags_of(out.alloc(), &from)?;
+/// Adds flags and a colon.
+fn write_flags(out: &mut Answer, flags: Flags) {
     out.push_str(flags_word(flags));
     out.push(':');
-    write_source(out, from)
 }
 
 /// Adds what is read.
-fn write_source(out: &mut Answer, from: Deserializer<'_, 'static>) -> Result<()> {
+fn write_source(out: &mut Answer, from: Deserializer<'_, 'static>) {
     match from.into_value() {
-        Ok(tree) => write_value(out, tree),
+        Ok(tree) => write_whole(out, tree),
         Err(name) => write_name(out, name),
     }
 }
 
-/// Adds what is read inside an access with these flags, which come before it only where its own are
-/// others; a name is human readable.
-pub fn write_inside(out: &mut Answer, flags: Flags, from: Deserializer<'_, 'static>) -> Result<()> {
-    let own = flags_of(out.alloc(), &from)?;
-    let of_name = Flags {
-        human_readable: true,
-        coerces: flags.coerces,
-    };
-    let expected = if from.as_value().is_some() {
-        flags
-    } else {
-        of_name
-    };
-    if own == expected {
-        write_source(out, from)
-    } else {
-        write_handed(out, from)
+/// Adds flags, a colon and what is read.
+pub fn write_handed(out: &mut Answer, from: Deserializer<'_, 'static>) {
+    let flags = flags_of(out, &from);
+    write_flags(out, flags);
+    write_source(out, from);
+}
+
+/// The same of what the library handed out.
+pub fn write_handed_out(out: &mut Answer, given: Result<Deserializer<'_, 'static>>) {
+    if let Some(from) = out.given(given) {
+        write_handed(out, from);
     }
+}
+
+/// The flags of what is read inside an access with these flags; a name is human readable.
+fn flags_inside(flags: Flags, from: &Deserializer<'_, 'static>) -> Flags {
+    Flags {
+        human_readable: flags.human_readable || from.as_value().is_none(),
+        coerces: flags.coerces,
+    }
+}
+
+/// Adds what is read inside an access with these flags, which come before it only where its own are
+/// others.
+pub fn write_inside(out: &mut Answer, flags: Flags, from: Deserializer<'_, 'static>) {
+    let own = flags_of(out, &from);
+    if own != flags_inside(flags, &from) {
+        write_flags(out, own);
+    }
+    write_source(out, from);
 }

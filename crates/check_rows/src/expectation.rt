@@ -33,8 +33,14 @@ pub fn read_expected(pieces: &mut Pieces<'_>) -> Expected {
 /// A name and a type in brackets, each of which may be `-`.
 fn read_named(pieces: &mut Pieces<'_>) -> (Option<String>, Option<DataType>) {
     take_mark(pieces, b'(');
-    let name = (!take_if_word(pieces, "-")).then(|| take_text(pieces));
-    let typ = (!take_if_word(pieces, "-")).then(|| read_type(pieces));
+    let name = match take_if_word(pieces, "-") {
+        true => None,
+        false => Some(take_text(pieces)),
+    };
+    let typ = match take_if_word(pieces, "-") {
+        true => None,
+        false => Some(read_type(pieces)),
+    };
     take_mark(pieces, b')');
     (name, typ)
 }

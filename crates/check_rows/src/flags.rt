@@ -1,8 +1,9 @@
 //! Flags of a deserializer.
 
+use crate::answer::Answer;
+use crate::order::equals;
 use crate::piece::{Pieces, take_word};
-use serde_content::{Deserializer, Result};
-use std::alloc::Global;
+use serde_content::Deserializer;
 
 /// Flags of a deserializer.
 #[derive(Clone, Copy, Default, PartialEq, Eq)]
@@ -50,10 +51,13 @@ pub fn with_flags<'de, 'n>(mut from: Deserializer<'de, 'n>, flags: Flags) -> Des
 }
 
 /// The flags of a deserializer: numbers are coerced where it equals itself with numbers coerced.
-pub fn flags_of(alloc: Global, from: &Deserializer<'_, '_>) -> Result<Flags> {
-    let coerced = from.try_clone(alloc)?.coerce_numbers();
-    Ok(Flags {
+pub fn flags_of(out: &mut Answer, from: &Deserializer<'_, '_>) -> Flags {
+    let coerces = match out.given(from.try_clone(out.alloc())) {
+        Some(copy) => equals(copy.coerce_numbers(), from),
+        None => false,
+    };
+    Flags {
         human_readable: from.is_human_readable(),
-        coerces: *from == coerced,
-    })
+        coerces,
+    }
 }

@@ -15,46 +15,40 @@ mod stepping;
 
 use crate::answer::Answer;
 use crate::cursor::Cursor;
-use crate::failure::Failure;
+use crate::failure::{Failure, Result};
 use crate::piece::{Piece, Pieces, add_pieces};
-use crate::printable::write_refusal;
 use crate::quoted::take_rest;
-use serde_content::Result;
 use std::alloc::Global;
 
 /// The answer of an operation to its arguments, which tabs part. What is wrong with the arguments
 /// goes before what becomes of them.
-pub fn answer(alloc: Global, operation: &str, arguments: &str) -> crate::failure::Result<String> {
+pub fn answer(alloc: Global, operation: &str, arguments: &str) -> Result<String> {
     let mut out = Answer::new(alloc);
     let mut columns = Cursor::new(alloc, arguments.as_bytes());
-    if let Err(refused) = write_answer(&mut out, operation, &mut columns) {
-        out = Answer::new(alloc);
-        write_refusal(&mut out, "refused ", refused);
-    }
+    write_answer(&mut out, operation, &mut columns);
     columns.end()?;
     out.finish()
 }
 
 /// Adds the answer of an operation.
-fn write_answer(out: &mut Answer, operation: &str, columns: &mut Cursor<'_, u8>) -> Result<()> {
+fn write_answer(out: &mut Answer, operation: &str, columns: &mut Cursor<'_, u8>) {
     match operation {
         "builder" => building::builder(out, columns),
         "calls" => building::calls(out, columns),
         "calls_prefix" => building::calls_prefix(out, columns),
         "calls_within" => building::calls_within(out, columns),
         "compare_calls" => comparing::calls(out, columns),
-        "copy_calls" => return copying::calls(out, columns),
-        "record" => return sending::record(out, columns),
+        "copy_calls" => copying::calls(out, columns),
+        "record" => sending::record(out, columns),
         "refusal" => building::refusal(out, columns),
         "replay" => building::replay(out, columns),
-        _ => return write_columns(out, operation, columns),
+        _ => write_columns(out, operation, columns),
     }
-    Ok(())
 }
 
 /// The same for an operation whose arguments are read by pieces. A request, the steps of `access`
 /// and the type of `read` or `round_trip` are one word each.
-fn write_columns(out: &mut Answer, operation: &str, columns: &mut Cursor<'_, u8>) -> Result<()> {
+fn write_columns(out: &mut Answer, operation: &str, columns: &mut Cursor<'_, u8>) {
     let mut pieces = Vec::new(columns.alloc());
     for (place, column) in take_rest(columns).split('\t').enumerate() {
         match (operation, place) {
@@ -66,49 +60,45 @@ fn write_columns(out: &mut Answer, operation: &str, columns: &mut Cursor<'_, u8>
         }
     }
     let mut pieces = Cursor::new(columns.alloc(), pieces.as_slice());
-    let answered = write_of_pieces(out, operation, &mut pieces);
+    write_of_pieces(out, operation, &mut pieces);
     columns.note(pieces.end());
-    answered
 }
 
 /// The same of pieces.
-fn write_of_pieces(out: &mut Answer, operation: &str, pieces: &mut Pieces<'_>) -> Result<()> {
+fn write_of_pieces(out: &mut Answer, operation: &str, pieces: &mut Pieces<'_>) {
     match operation {
         "access" => stepping::access(out, pieces),
         "ask" => asking::ask(out, pieces),
+        "borrowed" => converting::borrowed(out, pieces),
         "canonical" => building::canonical(out, pieces),
+        "canonical_within" => building::canonical_within(out, pieces),
         "collect" => building::collect(out, pieces),
-        "copy" => copying::copy(out, pieces),
-        "copy_data" => copying::copy_data(out, pieces),
-        "copy_error" => copying::error(out, pieces),
-        "copy_expected" => copying::expected(out, pieces),
-        "copy_image" => copying::image(out, pieces),
-        "copy_image_data" => copying::image_data(out, pieces),
-        "copy_kind" => copying::kind(out, pieces),
-        "copy_parts" => copying::copy_parts(out, pieces),
         "enum" => asking::variant(out, pieces),
+        "error" => printing::error(out, pieces),
+        "expected" => printing::expected(out, pieces),
+        "from" => converting::from(out, pieces),
         "image" => printing::image(out, pieces),
         "into" => converting::into(out, pieces),
-        "own" => copying::own(out, pieces),
-        "own_data" => copying::own_data(out, pieces),
-        "own_parts" => copying::own_parts(out, pieces),
+        "kind" => printing::kind(out, pieces),
+        "number_from" => converting::number_from(out, pieces),
+        "part" => converting::part(out, pieces),
         "plain" => reading::plain(out, pieces),
+        "pretty" => printing::pretty(out, pieces),
         "read" => reading::read(out, pieces),
+        "readable" => building::readable(out, pieces),
         "round_trip" => returning::round_trip(out, pieces),
         "send" => sending::send(out, pieces),
         "send_as" => sending::send_as(out, pieces),
-        _ => {
-            write_surely(out, operation, pieces);
-            Ok(())
-        }
+        "type" => printing::typ(out, pieces),
+        "unexpected" => printing::unexpected(out, pieces),
+        "unexpected_part" => printing::unexpected_part(out, pieces),
+        _ => write_of_values(out, operation, pieces),
     }
 }
 
-/// The same for an operation that is never refused.
-fn write_surely(out: &mut Answer, operation: &str, pieces: &mut Pieces<'_>) {
+/// The same for an operation that looks into values, edits, copies or compares.
+fn write_of_values(out: &mut Answer, operation: &str, pieces: &mut Pieces<'_>) {
     match operation {
-        "borrowed" => converting::borrowed(out, pieces),
-        "canonical_within" => building::canonical_within(out, pieces),
         "compare" => comparing::values(out, pieces),
         "compare_data" => comparing::data(out, pieces),
         "compare_errors" => comparing::errors(out, pieces),
@@ -119,30 +109,30 @@ fn write_surely(out: &mut Answer, operation: &str, pieces: &mut Pieces<'_>) {
         "compare_parts" => comparing::parts(out, pieces),
         "compare_serializers" => comparing::serializers(out, pieces),
         "compare_types" => comparing::types(out, pieces),
-        "error" => printing::error(out, pieces),
-        "expected" => printing::expected(out, pieces),
-        "from" => converting::from(out, pieces),
+        "copy" => copying::copy(out, pieces),
+        "copy_data" => copying::copy_data(out, pieces),
+        "copy_error" => copying::error(out, pieces),
+        "copy_expected" => copying::expected(out, pieces),
+        "copy_image" => copying::image(out, pieces),
+        "copy_image_data" => copying::image_data(out, pieces),
+        "copy_kind" => copying::kind(out, pieces),
+        "copy_parts" => copying::copy_parts(out, pieces),
         "get" => looking::get(out, pieces),
         "get_index" => looking::get_index(out, pieces),
         "get_str" => looking::get_str(out, pieces),
         "insert" => editing::insert(out, pieces),
-        "kind" => printing::kind(out, pieces),
         "lend" => looking::lend(out, pieces),
-        "number_from" => converting::number_from(out, pieces),
         "order" => comparing::deserializers(out, pieces),
-        "part" => converting::part(out, pieces),
+        "own" => copying::own(out, pieces),
+        "own_data" => copying::own_data(out, pieces),
+        "own_parts" => copying::own_parts(out, pieces),
         "pointer" => looking::pointer(out, pieces),
         "push" => editing::push(out, pieces),
-        "pretty" => printing::pretty(out, pieces),
-        "readable" => building::readable(out, pieces),
         "remove" => editing::remove(out, pieces),
         "remove_pointer" => editing::remove_pointer(out, pieces),
         "remove_str" => editing::remove_str(out, pieces),
         "set_pointer" => editing::set_pointer(out, pieces),
         "take" => editing::take(out, pieces),
-        "type" => printing::typ(out, pieces),
-        "unexpected" => printing::unexpected(out, pieces),
-        "unexpected_part" => printing::unexpected_part(out, pieces),
         _ => out.fail(Failure::NoRow),
     }
 }

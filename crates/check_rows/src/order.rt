@@ -11,14 +11,23 @@ fn is_agreed<T: Ord>(left: &T, right: &T, order: Ordering) -> bool {
         && right.cmp(left) == order.reverse()
 }
 
+/// Whether what was made equals this.
+pub fn equals<T: PartialEq + Drop>(made: T, other: &T) -> bool {
+    made == *other
+}
+
 /// The order, or nothing where the comparisons contradict each other.
 pub fn order<T: Ord>(left: &T, right: &T) -> Option<Ordering> {
-    Some(left.cmp(right)).filter(|order| is_agreed(left, right, *order))
+    let order = left.cmp(right);
+    is_agreed(left, right, order).then_some(order)
 }
 
 /// The order, where it is `Equal` just if a law says so.
 pub fn if_lawful(order: Option<Ordering>, equal: bool) -> Option<Ordering> {
-    order.filter(|order| order.is_eq() == equal)
+    match order {
+        Some(order) if order.is_eq() == equal => Some(order),
+        _ => None,
+    }
 }
 
 /// Adds the word of an order.

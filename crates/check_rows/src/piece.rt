@@ -56,8 +56,10 @@ fn read_word(bytes: &mut Cursor<'_, u8>) -> String {
     let length = rest.iter().position(|b| !is_word(*b)).unwrap_or(rest.len());
     let (word, after) = rest.split_at(length);
     bytes.move_to(after);
-    let word = str::from_utf8(word).ok().filter(|word| !word.is_empty());
-    let word = bytes.found_or(word, "");
+    let word = bytes.found_or(str::from_utf8(word).ok(), "");
+    if word.is_empty() {
+        bytes.note(Err(Failure::NoRow));
+    }
     bytes.copied(word)
 }
 

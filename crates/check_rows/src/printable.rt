@@ -3,7 +3,7 @@
 use crate::answer::Answer;
 use crate::cursor::Cursor;
 use crate::failure::Failure;
-use serde_content::{Error, ErrorKind};
+use serde_content::{Error, ErrorKind, Result};
 use std::fmt::{Debug, Display};
 
 /// Whether a row may hold this byte: it prints as one character in ASCII.
@@ -29,27 +29,40 @@ pub fn write_listed(out: &mut Answer, text: &str) {
 }
 
 /// Adds what is printed.
-pub fn write_printed<T: Display>(out: &mut Answer, printed: &T) {
+pub fn write_printed<T: Display + Drop>(out: &mut Answer, printed: T) {
     match format!(in out.alloc(); "{printed}") {
         Ok(text) => write_but(out, text.as_str(), b'%'),
         Err(_) => out.fail(Failure::OutOfMemory),
     }
 }
 
+/// Adds what is printed of what the library gave.
+pub fn write_shown<T: Display + Drop>(out: &mut Answer, given: Result<T>) {
+    if let Some(given) = out.given(given) {
+        write_printed(out, given);
+    }
+}
+
 /// Adds a word and why something was refused, unless memory is the cause.
 pub fn write_refusal(out: &mut Answer, word: &str, refused: Error) {
-    match refused.into_kind() {
-        ErrorKind::OutOfMemory => out.fail(Failure::OutOfMemory),
-        kind => {
-            out.push_str(word);
-            write_printed(out, &kind);
-        }
+    let kind = refused.into_kind();
+    if matches!(kind, ErrorKind::OutOfMemory) {
+        out.fail(Failure::OutOfMemory);
     }
+    out.push_str(word);
+    write_printed(out, kind);
 }
 
 /// Adds what is printed for a programmer.
 pub fn write_debug<T: Debug>(out: &mut Answer, printed: &T) {
-    write_printed(out, &format_args!("{printed:?}"));
+    write_printed(out, format_args!("{printed:?}"));
+}
+
+/// Adds a datum that the library gave, as it prints for a programmer.
+pub fn write_datum<T: Debug + Drop>(out: &mut Answer, datum: Result<T>) {
+    if let Some(datum) = out.given(datum) {
+        write_debug(out, &datum);
+    }
 }
 
 /// The byte that two hexadecimal digits are.
@@ -66,10 +79,8 @@ fn read_octet(text: &mut Cursor<'_, u8>) -> u8 {
             text.move_to(after);
             text.found_or(octet(*high, *low), 0)
         }
-        _ => {
-            let octet = text.next().copied().filter(|octet| *octet != b'%');
-            text.found_or(octet, 0)
-        }
+        [b'%', ..] => text.found_or(None, 0),
+        _ => text.next().copied().unwrap_or(0),
     }
 }
 

@@ -3,6 +3,7 @@
 use crate::answer::Answer;
 use crate::failure::Failure;
 use crate::piece::{Pieces, take_held, take_if_word, take_mark, take_parsed, take_word};
+use serde_content::Result;
 use serde_content::samples::{Point, Shape};
 
 /// Two numbers in brackets.
@@ -35,18 +36,20 @@ pub fn read_shape(pieces: &mut Pieces<'_>) -> Shape {
     }
 }
 
-/// Adds a point.
-pub fn write_point(out: &mut Answer, point: &Point) {
-    let Point { x, y } = point;
-    out.print(format_args!("Point({x}, {y})"));
+/// Adds a point that the library gave.
+pub fn write_point(out: &mut Answer, given: Result<Point>) {
+    if let Some(Point { x, y }) = out.given(given) {
+        out.print(format_args!("Point({x}, {y})"));
+    }
 }
 
-/// Adds a shape.
-pub fn write_shape(out: &mut Answer, shape: &Shape) {
-    match shape {
-        Shape::Dot => out.push_str("Dot"),
-        Shape::Ring(radius) => out.print(format_args!("Ring({radius})")),
-        Shape::Span(first, second) => out.print(format_args!("Span({first}, {second})")),
-        Shape::Area { w, h } => out.print(format_args!("Area({w}, {h})")),
+/// Adds a shape that the library gave.
+pub fn write_shape(out: &mut Answer, given: Result<Shape>) {
+    match out.given(given) {
+        Some(Shape::Dot) => out.push_str("Dot"),
+        Some(Shape::Ring(radius)) => out.print(format_args!("Ring({radius})")),
+        Some(Shape::Span(first, second)) => out.print(format_args!("Span({first}, {second})")),
+        Some(Shape::Area { w, h }) => out.print(format_args!("Area({w}, {h})")),
+        None => {}
     }
 }

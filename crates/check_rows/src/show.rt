@@ -8,32 +8,39 @@ use serde_content::{
 
 /// Adds a character as in quotes: one outside 32 to 126, a backslash and this quote are escaped.
 fn write_escaped(out: &mut Answer, character: char, quote: char) {
-    match character {
-        '\\' => out.push_str("\\\\"),
-        '\t' => out.push_str("\\t"),
-        '\n' => out.push_str("\\n"),
-        '\r' => out.push_str("\\r"),
-        '\0' => out.push_str("\\0"),
-        '"' if quote == '"' => out.push_str("\\\""),
-        ' '..='~' => out.push(character),
+    let escape = match character {
+        '\\' => "\\\\",
+        '\t' => "\\t",
+        '\n' => "\\n",
+        '\r' => "\\r",
+        '\0' => "\\0",
+        '"' if quote == '"' => "\\\"",
+        ' '..='~' => return out.push(character),
         _ => {
             let code = u32::from(character);
-            out.print(format_args!("\\u{{{code:x}}}"));
+            return out.print(format_args!("\\u{{{code:x}}}"));
         }
+    };
+    out.push_str(escape);
+}
+
+/// Adds a text in quotes, after the letter of its case.
+pub fn write_quoted(out: &mut Answer, case: char, text: &str) {
+    out.push(case);
+    out.push('"');
+    for character in text.chars() {
+        write_escaped(out, character, '"');
     }
+    out.push('"');
 }
 
 /// Adds a text and its case, of which the borrowed one has this letter.
 pub fn write_text(out: &mut Answer, borrowed: char, text: &CowStr<'_>) {
-    out.push(match text {
+    let case = match text {
         CowStr::Borrowed(_) => borrowed,
         CowStr::Owned(_) => 'o',
-    });
-    out.push('"');
-    for character in text.as_str().chars() {
-        write_escaped(out, character, '"');
-    }
-    out.push('"');
+    };
+    write_quoted(out, case, text.as_str());
 }
 
 /// Adds bytes and their case.
@@ -57,14 +64,15 @@ pub fn write_comma(out: &mut Answer, place: usize) {
 }
 
 /// Adds a tree, which is then dropped.
-pub fn write_whole(out: &mut Answer, value: Value<'_>) {
+pub fn write_whole(out: &mut Answer, value: NamedValue<'_, '_>) {
     write_tree(out, &value);
 }
 
-/// Adds a tree that the library did not refuse.
-pub fn write_value(out: &mut Answer, value: Value<'_>) -> Result<()> {
-    write_whole(out, value);
-    Ok(())
+/// Adds a tree, or what becomes one, that the library gave.
+pub fn write_given<'a, T: Into<Value<'a>>>(out: &mut Answer, given: Result<T>) {
+    if let Some(given) = out.given(given) {
+        write_whole(out, given.into());
+    }
 }
 
 /// Adds a tree.

@@ -33,15 +33,6 @@ pub fn write_call(out: &mut Answer, call: &Call<'_>) {
         Call::Seq(hint) => write_hint(out, "seq", *hint),
         Call::Map(hint) => write_hint(out, "map", *hint),
         Call::Tuple(length) => write_hint(out, "tuple", Some(*length)),
-        Call::Unit => out.push_str("unit"),
-        Call::NoneCall => out.push_str("none"),
-        Call::SomeCall => out.push_str("some"),
-        Call::Element => out.push_str("element"),
-        Call::TupleField => out.push_str("tuple_field"),
-        Call::Key => out.push_str("key"),
-        Call::Value => out.push_str("value"),
-        Call::Entry => out.push_str("entry"),
-        Call::End => out.push_str("end"),
         Call::Field(key) => out.print(format_args!("field {key}")),
         Call::UnitStruct(name) => out.print(format_args!("unit_struct {name}")),
         Call::NewtypeStruct(name) => out.print(format_args!("newtype_struct {name}")),
@@ -57,6 +48,23 @@ pub fn write_call(out: &mut Answer, call: &Call<'_>) {
             write_variant(out, "struct", name, *i, variant);
             out.print(format_args!(" {n}"));
         }
+        _ => out.push_str(word_of(call)),
+    }
+}
+
+/// The word of a call that tells nothing more.
+fn word_of(call: &Call<'_>) -> &'static str {
+    match call {
+        Call::Unit => "unit",
+        Call::NoneCall => "none",
+        Call::SomeCall => "some",
+        Call::Element => "element",
+        Call::TupleField => "tuple_field",
+        Call::Key => "key",
+        Call::Value => "value",
+        Call::Entry => "entry",
+        Call::End => "end",
+        _ => "",
     }
 }
 

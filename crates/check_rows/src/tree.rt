@@ -16,6 +16,14 @@ pub fn read_tree<'a>(pieces: &mut Pieces<'a>) -> Value<'a> {
     read_value(pieces, MAX_DEPTH)
 }
 
+/// The text that a tree is.
+pub fn read_text<'a>(pieces: &mut Pieces<'a>) -> CowStr<'a> {
+    match read_tree(pieces) {
+        Value::String(text) => text,
+        _ => pieces.found_or(None, CowStr::Borrowed("")),
+    }
+}
+
 /// The image of a tree, or an identifier.
 pub fn read_image(pieces: &mut Pieces<'_>) -> Found {
     if take_if_word(pieces, "Identifier") {

@@ -23,37 +23,47 @@ fn write_taken(out: &mut Answer, value: Value<'_>) {
     write_whole(out, value);
 }
 
-/// Adds `ok` and the tree that the library did not refuse.
-fn write_answered(out: &mut Answer, answered: Result<Value<'_>>) -> Result<()> {
-    write_taken(out, answered?);
-    Ok(())
+/// Adds `ok` and the tree that the library gave.
+fn write_answered(out: &mut Answer, answered: Result<Value<'_>>) {
+    if let Some(value) = out.given(answered) {
+        write_taken(out, value);
+    }
+}
+
+/// The name of a kind of error.
+fn name_of(kind: &ErrorKind) -> &'static str {
+    match kind {
+        ErrorKind::Unexpected { .. } => "Unexpected",
+        ErrorKind::Custom(_) => "Custom",
+        ErrorKind::OutOfMemory => "OutOfMemory",
+        ErrorKind::Misplaced => "Misplaced",
+        ErrorKind::Failed => "Failed",
+        ErrorKind::Unfinished => "Unfinished",
+    }
 }
 
 /// Adds the name of the error's kind, unless memory is its cause.
-fn write_kind(out: &mut Answer, error: &Error) {
-    match error.kind() {
-        ErrorKind::OutOfMemory => out.fail(Failure::OutOfMemory),
-        ErrorKind::Unexpected { .. } => out.push_str("Unexpected"),
-        ErrorKind::Custom(_) => out.push_str("Custom"),
-        ErrorKind::Misplaced => out.push_str("Misplaced"),
-        ErrorKind::Failed => out.push_str("Failed"),
-        ErrorKind::Unfinished => out.push_str("Unfinished"),
+fn write_kind(out: &mut Answer, error: Error) {
+    if matches!(error.kind(), ErrorKind::OutOfMemory) {
+        out.fail(Failure::OutOfMemory);
     }
+    out.push_str(name_of(error.kind()));
+    drop(error);
 }
 
 /// Adds the tree, or where and why calls are refused.
 fn write_spelled(out: &mut Answer, spelled: std::result::Result<Value<'_>, CallsError>) {
     match spelled {
         Ok(value) => write_taken(out, value),
-        Err(refusal) => write_refused(out, &refusal),
+        Err(refusal) => write_refused(out, refusal),
     }
 }
 
 /// Adds where and why calls are refused.
-fn write_refused(out: &mut Answer, refusal: &CallsError) {
-    let at = refusal.at;
+fn write_refused(out: &mut Answer, refusal: CallsError) {
+    let CallsError { at, error } = refusal;
     out.print(format_args!("refused at {at} "));
-    write_kind(out, &refusal.error);
+    write_kind(out, error);
 }
 
 /// The tree that the calls spell, or where and why they are refused.
@@ -70,7 +80,7 @@ pub fn calls_prefix(out: &mut Answer, columns: &mut Cursor<'_, u8>) {
             write_taken(out, value);
             out.print(format_args!(", {length}"));
         }
-        Err(refusal) => write_refused(out, &refusal),
+        Err(refusal) => write_refused(out, refusal),
     }
 }
 
@@ -78,10 +88,10 @@ pub fn calls_prefix(out: &mut Answer, columns: &mut Cursor<'_, u8>) {
 pub fn calls_within(out: &mut Answer, columns: &mut Cursor<'_, u8>) {
     let limit = take_part(columns, b'\t');
     let limit: usize = columns.parsed(limit);
-    let calls = read_calls(columns);
     if limit == 0 {
         return out.fail(Failure::NoRow);
     }
+    let calls = read_calls(columns);
     write_spelled(out, from_calls_within(out.alloc(), calls.as_slice(), limit));
 }
 
@@ -90,23 +100,23 @@ pub fn refusal(out: &mut Answer, columns: &mut Cursor<'_, u8>) {
     let calls = read_calls(columns);
     match from_calls(out.alloc(), calls.as_slice()) {
         Ok(value) => write_taken(out, value),
-        Err(refusal) => write_told(out, &refusal),
+        Err(refusal) => write_told(out, refusal),
     }
 }
 
 /// Adds what is printed of a refusal, unless memory is its cause.
-fn write_told(out: &mut Answer, refusal: &CallsError) {
-    match refusal.error.kind() {
-        ErrorKind::OutOfMemory => out.fail(Failure::OutOfMemory),
-        _ => write_printed(out, refusal),
+fn write_told(out: &mut Answer, refusal: CallsError) {
+    if matches!(refusal.error.kind(), ErrorKind::OutOfMemory) {
+        out.fail(Failure::OutOfMemory);
     }
+    write_printed(out, refusal);
 }
 
 /// Adds `Ok`, or the name of the error's kind.
 fn write_step(out: &mut Answer, answer: Result<()>) {
     match answer {
         Ok(()) => out.push_str("Ok"),
-        Err(error) => write_kind(out, &error),
+        Err(error) => write_kind(out, error),
     }
 }
 
@@ -114,7 +124,7 @@ fn write_step(out: &mut Answer, answer: Result<()>) {
 fn write_made(out: &mut Answer, answer: Result<Value<'_>>) {
     match answer {
         Ok(value) => write_taken(out, value),
-        Err(error) => write_kind(out, &error),
+        Err(error) => write_kind(out, error),
     }
 }
 
@@ -153,18 +163,20 @@ pub fn replay(out: &mut Answer, columns: &mut Cursor<'_, u8>) {
 /// What a serialiser with a limit makes of a tree, or the kind of its error.
 pub fn canonical_within(out: &mut Answer, pieces: &mut Pieces<'_>) {
     let limit: usize = take_parsed(pieces);
-    let value = read_tree(pieces);
     if limit == 0 {
         return out.fail(Failure::NoRow);
     }
+    let value = read_tree(pieces);
     let serializer = Serializer::new().depth_limit(limit);
     write_made(out, serializer.serialize(pieces.alloc(), &value));
+    drop(value);
 }
 
 /// The canonical form of a tree.
-pub fn canonical(out: &mut Answer, pieces: &mut Pieces<'_>) -> Result<()> {
+pub fn canonical(out: &mut Answer, pieces: &mut Pieces<'_>) {
     let value = read_tree(pieces);
-    write_answered(out, Serializer::new().serialize(pieces.alloc(), &value))
+    write_answered(out, Serializer::new().serialize(pieces.alloc(), &value));
+    drop(value);
 }
 
 /// The tree of the text that an image prints, as a builder collects it.
@@ -175,8 +187,10 @@ fn collected(alloc: Global, image: &Found) -> Result<Value<'static>> {
 }
 
 /// The tree of the text that an image prints.
-pub fn collect(out: &mut Answer, pieces: &mut Pieces<'_>) -> Result<()> {
-    write_answered(out, collected(pieces.alloc(), &read_image(pieces)))
+pub fn collect(out: &mut Answer, pieces: &mut Pieces<'_>) {
+    let image = read_image(pieces);
+    write_answered(out, collected(pieces.alloc(), &image));
+    drop(image);
 }
 
 /// What a builder and a recorder, made with this flag, say of it.

@@ -14,6 +14,7 @@ use crate::tree::{read_image, read_tree};
 use serde_content::laws::{
     compare_deserializers, equal_by_contents, equal_deserializers, equal_images, equal_values,
 };
+use serde_content::ser::Call;
 use serde_content::{Deserializer, Error, Found, Serializer, Value};
 use std::cmp::Ordering;
 
@@ -22,16 +23,28 @@ fn compare<T: Ord>(out: &mut Answer, left: &T, right: &T) {
     write_order(out, order(left, right));
 }
 
+/// The same of two that were read.
+fn compare_read<T: Ord + Drop>(out: &mut Answer, left: T, right: T) {
+    compare(out, &left, &right);
+}
+
+/// The same, where a law says whether they are equal.
+fn compare_lawful<T: Ord + Drop>(out: &mut Answer, left: T, right: T, equal: bool) {
+    write_order(out, if_lawful(order(&left, &right), equal));
+}
+
 /// Of two trees.
 pub fn values(out: &mut Answer, pieces: &mut Pieces<'_>) {
     let (left, right) = (read_tree(pieces), read_tree(pieces));
     let is_equal = equal_values(&left, &right);
-    write_order(out, if_lawful(order(&left, &right), is_equal));
+    compare_lawful(out, left, right, is_equal);
 }
 
 /// Of what two trees hold: texts, bytes, structs or enums.
 pub fn parts(out: &mut Answer, pieces: &mut Pieces<'_>) {
-    compare_parts(out, &read_tree(pieces), &read_tree(pieces));
+    let (left, right) = (read_tree(pieces), read_tree(pieces));
+    compare_parts(out, &left, &right);
+    drop((left, right));
 }
 
 /// Adds the order of what two trees hold.
@@ -47,7 +60,9 @@ fn compare_parts<'a>(out: &mut Answer, left: &Value<'a>, right: &Value<'a>) {
 
 /// Of what two structs or two enums hold.
 pub fn data(out: &mut Answer, pieces: &mut Pieces<'_>) {
-    compare_data(out, &read_tree(pieces), &read_tree(pieces));
+    let (left, right) = (read_tree(pieces), read_tree(pieces));
+    compare_data(out, &left, &right);
+    drop((left, right));
 }
 
 /// Adds the order of what two structs or two enums hold.
@@ -63,12 +78,14 @@ fn compare_data<'a>(out: &mut Answer, left: &Value<'a>, right: &Value<'a>) {
 pub fn images(out: &mut Answer, pieces: &mut Pieces<'_>) {
     let (left, right) = (read_image(pieces), read_image(pieces));
     let is_equal = equal_images(&left, &right);
-    write_order(out, if_lawful(order(&left, &right), is_equal));
+    compare_lawful(out, left, right, is_equal);
 }
 
 /// Of what the images of two structs or enums hold.
 pub fn image_data(out: &mut Answer, pieces: &mut Pieces<'_>) {
-    compare_image_data(out, &read_image(pieces), &read_image(pieces));
+    let (left, right) = (read_image(pieces), read_image(pieces));
+    compare_image_data(out, &left, &right);
+    drop((left, right));
 }
 
 /// Adds the order of what the images of two structs or enums hold.
@@ -84,24 +101,24 @@ fn compare_image_data(out: &mut Answer, left: &Found, right: &Found) {
 
 /// Of two expectations.
 pub fn expected(out: &mut Answer, pieces: &mut Pieces<'_>) {
-    compare(out, &read_expected(pieces), &read_expected(pieces))
+    compare_read(out, read_expected(pieces), read_expected(pieces));
 }
 
 /// Of two types.
 pub fn types(out: &mut Answer, pieces: &mut Pieces<'_>) {
-    compare(out, &read_type(pieces), &read_type(pieces))
+    compare_read(out, read_type(pieces), read_type(pieces));
 }
 
 /// Of two kinds of errors.
 pub fn kinds(out: &mut Answer, pieces: &mut Pieces<'_>) {
-    compare(out, &read_kind(pieces), &read_kind(pieces))
+    compare_read(out, read_kind(pieces), read_kind(pieces));
 }
 
 /// Of two errors of these kinds.
 pub fn errors(out: &mut Answer, pieces: &mut Pieces<'_>) {
     let left = Error::from(read_kind(pieces));
     let right = Error::from(read_kind(pieces));
-    compare(out, &left, &right)
+    compare_read(out, left, right);
 }
 
 /// The serialiser that is named, with a limit where one follows in brackets.
@@ -126,15 +143,14 @@ fn read_serializer(pieces: &mut Pieces<'_>) -> Serializer {
 
 /// Of two serialisers.
 pub fn serializers(out: &mut Answer, pieces: &mut Pieces<'_>) {
-    compare(out, &read_serializer(pieces), &read_serializer(pieces))
+    compare_read(out, read_serializer(pieces), read_serializer(pieces));
 }
 
 /// Of two deserializers, each under its own flags.
 pub fn deserializers(out: &mut Answer, pieces: &mut Pieces<'_>) {
-    write_order(
-        out,
-        lawful_order(&read_flagged(pieces), &read_flagged(pieces)),
-    );
+    let (left, right) = (read_flagged(pieces), read_flagged(pieces));
+    write_order(out, lawful_order(&left, &right));
+    drop((left, right));
 }
 
 /// A deserializer under its flags.
@@ -149,18 +165,25 @@ fn lawful_order<'a>(
     right: &Deserializer<'a, 'static>,
 ) -> Option<Ordering> {
     let order = if_lawful(order(left, right), equal_deserializers(left, right));
-    let by_law = compare_deserializers(left, right);
-    order.filter(|order| *order == by_law)
+    match order {
+        Some(order) if order == compare_deserializers(left, right) => Some(order),
+        _ => None,
+    }
 }
 
-/// Whether two calls are equal, of which the second is also borrowed: `true`, `false`, or that `==`
-/// and the law contradict each other.
+/// Of two calls.
 pub fn calls(out: &mut Answer, columns: &mut Cursor<'_, u8>) {
     let left = read_calls(columns);
     let right = read_calls(columns);
-    let ([left], [right]) = (left.as_slice(), right.as_slice()) else {
-        return out.fail(Failure::NoRow);
-    };
+    match (left.as_slice(), right.as_slice()) {
+        ([left], [right]) => compare_calls(out, left, right),
+        _ => out.fail(Failure::NoRow),
+    }
+}
+
+/// Adds whether two calls are equal, of which the second is also borrowed: `true`, `false`, or that
+/// `==` and the law contradict each other.
+fn compare_calls(out: &mut Answer, left: &Call<'_>, right: &Call<'_>) {
     let lent = right.lend();
     out.push_str(
         match (left == right, *left == lent, equal_by_contents(left, &lent)) {

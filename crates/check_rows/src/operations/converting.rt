@@ -1,7 +1,7 @@
 //! What becomes a value, a number or a deserializer, and texts and bytes by their case.
 
 use crate::answer::Answer;
-use crate::deserializer::{read_deserializer, write_handed};
+use crate::deserializer::{read_deserializer, write_handed_out};
 use crate::failure::Failure;
 use crate::flags::{Flags, read_flags};
 use crate::number::{with_whole, write_number};
@@ -62,39 +62,37 @@ fn from_bytes(out: &mut Answer, typ: &str, bytes: CowBytes<'_>) {
     }
 }
 
-/// Adds the value that is made of a value's part of this type, or the value itself, which has none.
-macro_rules! write_part {
-    ($out:expr, $typ:ty, $value:expr) => {
-        match <$typ>::try_from($value) {
-            Ok(part) => write_whole($out, Value::from(part)),
-            Err(value) => write_none($out, value),
+/// Adds a part of a value, made a value again; or the value itself, which has no such part.
+fn write_part<'a, T: Into<Value<'a>>, V: Into<Value<'a>>>(
+    out: &mut Answer,
+    part: std::result::Result<T, V>,
+) {
+    match part {
+        Ok(part) => write_whole(out, part.into()),
+        Err(value) => {
+            out.push_str("none; ");
+            write_whole(out, value.into());
         }
-    };
+    }
 }
 
-/// What a value gives as this type, made a value again; or the value itself, which has no such
-/// part.
+/// What a value gives as the type that is named, made a value again; or the value itself, which has
+/// no such part.
 pub fn part(out: &mut Answer, pieces: &mut Pieces<'_>) {
     let typ = take_word(pieces);
     match (typ, read_tree(pieces)) {
-        ("bool", value) => write_part!(out, bool, value),
-        ("Number", value) => write_part!(out, Number, value),
-        ("char", value) => write_part!(out, char, value),
-        ("CowStr", value) => write_part!(out, CowStr<'_>, value),
-        ("CowBytes", value) => write_part!(out, CowBytes<'_>, value),
-        ("seq", value) => write_part!(out, Vec<Value<'_>>, value),
-        ("map", value) => write_part!(out, Vec<(Value<'_>, Value<'_>)>, value),
-        ("option", value) => write_part!(out, Option<Box<Value<'_>>>, value),
+        ("bool", value) => write_part(out, bool::try_from(value)),
+        ("Number", value) => write_part(out, Number::try_from(value)),
+        ("char", value) => write_part(out, char::try_from(value)),
+        ("CowStr", value) => write_part(out, <CowStr<'_>>::try_from(value)),
+        ("CowBytes", value) => write_part(out, <CowBytes<'_>>::try_from(value)),
+        ("seq", value) => write_part(out, <Vec<Value<'_>>>::try_from(value)),
+        ("map", value) => write_part(out, <Vec<(Value<'_>, Value<'_>)>>::try_from(value)),
+        ("option", value) => write_part(out, <Option<Box<Value<'_>>>>::try_from(value)),
         ("box", Value::Struct(node)) => write_whole(out, Value::from(node)),
         ("box", Value::Enum(node)) => write_whole(out, Value::from(node)),
         _ => out.fail(Failure::NoRow),
     }
-}
-
-/// Adds a value that has no such part.
-fn write_none(out: &mut Answer, value: Value<'_>) {
-    out.push_str("none; ");
-    write_whole(out, value);
 }
 
 /// The `Number` from a whole number by its type.
@@ -107,7 +105,9 @@ pub fn number_from(out: &mut Answer, pieces: &mut Pieces<'_>) {
 
 /// Whether a text or bytes say that they are borrowed, and what they hold, borrowed.
 pub fn borrowed(out: &mut Answer, pieces: &mut Pieces<'_>) {
-    write_case(out, &read_tree(pieces));
+    let value = read_tree(pieces);
+    write_case(out, &value);
+    drop(value);
 }
 
 /// Adds whether a text or bytes say that they are borrowed, and what they hold, borrowed.
@@ -122,15 +122,15 @@ fn write_case(out: &mut Answer, value: &Value<'_>) {
 }
 
 /// The deserializer that a tree, a number, an enum or a deserializer with these flags becomes.
-pub fn into(out: &mut Answer, pieces: &mut Pieces<'_>) -> Result<()> {
+pub fn into(out: &mut Answer, pieces: &mut Pieces<'_>) {
     let form = take_word(pieces);
     let flags = read_flags(pieces);
     let from = match form {
-        "deserializer" => of_deserializer(pieces, flags)?,
-        _ => of_tree(pieces, form)?,
+        "deserializer" => of_deserializer(pieces, flags),
+        _ => of_tree(pieces, form),
     };
     out.push_str("ok ");
-    write_handed(out, from)
+    write_handed_out(out, from);
 }
 
 /// The deserializer that one with these flags becomes.

@@ -3,15 +3,15 @@
 use crate::answer::Answer;
 use crate::failure::Failure;
 use crate::piece::Pieces;
-use crate::show::{write_tree, write_whole};
-use crate::tree::read_tree;
+use crate::show::write_whole;
+use crate::tree::{read_text, read_tree};
 use serde_content::{InsertError, Value};
 
 /// A value that is taken, and what is left.
 pub fn take(out: &mut Answer, pieces: &mut Pieces<'_>) {
     let mut value = read_tree(pieces);
     let taken = value.take();
-    write_edited(out, Some(taken), &value);
+    write_edited(out, Some(taken), value);
 }
 
 /// A sequence with an item after its last.
@@ -19,12 +19,8 @@ pub fn push(out: &mut Answer, pieces: &mut Pieces<'_>) {
     let item = read_tree(pieces);
     let mut value = read_tree(pieces);
     match value.push(item) {
-        Ok(()) => write_edited(out, None, &value),
-        Err(InsertError::WrongKind(item)) => {
-            out.push_str("wrong kind ");
-            write_edited(out, Some(item), &value);
-        }
-        Err(InsertError::OutOfMemory(_)) => out.fail(Failure::OutOfMemory),
+        Ok(()) => write_edited(out, None, value),
+        Err(refused) => write_unedited(out, refused, value),
     }
 }
 
@@ -34,14 +30,13 @@ pub fn insert(out: &mut Answer, pieces: &mut Pieces<'_>) {
     let item = read_tree(pieces);
     let mut value = read_tree(pieces);
     match value.insert(key, item) {
-        Ok(before) => write_edited(out, before, &value),
-        Err(InsertError::WrongKind((key, item))) => {
-            out.push_str("wrong kind ");
+        Ok(before) => write_edited(out, before, value),
+        Err(refused) => {
+            let (key, item) = given_back(out, refused);
             write_whole(out, key);
             out.push_str(" => ");
-            write_edited(out, Some(item), &value);
+            write_edited(out, Some(item), value);
         }
-        Err(InsertError::OutOfMemory(_)) => out.fail(Failure::OutOfMemory),
     }
 }
 
@@ -50,53 +45,64 @@ pub fn remove(out: &mut Answer, pieces: &mut Pieces<'_>) {
     let key = read_tree(pieces);
     let mut value = read_tree(pieces);
     let removed = value.remove(&key);
-    write_edited(out, removed, &value);
+    drop(key);
+    write_edited(out, removed, value);
 }
 
 /// A map without the last entry of a text as key.
 pub fn remove_str(out: &mut Answer, pieces: &mut Pieces<'_>) {
-    let Value::String(key) = read_tree(pieces) else {
-        return out.fail(Failure::NoRow);
-    };
+    let key = read_text(pieces);
     let mut value = read_tree(pieces);
     let removed = value.remove_str(key.as_str());
-    write_edited(out, removed, &value);
+    write_edited(out, removed, value);
 }
 
 /// A value without what a path leads to.
 pub fn remove_pointer(out: &mut Answer, pieces: &mut Pieces<'_>) {
-    let Value::String(path) = read_tree(pieces) else {
-        return out.fail(Failure::NoRow);
-    };
+    let path = read_text(pieces);
     let mut value = read_tree(pieces);
     let removed = value.remove_pointer(path.as_str());
-    write_edited(out, removed, &value);
+    write_edited(out, removed, value);
 }
 
 /// A value with another where a path leads.
 pub fn set_pointer(out: &mut Answer, pieces: &mut Pieces<'_>) {
-    let alloc = out.alloc();
-    let Value::String(path) = read_tree(pieces) else {
-        return out.fail(Failure::NoRow);
-    };
+    let path = read_text(pieces);
     let item = read_tree(pieces);
     let mut value = read_tree(pieces);
-    match value.set_pointer(alloc, path.as_str(), item) {
-        Ok(before) => write_edited(out, before, &value),
-        Err(InsertError::WrongKind(item)) => {
-            out.push_str("wrong kind ");
-            write_edited(out, Some(item), &value);
-        }
-        Err(InsertError::OutOfMemory(_)) => out.fail(Failure::OutOfMemory),
+    match value.set_pointer(pieces.alloc(), path.as_str(), item) {
+        Ok(before) => write_edited(out, before, value),
+        Err(refused) => write_unedited(out, refused, value),
     }
 }
 
+/// What an edit that was refused gives back; the answer begins with that, unless memory is the
+/// cause.
+fn given_back<T>(out: &mut Answer, refused: InsertError<T>) -> T {
+    match refused {
+        InsertError::WrongKind(given) => {
+            out.push_str("wrong kind ");
+            given
+        }
+        InsertError::OutOfMemory(given) => {
+            out.fail(Failure::OutOfMemory);
+            given
+        }
+    }
+}
+
+/// Adds what an edit that was refused gives back, and the value after it.
+fn write_unedited<'a>(out: &mut Answer, refused: InsertError<Value<'a>>, value: Value<'a>) {
+    let item = given_back(out, refused);
+    write_edited(out, Some(item), value);
+}
+
 /// Adds what an edit gives, or that it gives nothing, and the value after it.
-fn write_edited(out: &mut Answer, given: Option<Value<'_>>, value: &Value<'_>) {
+fn write_edited<'a>(out: &mut Answer, given: Option<Value<'a>>, value: Value<'a>) {
     match given {
         Some(given) => write_whole(out, given),
         None => out.push_str("none"),
     }
     out.push_str("; ");
-    write_tree(out, value);
+    write_whole(out, value);
 }

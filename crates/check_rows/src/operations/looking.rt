@@ -4,7 +4,7 @@ use crate::answer::Answer;
 use crate::failure::Failure;
 use crate::piece::{Pieces, take_word};
 use crate::show::{write_items, write_pairs, write_tree, write_whole};
-use crate::tree::read_tree;
+use crate::tree::{read_text, read_tree};
 use serde_content::{NamedValue, Value};
 
 /// The value of a key.
@@ -12,40 +12,47 @@ pub fn get(out: &mut Answer, pieces: &mut Pieces<'_>) {
     let key = read_tree(pieces);
     let value = read_tree(pieces);
     write_lent(out, value.get(&key));
+    drop((key, value));
 }
 
 /// The value of a text as key.
 pub fn get_str(out: &mut Answer, pieces: &mut Pieces<'_>) {
-    let Value::String(key) = read_tree(pieces) else {
-        return out.fail(Failure::NoRow);
-    };
+    let key = read_text(pieces);
     let value = read_tree(pieces);
     write_lent(out, value.get_str(key.as_str()));
+    drop((key, value));
 }
 
 /// The value that a path leads to.
 pub fn pointer(out: &mut Answer, pieces: &mut Pieces<'_>) {
-    let Value::String(path) = read_tree(pieces) else {
-        return out.fail(Failure::NoRow);
-    };
+    let path = read_text(pieces);
     let value = read_tree(pieces);
     write_lent(out, value.pointer(path.as_str()));
+    drop((path, value));
 }
 
 /// The item of an index.
 pub fn get_index(out: &mut Answer, pieces: &mut Pieces<'_>) {
-    let key = read_tree(pieces);
-    let Some(index) = key.as_u64() else {
-        return out.fail(Failure::NoRow);
-    };
+    let index = read_index(pieces);
     let value = read_tree(pieces);
-    write_lent(out, value.get_index(index as usize));
+    write_lent(out, value.get_index(index));
+    drop(value);
+}
+
+/// The index that a tree is.
+fn read_index(pieces: &mut Pieces<'_>) -> usize {
+    let tree = read_tree(pieces);
+    let index = tree.as_u64();
+    drop(tree);
+    pieces.found_or(index, 0) as usize
 }
 
 /// What a value contains, by the type that is named.
 pub fn lend(out: &mut Answer, pieces: &mut Pieces<'_>) {
     let typ = take_word(pieces);
-    write_inside(out, typ, &read_tree(pieces));
+    let value = read_tree(pieces);
+    write_inside(out, typ, &value);
+    drop(value);
 }
 
 /// Adds what a value contains, as this type.

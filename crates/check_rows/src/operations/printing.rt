@@ -19,51 +19,61 @@ fn print_alike(alloc: Global, value: &Value<'_>, image: &Found) -> Result<bool> 
 /// Whether the value that starts here prints as its image does.
 fn prints_as<'a>(pieces: &mut Pieces<'a>, start: &'a [Piece], image: &Found) -> Result<bool> {
     pieces.move_to(start);
-    print_alike(pieces.alloc(), &read_tree(pieces), image)
+    let value: Value<'a> = read_tree(pieces);
+    let is_alike = print_alike(pieces.alloc(), &value, image);
+    drop(value);
+    is_alike
 }
 
 /// Of an image; the value that has it prints the same.
-pub fn image(out: &mut Answer, pieces: &mut Pieces<'_>) -> Result<()> {
+pub fn image(out: &mut Answer, pieces: &mut Pieces<'_>) {
     let start = pieces.rest();
     let image = read_image(pieces);
-    if matches!(image, Found::Identifier(_)) || prints_as(pieces, start, &image)? {
-        write_printed(out, &image);
-    } else {
-        out.push_str("another text");
+    let is_alike = match &image {
+        Found::Identifier(_) => Ok(true),
+        _ => prints_as(pieces, start, &image),
+    };
+    match out.given(is_alike) {
+        Some(false) => {
+            out.push_str("another text");
+            drop(image);
+        }
+        _ => write_printed(out, image),
     }
-    Ok(())
 }
 
 /// Of a value on several lines.
 pub fn pretty(out: &mut Answer, pieces: &mut Pieces<'_>) {
-    write_printed(out, &read_tree(pieces).pretty());
+    let value = read_tree(pieces);
+    write_printed(out, value.pretty());
+    drop(value);
 }
 
 /// Of an expectation.
 pub fn expected(out: &mut Answer, pieces: &mut Pieces<'_>) {
-    write_printed(out, &read_expected(pieces));
+    write_printed(out, read_expected(pieces));
 }
 
 /// Of a type.
 pub fn typ(out: &mut Answer, pieces: &mut Pieces<'_>) {
-    write_printed(out, &read_type(pieces));
+    write_printed(out, read_type(pieces));
 }
 
 /// Of the kind of an error.
 pub fn kind(out: &mut Answer, pieces: &mut Pieces<'_>) {
-    write_printed(out, &read_kind(pieces));
+    write_printed(out, read_kind(pieces));
 }
 
 /// Of an error of this kind.
 pub fn error(out: &mut Answer, pieces: &mut Pieces<'_>) {
-    write_printed(out, &Error::from(read_kind(pieces)));
+    write_printed(out, Error::from(read_kind(pieces)));
 }
 
 /// Of the error that a tree is not what was expected.
 pub fn unexpected(out: &mut Answer, pieces: &mut Pieces<'_>) {
     let value = read_tree(pieces);
     let expected = read_expected(pieces);
-    write_refusal(out, "", value.unexpected(pieces.alloc(), expected))
+    write_refusal(out, "", value.unexpected(pieces.alloc(), expected));
 }
 
 /// Of the error that a number, a struct or an enum is not what was expected.

@@ -2,42 +2,39 @@
 
 use crate::answer::Answer;
 use crate::deserializer::read_deserializer;
+use crate::failure::Failure;
 use crate::flags::{Flags, read_flags};
 use crate::named::with_type;
 use crate::piece::{Pieces, take_word};
-use crate::printable::write_debug;
+use crate::printable::{write_datum, write_debug};
 use crate::samples::{write_point, write_shape};
-use crate::show::{write_comma, write_value};
+use crate::show::{write_comma, write_given, write_whole};
 use serde_content::de::Deserialize;
 use serde_content::{CowStr, Deserializer, Number, Result, Value, ValueVisitor};
 use std::collections::BTreeMap;
 use std::fmt::Debug;
 
 /// The value of a type.
-pub fn read(out: &mut Answer, pieces: &mut Pieces<'_>) -> Result<()> {
+pub fn read(out: &mut Answer, pieces: &mut Pieces<'_>) {
     let flags = read_flags(pieces);
     let typ = take_word(pieces);
     let from = read_deserializer(pieces, flags);
     out.push_str("ok ");
-    write_typed(out, typ, from)
+    write_typed(out, typ, from);
 }
 
 /// Adds the value of the type that is named.
-fn write_typed(out: &mut Answer, typ: &str, from: Deserializer<'_, 'static>) -> Result<()> {
+fn write_typed(out: &mut Answer, typ: &str, from: Deserializer<'_, 'static>) {
     let alloc = out.alloc();
     match typ {
-        "CowStr" => write_value(out, Value::String(from.deserialize::<CowStr>(alloc)?)),
-        "char" => write_value(out, Value::Char(from.deserialize::<char>(alloc)?)),
-        "Number" => write_value(out, Value::Number(from.deserialize::<Number>(alloc)?)),
-        "Value" => write_value(out, from.deserialize::<Value<'static>>(alloc)?),
-        "ValueVisitor" => write_value(out, ValueVisitor.read(alloc, from)?),
-        "Option<Value>" => write_optional(out, from.deserialize(alloc)?),
-        "Point" => from
-            .deserialize(alloc)
-            .map(|point| write_point(out, &point)),
-        "Shape" => from
-            .deserialize(alloc)
-            .map(|shape| write_shape(out, &shape)),
+        "CowStr" => write_given(out, from.deserialize::<CowStr>(alloc)),
+        "char" => write_given(out, from.deserialize::<char>(alloc)),
+        "Number" => write_given(out, from.deserialize::<Number>(alloc)),
+        "Value" => write_given(out, from.deserialize::<Value<'static>>(alloc)),
+        "ValueVisitor" => write_given(out, ValueVisitor.read(alloc, from)),
+        "Option<Value>" => write_optional(out, from.deserialize(alloc)),
+        "Point" => write_point(out, from.deserialize(alloc)),
+        "Shape" => write_shape(out, from.deserialize(alloc)),
         "BTreeMap<String, u8>" => write_map_as::<String, u8>(out, from),
         "BTreeMap<String, Vec<u8>>" => write_map_as::<String, Vec<u8>>(out, from),
         "BTreeMap<u8, bool>" => write_map_as::<u8, bool>(out, from),
@@ -48,59 +45,63 @@ fn write_typed(out: &mut Answer, typ: &str, from: Deserializer<'_, 'static>) -> 
 }
 
 /// The plain form of a tree, which is read with both flags off.
-pub fn plain(out: &mut Answer, pieces: &mut Pieces<'_>) -> Result<()> {
+pub fn plain(out: &mut Answer, pieces: &mut Pieces<'_>) {
     let from = read_deserializer(pieces, Flags::default());
     out.push_str("ok ");
-    write_value(out, from.deserialize::<Value<'static>>(pieces.alloc())?)
+    write_given(out, from.deserialize::<Value<'static>>(pieces.alloc()));
 }
 
 /// Adds the value of a type that is shown as it prints.
-fn write_as_printed(out: &mut Answer, typ: &str, from: Deserializer<'_, 'static>) -> Result<()> {
+fn write_as_printed(out: &mut Answer, typ: &str, from: Deserializer<'_, 'static>) {
     with_type!(typ, write_as(out, from), [
         (), bool, i8, u8, i16, u16, i32, u32, i64, u64, i128, u128, isize, usize, String, &str,
         &[u8], Box<u8>, Option<()>, Option<i16>, Option<String>, Option<&str>, Option<Option<()>>,
         Vec<()>, Vec<bool>, Vec<u8>, Vec<i16>, (bool,), (u8,), (bool, bool), (bool, usize),
         (u8, u8), (u8, bool), (bool, (), u8), (u8, u8, u8, u8),
-    ], out.no_row())
+    ], out.fail(Failure::NoRow))
 }
 
 /// Adds a value of this type as it prints.
 fn write_as<'de, 'n: 'de, T: Deserialize<'de> + Debug>(
     out: &mut Answer,
     from: Deserializer<'de, 'n>,
-) -> Result<()> {
-    let value = from.deserialize::<T>(out.alloc())?;
-    write_debug(out, &value);
-    Ok(())
+) {
+    write_datum(out, from.deserialize::<T>(out.alloc()));
 }
 
 /// Adds a map.
 fn write_map_as<'de, 'n: 'de, K: Deserialize<'de> + Debug + Ord, V: Deserialize<'de> + Debug>(
     out: &mut Answer,
     from: Deserializer<'de, 'n>,
-) -> Result<()> {
-    let map = from.deserialize::<BTreeMap<K, V>>(out.alloc())?;
-    write_entries(out, &map);
-    Ok(())
+) {
+    write_entries(out, from.deserialize::<BTreeMap<K, V>>(out.alloc()));
 }
 
 /// Adds a value in an option as a tree.
-fn write_optional(out: &mut Answer, value: Option<Value<'static>>) -> Result<()> {
-    let held = match value {
-        None => None,
-        Some(value) => Some(Box::new(out.alloc(), value)?),
-    };
-    write_value(out, Value::Option(held))
+fn write_optional(out: &mut Answer, given: Result<Option<Value<'static>>>) {
+    match out.given(given).flatten() {
+        None => out.push_str("None"),
+        Some(value) => {
+            out.push_str("Some(");
+            write_whole(out, value);
+            out.push(')');
+        }
+    }
 }
 
 /// Adds a map's keys in order, each with its value.
-pub fn write_entries<K: Debug + Ord, V: Debug>(out: &mut Answer, map: &BTreeMap<K, V>) {
-    out.push('{');
-    for (place, (key, value)) in map.iter().enumerate() {
-        write_comma(out, place);
-        write_debug(out, key);
-        out.push_str(" => ");
-        write_debug(out, value);
+pub fn write_entries<K: Debug + Ord + Drop, V: Debug + Drop>(
+    out: &mut Answer,
+    given: Result<BTreeMap<K, V>>,
+) {
+    if let Some(map) = out.given(given) {
+        out.push('{');
+        for (place, (key, value)) in map.iter().enumerate() {
+            write_comma(out, place);
+            write_debug(out, key);
+            out.push_str(" => ");
+            write_debug(out, value);
+        }
+        out.push('}');
     }
-    out.push('}');
 }

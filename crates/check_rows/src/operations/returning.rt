@@ -1,11 +1,12 @@
 //! Values that are sent and read again.
 
 use crate::answer::Answer;
+use crate::failure::Failure;
 use crate::flags::{Flags, read_flags};
 use crate::named::with_type;
 use crate::operations::reading::write_entries;
 use crate::piece::{Pieces, take_word};
-use crate::printable::write_debug;
+use crate::printable::write_datum;
 use crate::samples::{read_point, read_shape, write_point, write_shape};
 use crate::tree::read_tree;
 use serde_content::{Deserializer, Result, RoundTrip, Value};
@@ -14,25 +15,20 @@ use std::collections::BTreeMap;
 use std::fmt::Debug;
 
 /// The value of a type, as it comes back.
-pub fn round_trip(out: &mut Answer, pieces: &mut Pieces<'_>) -> Result<()> {
+pub fn round_trip(out: &mut Answer, pieces: &mut Pieces<'_>) {
     let flags = read_flags(pieces);
     let typ = take_word(pieces);
+    let alloc = out.alloc();
     match typ {
-        "Point" => {
-            let back = sent_back(out.alloc(), &read_point(pieces), flags);
-            back.map(|point| write_point(out, &point))
-        }
-        "Shape" => {
-            let back = sent_back(out.alloc(), &read_shape(pieces), flags);
-            back.map(|shape| write_shape(out, &shape))
-        }
+        "Point" => write_point(out, sent_back(alloc, &read_point(pieces), flags)),
+        "Shape" => write_shape(out, sent_back(alloc, &read_shape(pieces), flags)),
         "BTreeMap<char, bool>" => write_map_as::<char, bool>(out, pieces, flags),
         "BTreeMap<u8, u8>" => write_map_as::<u8, u8>(out, pieces, flags),
         _ => with_type!(typ, write_as(out, pieces, flags), [
             (), bool, i8, u8, i16, u16, i32, u32, i64, u64, i128, u128, char, String, Option<()>,
             Option<String>, Vec<bool>, Vec<i16>, (bool,), (u8,), (bool, bool), (bool, usize),
             (bool, char, String),
-        ], out.no_row()),
+        ], out.fail(Failure::NoRow)),
     }
 }
 
@@ -50,14 +46,8 @@ fn read_back<'a, T: RoundTrip<'a>>(pieces: &mut Pieces<'a>, flags: Flags) -> Res
 }
 
 /// Adds a value of this type as it comes back.
-fn write_as<'a, T: RoundTrip<'a> + Debug>(
-    out: &mut Answer,
-    pieces: &mut Pieces<'a>,
-    flags: Flags,
-) -> Result<()> {
-    let back: T = read_back(pieces, flags)?;
-    write_debug(out, &back);
-    Ok(())
+fn write_as<'a, T: RoundTrip<'a> + Debug>(out: &mut Answer, pieces: &mut Pieces<'a>, flags: Flags) {
+    write_datum(out, read_back::<T>(pieces, flags));
 }
 
 /// Adds a map as it comes back.
@@ -65,8 +55,6 @@ fn write_map_as<'a, K: RoundTrip<'a> + Debug + Ord, V: RoundTrip<'a> + Debug>(
     out: &mut Answer,
     pieces: &mut Pieces<'a>,
     flags: Flags,
-) -> Result<()> {
-    let back: BTreeMap<K, V> = read_back(pieces, flags)?;
-    write_entries(out, &back);
-    Ok(())
+) {
+    write_entries(out, read_back::<BTreeMap<K, V>>(pieces, flags));
 }

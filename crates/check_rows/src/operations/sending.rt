@@ -3,6 +3,7 @@
 use crate::answer::Answer;
 use crate::call::read_calls;
 use crate::cursor::Cursor;
+use crate::failure::Failure;
 use crate::methods::make_call;
 use crate::number::with_whole;
 use crate::piece::{Pieces, take_word};
@@ -15,15 +16,17 @@ use serde_content::{CowStr, Number, Result, Serializer, Value};
 use std::alloc::{AllocError, Global};
 use std::collections::BTreeMap;
 
+/// Entries in the order of their keys.
+type Sorted<'a> = BTreeMap<Value<'a>, Value<'a>>;
+
 /// The calls that a recorder holds, each made by its own method.
-pub fn record(out: &mut Answer, columns: &mut Cursor<'_, u8>) -> Result<()> {
+pub fn record(out: &mut Answer, columns: &mut Cursor<'_, u8>) {
     let calls = read_calls(columns);
     let mut recorder = Recorder::new(out.alloc(), false);
     for call in &calls {
-        make_call(&mut recorder, call)?;
+        out.given(make_call(&mut recorder, call));
     }
     write_calls(out, recorder.into_calls().as_slice());
-    Ok(())
 }
 
 /// A tree as rows have it.
@@ -52,25 +55,32 @@ fn is_built<T: Serialize>(alloc: Global, value: &T, calls: &[Call<'_>]) -> Resul
 }
 
 /// Adds the calls by which it is sent, and where it stops the text of that.
-fn write_sent<T: Serialize>(out: &mut Answer, value: &T) -> Result<()> {
+fn write_sent<T: Serialize>(out: &mut Answer, value: &T) {
     let mut recorder = Recorder::new(out.alloc(), false);
     let ended = value.serialize(out.alloc(), &mut recorder);
     write_calls(out, recorder.calls());
     match ended {
+        Ok(()) => write_if_another(out, is_built(out.alloc(), value, recorder.calls())),
         Err(error) => write_refusal(out, "; stop ", error),
-        Ok(()) if is_built(out.alloc(), value, recorder.calls())? => {}
-        Ok(()) => out.push_str("; another tree"),
     }
-    Ok(())
+}
+
+/// Adds that another tree was made, where it was.
+fn write_if_another(out: &mut Answer, is_built: Result<bool>) {
+    if out.given(is_built) == Some(false) {
+        out.push_str("; another tree");
+    }
 }
 
 /// Of a tree.
-pub fn send(out: &mut Answer, pieces: &mut Pieces<'_>) -> Result<()> {
-    write_sent(out, &read_tree(pieces))
+pub fn send(out: &mut Answer, pieces: &mut Pieces<'_>) {
+    let value = read_tree(pieces);
+    write_sent(out, &value);
+    drop(value);
 }
 
 /// Of what a tree holds, as the type that is named.
-pub fn send_as(out: &mut Answer, pieces: &mut Pieces<'_>) -> Result<()> {
+pub fn send_as(out: &mut Answer, pieces: &mut Pieces<'_>) {
     let named = take_word(pieces);
     match (named, read_tree(pieces)) {
         ("tuple", Value::Tuple(items)) => write_sent_tuple(out, items),
@@ -80,7 +90,7 @@ pub fn send_as(out: &mut Answer, pieces: &mut Pieces<'_>) -> Result<()> {
 }
 
 /// Of what a tree holds, but for a tuple or a map.
-fn write_sent_part(out: &mut Answer, named: &str, value: &Value<'_>) -> Result<()> {
+fn write_sent_part(out: &mut Answer, named: &str, value: &Value<'_>) {
     match (named, value) {
         ("unit", Value::Unit) => write_sent(out, &()),
         ("bool", Value::Bool(flag)) => write_sent(out, flag),
@@ -92,26 +102,26 @@ fn write_sent_part(out: &mut Answer, named: &str, value: &Value<'_>) -> Result<(
         ("Box", Value::Struct(node)) => write_sent(out, node),
         ("Box", Value::Enum(node)) => write_sent(out, node),
         ("Vec", Value::Seq(items)) => write_sent(out, items),
-        _ => out.no_row(),
+        _ => out.fail(Failure::NoRow),
     }
 }
 
 /// Of a number, as the type that is named.
-fn write_sent_number(out: &mut Answer, named: &str, number: Number) -> Result<()> {
+fn write_sent_number(out: &mut Answer, named: &str, number: Number) {
     match (named, number) {
         ("Number", number) => write_sent(out, &number),
         ("whole", number) => with_whole!(number, n => write_sent(out, &n)),
         ("usize", Number::U64(n)) => write_sent(out, &(n as usize)),
         ("isize", Number::I64(n)) => write_sent(out, &(n as isize)),
-        _ => out.no_row(),
+        _ => out.fail(Failure::NoRow),
     }
 }
 
 /// Of one to four trees, as a tuple.
-fn write_sent_tuple(out: &mut Answer, items: Vec<Value<'_>>) -> Result<()> {
+fn write_sent_tuple(out: &mut Answer, items: Vec<Value<'_>>) {
     let mut items = items.into_iter();
     let Some(first) = items.next() else {
-        return out.no_row();
+        return out.fail(Failure::NoRow);
     };
     let Some(second) = items.next() else {
         return write_sent(out, &(first,));
@@ -125,11 +135,18 @@ fn write_sent_tuple(out: &mut Answer, items: Vec<Value<'_>>) -> Result<()> {
     }
 }
 
-/// Of pairs, put into a `BTreeMap` in turn.
-fn write_sent_map(out: &mut Answer, pairs: Vec<(Value<'_>, Value<'_>)>) -> Result<()> {
-    let mut map = BTreeMap::new(out.alloc());
+/// Pairs, put into a `BTreeMap` in turn.
+fn map_of<'a>(alloc: Global, pairs: Vec<(Value<'a>, Value<'a>)>) -> Result<Sorted<'a>> {
+    let mut map = BTreeMap::new(alloc);
     for (key, value) in pairs {
         drop(map.insert(key, value)?);
     }
-    write_sent(out, &map)
+    Ok(map)
+}
+
+/// Of pairs, as a `BTreeMap`.
+fn write_sent_map<'a>(out: &mut Answer, pairs: Vec<(Value<'a>, Value<'a>)>) {
+    if let Some(map) = out.given(map_of(out.alloc(), pairs)) {
+        write_sent(out, &map);
+    }
 }

@@ -13,20 +13,20 @@ use std::alloc::{AllocError, Global};
 use std::fmt::Debug;
 
 /// What an access answers to each step.
-pub fn access(out: &mut Answer, pieces: &mut Pieces<'_>) -> Result<()> {
+pub fn access(out: &mut Answer, pieces: &mut Pieces<'_>) {
     let flags = read_flags(pieces);
     let request = read_request(pieces);
     let steps = take_word(pieces);
     let from = read_deserializer(pieces, flags);
     let alloc = out.alloc();
     match request.word {
-        "seq" => write_seq_steps(out, steps, from.deserialize_seq(alloc)?),
-        "map" => write_map_steps(out, steps, from.deserialize_map(alloc)?),
+        "seq" => write_seq_steps(out, steps, from.deserialize_seq(alloc)),
+        "map" => write_map_steps(out, steps, from.deserialize_map(alloc)),
         "struct" => {
-            let entries = from.deserialize_struct(alloc, request.name, &[])?;
-            write_map_steps(out, steps, entries)
+            let entries = from.deserialize_struct(alloc, request.name, &[]);
+            write_map_steps(out, steps, entries);
         }
-        _ => out.no_row(),
+        _ => out.fail(Failure::NoRow),
     }
 }
 
@@ -68,42 +68,60 @@ fn size(alloc: Global, hint: Option<usize>) -> Result<String> {
 }
 
 /// Adds what a sequence answers to each step.
-fn write_seq_steps(out: &mut Answer, steps: &str, mut items: Seq<'_, 'static>) -> Result<()> {
-    let alloc = out.alloc();
-    for (place, step) in steps.split("; ").enumerate() {
-        let answer = match step {
-            "size_hint" => size(alloc, items.size_hint()),
-            "next_element<u8>" => told(alloc, items.next_element::<u8>(alloc)),
-            _ => return out.no_row(),
-        };
-        write_step(out, place, answer);
+fn write_seq_steps(out: &mut Answer, steps: &str, items: Result<Seq<'_, 'static>>) {
+    if let Some(mut items) = out.given(items) {
+        for (place, step) in steps.split("; ").enumerate() {
+            let answer = seq_step(out, &mut items, step);
+            write_step(out, place, answer);
+        }
     }
-    Ok(())
+}
+
+/// What a sequence answers to a step.
+fn seq_step(out: &mut Answer, items: &mut Seq<'_, 'static>, step: &str) -> Result<String> {
+    let alloc = out.alloc();
+    match step {
+        "size_hint" => size(alloc, items.size_hint()),
+        "next_element<u8>" => told(alloc, items.next_element::<u8>(alloc)),
+        _ => no_step(out),
+    }
+}
+
+/// No answer, since the line is no row.
+fn no_step(out: &mut Answer) -> Result<String> {
+    out.fail(Failure::NoRow);
+    Ok(String::new(out.alloc()))
 }
 
 /// Adds what a map answers to each step.
-fn write_map_steps(out: &mut Answer, steps: &str, mut entries: Map<'_, 'static>) -> Result<()> {
-    let alloc = out.alloc();
-    for (place, step) in steps.split("; ").enumerate() {
-        let answer = match step {
-            "size_hint" => size(alloc, entries.size_hint()),
-            "next_key<()>" => told(alloc, entries.next_key::<()>(alloc)),
-            "next_key<bool>" => told(alloc, entries.next_key::<bool>(alloc)),
-            "next_key<u64>" => told(alloc, entries.next_key::<u64>(alloc)),
-            "next_key<i128>" => told(alloc, entries.next_key::<i128>(alloc)),
-            "next_key<String>" => told(alloc, entries.next_key::<String>(alloc)),
-            "next_value<bool>" => told(alloc, entries.next_value::<bool>(alloc)),
-            "next_value<u8>" => told(alloc, entries.next_value::<u8>(alloc)),
-            "next_entry<(), u8>" => next_entry::<(), u8>(alloc, &mut entries),
-            "next_entry<bool, u8>" => next_entry::<bool, u8>(alloc, &mut entries),
-            "next_entry<String, bool>" => next_entry::<String, bool>(alloc, &mut entries),
-            "next_entry<String, u8>" => next_entry::<String, u8>(alloc, &mut entries),
-            "next_entry_deserializers" => next_deserializers(alloc, &mut entries),
-            _ => return out.no_row(),
-        };
-        write_step(out, place, answer);
+fn write_map_steps(out: &mut Answer, steps: &str, entries: Result<Map<'_, 'static>>) {
+    if let Some(mut entries) = out.given(entries) {
+        for (place, step) in steps.split("; ").enumerate() {
+            let answer = map_step(out, &mut entries, step);
+            write_step(out, place, answer);
+        }
     }
-    Ok(())
+}
+
+/// What a map answers to a step.
+fn map_step(out: &mut Answer, entries: &mut Map<'_, 'static>, step: &str) -> Result<String> {
+    let alloc = out.alloc();
+    match step {
+        "size_hint" => size(alloc, entries.size_hint()),
+        "next_key<()>" => told(alloc, entries.next_key::<()>(alloc)),
+        "next_key<bool>" => told(alloc, entries.next_key::<bool>(alloc)),
+        "next_key<u64>" => told(alloc, entries.next_key::<u64>(alloc)),
+        "next_key<i128>" => told(alloc, entries.next_key::<i128>(alloc)),
+        "next_key<String>" => told(alloc, entries.next_key::<String>(alloc)),
+        "next_value<bool>" => told(alloc, entries.next_value::<bool>(alloc)),
+        "next_value<u8>" => told(alloc, entries.next_value::<u8>(alloc)),
+        "next_entry<(), u8>" => next_entry::<(), u8>(alloc, entries),
+        "next_entry<bool, u8>" => next_entry::<bool, u8>(alloc, entries),
+        "next_entry<String, bool>" => next_entry::<String, bool>(alloc, entries),
+        "next_entry<String, u8>" => next_entry::<String, u8>(alloc, entries),
+        "next_entry_deserializers" => next_deserializers(alloc, entries),
+        _ => no_step(out),
+    }
 }
 
 /// The next entry as what reads its key and what reads its value.
@@ -113,9 +131,9 @@ fn next_deserializers(alloc: Global, entries: &mut Map<'_, 'static>) -> Result<S
     };
     let mut out = Answer::new(alloc);
     out.push_str("Some(");
-    write_handed(&mut out, key)?;
+    write_handed(&mut out, key);
     out.push_str(" => ");
-    write_handed(&mut out, value)?;
+    write_handed(&mut out, value);
     out.push(')');
     Ok(out.finish().ok().ok_or(AllocError)?)
 }
