@@ -69,6 +69,14 @@ def large() -> Iterator[Tuple[str, int, str]]:
         f"{default}#[serde(default)]\nstruct A{i} {{ x: A{i + 1} }}\n" for i in range(1000)) + f"{default}struct A1000;\n"
     yield "40 structs with Default, each with two of the next", 0, "".join(
         f"{default}struct A{i} {{ x: A{i + 1}, y: A{i + 1} }}\n" for i in range(40)) + f"{default}struct A40;\n"
+    for count, status in ((20, 0), (1000, 2)):
+        yield f"a chain of {count} structs with parameters", status, "".join(
+            f"{derive}struct A{i}<T> {{ x: Box<A{i + 1}<T>> }}\n" for i in range(count)) + (
+            f"{derive}struct A{count}<T>(Vec<T>);\n{derive}struct A(A0<u8>);\n")
+    for count, status in ((4, 0), (20, 2)):
+        yield f"{count} structs with parameters, each with two of the next", status, "".join(
+            f"{derive}struct A{i}<T> {{ x: Box<A{i + 1}<T>>, y: Box<A{i + 1}<Vec<T>>> }}\n" for i in range(count)) + (
+            f"{derive}struct A{count}<T>(Vec<T>);\n{derive}struct A(A0<u8>);\n")
     yield "a ring of 1,000 structs", 2, "".join(f"{derive}struct A{i}(A{(i + 1) % 1000});\n" for i in range(1000))
     yield "1,000 structs that are flattened", 2, "".join(
         f"{derive}struct A{i} {{ x{i}: u8, #[serde(flatten)] y: A{i + 1} }}\n" for i in range(1000)) + (

@@ -199,12 +199,42 @@ def own_rules() -> Dict[str, str]:
     return made
 
 
+def generics() -> Dict[str, str]:
+    """Types with parameters, and a type that holds such types with arguments."""
+    page = (f"{ALL}\npub struct Page<T> {{ pub items: Vec<T>, pub next: Option<Box<T>> }}\n\n{ALL}\npub enum Either<L, R> {{ Left(L), Right(R)"
+            f" }}\n\n{ALL}\npub struct Sealed<T>(pub T);\n\n")
+    return {
+        "generic_2": f"{ALL}\npub struct Tried<T> {{ pub f0: T, pub f1: u8 }}",
+        "generic_place_2": f"{ALL}\npub struct Tried<T>(pub T, pub u8);",
+        "generic_variant_2": f"{ALL}\npub enum Tried<T> {{ A, B {{ f0: T, f1: u8 }}, C(T, u8) }}",
+        "generic_skipped": f"{ALL.replace('derive(', 'derive(Debug, Clone, ')}\npub struct Tried<T> {{ pub items: Vec<T>, pub total_count: Option<u64>,"
+                           ' #[serde(skip_serializing_if = "Option::is_none")] pub next: Option<String> }',
+        "generic_untagged": f"{ALL}\n#[serde(untagged)]\npub enum Tried<T> {{ Reference {{ reference: String }}, Item(T) }}",
+        "generic_internal": f'{ALL}\n#[serde(tag = "kind")]\npub enum Tried<T> {{ A, B {{ f0: T, f1: u8 }} }}',
+        "generic_adjacent": f'{ALL}\n#[serde(tag = "t", content = "c")]\npub enum Tried<T> {{ A, B(T), C(Vec<T>) }}',
+        "generic_transparent": f"{ALL}\n#[serde(transparent)]\npub struct Tried<T> {{ pub f0: T }}",
+        "generic_newtype": f"{ALL}\npub struct Tried<T>(pub Vec<T>);",
+        "generic_two": f"{ALL}\npub struct Tried<K, V> {{ pub key: K, pub value: V, pub more: Vec<V> }}",
+        "generic_closed": f"{ALL}\n#[serde(deny_unknown_fields)]\npub struct Tried<T> {{ pub f0: T, pub f1: Vec<T> }}",
+        "generic_8": f"{ALL}\npub struct Tried<T> {named(['u8', 'String', 'Vec<T>', 'Option<u8>', 'bool', 'i32', 'Vec<u8>', 'u64'])}",
+        "generic_9": f"{ALL}\npub struct Tried<T> {named(['u8', 'String', 'Vec<T>', 'Option<u8>', 'bool', 'i32', 'Vec<u8>', 'u64', 'u8'])}",
+        "generic_variant_5": f"{ALL}\npub enum Tried<T> {{ A {{ a: u8, b: String, c: Vec<T>, d: bool, e: u8 }}, B(Vec<T>) }}",
+        "generic_untagged_two": f"{ALL}\n#[serde(untagged)]\npub enum Tried<T> {{ One(T), Many(Vec<T>) }}",
+        "generic_in_generic": f"{ALL}\npub struct Page<T> {{ pub items: Vec<T> }}\n\n{ALL}\npub struct Tried<T> {{ pub pages: Vec<Page<T>> }}",
+        "generic_flat": f"{ALL}\npub struct Twin<T> {{ pub first: T, pub second: Vec<T> }}\n\n{ALL}\npub struct Tried {{ pub before: u8,"
+                        " #[serde(flatten)] pub twin: Twin<i16> }",
+        "generic_beside": f"{ALL}\npub struct Listed<T> {{ pub items: Vec<T>, pub more: bool }}\n\n{ALL}\n#[serde(tag = \"sort\")]\n"
+                          "pub enum Tried<T> { Listed(Listed<T>), One { value: Vec<T>, count: u8 } }",
+        "generic_held": f"{page}{ALL}\npub struct Tried {{ pub page: Page<u8>, pub sealed: Sealed<String>, pub x: Either<u8, Own> }}",
+    }
+
+
 HEAD = "//! {}.\n\nuse serde::{{Deserialize, Serialize}};\nuse std::collections::BTreeMap;\n\n"
 
 
 def bodies() -> Dict[str, str]:
     """The declaration of each type, by name."""
-    return {**structs(), **enums(), **names(), **types(), **attributes(), **own_rules()}
+    return {**structs(), **enums(), **names(), **types(), **attributes(), **own_rules(), **generics()}
 
 
 def matrix() -> Dict[str, str]:

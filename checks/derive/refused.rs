@@ -6,9 +6,64 @@ struct A {
     x: Vec<f64>,
 }
 
-// 2: A: type parameters and lifetimes are not covered: write a type for each that you use
+// 2: A: lifetimes are not covered: hold the value itself, as String for &str
+// 4: B: a parameter that is a value is not covered: write a type for each that you use
+// 6: C: a default of a parameter is not covered: delete that of `T`, and write it where you use the type
+// 8: D: the name `S` of a parameter is not covered: give it one that begins with a capital, and that nothing else has
+// 8: D: the name `A` of a parameter is not covered: give it one that begins with a capital, and that nothing else has
+// 8: D: the name `t` of a parameter is not covered: give it one that begins with a capital, and that nothing else has
+// 11: E.x: its default is not covered: hold a number, bool, String, Option, Vec, BTreeMap or a type of your own that derives Default
+// 12: E.y: what is flattened is covered where it is a struct of this file with named fields and without `deny_unknown_fields`: hold such a struct, or delete `flatten`
+// 13: E.z: a map with keys of type `T` is not covered, as their order is not known: hold a Vec of pairs
+// 18: F.0: `G` has 0 arguments here, and its parameters are: T
+// 18: F.1: `G` has 2 arguments here, and its parameters are: T
+// 18: F.2: `H` has 1 arguments here, and its parameters are: none
+// 18: F.3: a map with keys of type `G<u8>` is not covered, as their order is not known: hold a Vec of pairs
+// 18: F.4: `crate::other::Page<u8>` is not covered: a type with arguments is where this file declares it: declare there a struct around it, and hold that
+// 22: I.X.0: `I` contains itself, which is not covered: write its impls by hand
+// 24: J.x: the size of `Option<T>` depends on `T`, which is not covered: hold `Box<T>` there for `T`
+// 24: J.y: the size of `(u8, T)` depends on `T`, which is not covered: hold `Box<T>` there for `T`
+// 26: K.0: the size of `G<T>` depends on `T`, which is not covered: hold `Box<T>` there for `T`
+// 28: L.8: a field of a parameter's type is covered among up to 8 of a struct and 4 of a variant: hold `Box<T>`
+// 30: M.X.x: a field of a parameter's type is covered before those that may be missing or have an alias: move it there, or hold `Box<T>`
+// 33: N.X.x: of an untagged enum, a value of a parameter's type is covered alone in its variant: hold `Box<T>`
+// 33: N.Y.1: of an untagged enum, a value of a parameter's type is covered alone in its variant: hold `Box<T>`
+// 35: O: `derive(Copy)` is not covered on a type with parameters, as one that isn't Copy has to be dropped: delete Copy
 #[derive(Serialize)]
-struct A<T>(T);
+struct A<'a, T>(&'a T);
+#[derive(Serialize)]
+struct B<const N: usize>(u8);
+#[derive(Serialize)]
+enum C<T = u8> { X(T) }
+#[derive(Serialize)]
+struct D<S, A, t>(S, A, t);
+#[derive(Serialize, Deserialize)]
+struct E<T> {
+    #[serde(default)] x: T,
+    #[serde(flatten)] y: T,
+    z: BTreeMap<T, u8>,
+}
+#[derive(Serialize, Deserialize)]
+struct G<T>(T);
+#[derive(Serialize)]
+struct F(G, G<u8, u8>, H<u8>, BTreeMap<G<u8>, u8>, crate::other::Page<u8>);
+#[derive(Serialize)]
+struct H(u8);
+#[derive(Serialize)]
+enum I<T> { X(Box<I<T>>), Y(T) }
+#[derive(Deserialize)]
+struct J<T> { x: Option<T>, y: Vec<(u8, T)> }
+#[derive(Deserialize)]
+struct K<T>(G<T>);
+#[derive(Deserialize)]
+struct L<T>(u8, u8, u8, u8, u8, u8, u8, u8, T);
+#[derive(Deserialize)]
+enum M<T> { X { a: Option<u8>, x: T }, Y(T) }
+#[derive(Deserialize)]
+#[serde(untagged)]
+enum N<T> { X { x: T }, Y(u8, T), Z(T) }
+#[derive(Clone, Copy, Serialize)]
+struct O<T>(T);
 
 // 3: A.x: a type that begins with `&` is not covered: hold the value itself, as String for &str
 #[derive(Serialize)]
@@ -390,7 +445,7 @@ struct A(u8);
 struct B(u8);
 
 // 2: A: serde's `remote` on a container is not covered: only your own types are sent: declare one like it, and convert it by hand
-// 3: A: serde's `bound` on a container is not covered: there are no type parameters: delete it
+// 3: A: serde's `bound` on a container is not covered: each impl has the bounds that it needs: delete it
 #[derive(Serialize)]
 #[serde(remote = "B")]
 #[serde(bound = "x")]

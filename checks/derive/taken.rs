@@ -584,3 +584,31 @@ struct A {
     #[serde(default = "one")]
     x: u8,
 }
+
+// 2: left out: `T: Serialize+Clone`, as each impl has the bounds that it needs
+// 2: left out: `where U: Ord`, as each impl has the bounds that it needs
+// 7: left out: `where T: Copy, for<'a>&'a T: Copy`, as each impl has the bounds that it needs
+// + pub struct A<T, U> { pub x: T, pub y: Vec<U>, }
+// + type Field2OfA<U> = ReadField<FieldsOfA, 1, Vec<U>, OthersSkipped<FieldsOfA>>;
+// + fn read_a_from_1<'de, 'n: 'de, T: Deserialize<'de>, U: Deserialize<'de>>(alloc: Global, mut fields: FieldsByName<'de, 'n>) -> Result<(T, Field2OfA<U>)>
+// + impl<'de, T: Deserialize<'de>, U: Deserialize<'de>> ReadStruct<'de> for A<T, U>
+// + impl<T: Serialize, U: Serialize> Serialize for A<T, U>
+// + (T.lawful p.x readable)
+// + impl<'de, T: CborRoundTrip<'de>, U: CborRoundTrip<'de>> CborRoundTrip<'de> for A<T, U>
+// + impl<'de, T: NotNull<'de>> NotNull<'de> for B<T>
+// + impl<'de, T: CborRoundTrip<'de> + NotNull<'de>> CborRoundTrip<'de> for C<T>
+// + fn read_c_y<'de, 'n: 'de, T: Deserialize<'de>>(alloc: Global, fields: FieldsByName<'de, 'n>) -> Result<(Option<Box<T>>, i8)>
+// + fn make_c_y<T>(x: Option<Box<T>>, y: i8) -> C<T>
+// + let law : (x : (B ℕ)) (readable : Bool) → IsLawful (⟦<B<u8> as Serialize>⟧.script x readable) = λ p readable. newtype_struct_lawful
+// - b_serialize
+#[derive(PartialEq, Eq, Serialize, Deserialize)]
+pub struct A<T: Serialize + Clone, U> where U: Ord {
+    pub x: T,
+    pub y: Vec<U>,
+}
+#[derive(PartialEq, Eq, Serialize, Deserialize)]
+struct B<T,>(T) where T: Copy, for<'a> &'a T: Copy;
+#[derive(PartialEq, Eq, Serialize, Deserialize)]
+enum C<T> { X(T), Y { x: Option<Box<T>>, y: i8 } }
+#[derive(PartialEq, Eq, Serialize, Deserialize)]
+struct D { x: Vec<B<u8>>, y: C<String> }

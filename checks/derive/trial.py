@@ -8,7 +8,7 @@ from typing import Dict, Iterable, Iterator, Tuple
 from serde_derive.attributes import DERIVES
 from serde_derive.declarations import Refusals
 from serde_derive.homes import Homes
-from serde_derive.module import module, read, settled
+from serde_derive.module import laws_of, module, read, settled
 
 CRATE = "trial"
 ALL = "Clone, Copy, Debug, Default, PartialEq, Eq, PartialOrd, Ord, Hash, Serialize, Deserialize"
@@ -22,7 +22,7 @@ def is_complete(source: str, path: str) -> bool:
     can be derived is given by an impl, which tools/derive passes over and leaves to another file. What names
     its own module by another path may be refused."""
     file = read(source)
-    homes = Homes(CRATE, path, file)
+    homes = Homes(CRATE, path, file, laws_of)
     try:
         settled(file, homes)
     except Refusals:

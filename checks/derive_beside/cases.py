@@ -4,7 +4,7 @@ The others are damaged in one to three places."""
 import random
 import string
 
-from shapes import own
+from shapes import alone, own
 from trees import EMPTY, KINDS, NONE, UNIT, bounds, fits
 
 FLAGS = ["-", "c", "h", "hc"]
@@ -47,7 +47,7 @@ class Maker:
     def __init__(self, shapes):
         self.shapes = shapes
         self.names = sorted({name for item in shapes.values() for name in names_of(item)})
-        self.near = {item.name: self.names_near(item) for item in shapes.values()}
+        self.near = {item.name: self.names_near(item) for item in alone(shapes)}
 
     def names_near(self, item):
         """The names that are sent of a type and of those that it holds."""
@@ -113,7 +113,7 @@ class Maker:
     def fields(self, data):
         """Fields by name, those of others in their places."""
         return tuple(entry for field in data.fields for entry in (
-            self.fields(self.shapes[field.type.name].data) if "flatten" in field.serde else self.field(field)))
+            self.fields(self.shapes[own(field.type)].data) if "flatten" in field.serde else self.field(field)))
 
     def field(self, field):
         """A field with its value; none where it may be missing, or is left out, at times."""
@@ -325,7 +325,7 @@ def made(shapes, seed, count):
     """The cases: the name of a type, flags and a tree."""
     random.seed(seed)
     maker = Maker(shapes)
-    items = list(shapes.values())
+    items = alone(shapes)
     for item in random.choices(items, map(weight, items), k=count):
         tree, damage = maker.own(item), Damage(maker, item)
         for change in (plainer, shuffled, recounted):

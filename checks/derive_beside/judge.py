@@ -15,7 +15,7 @@ from cases import Maker, made  # noqa: E402
 from enums import Enums  # noqa: E402
 from lines import ALL  # noqa: E402
 from programs import write_programs  # noqa: E402
-from shapes import TOP, shapes_of  # noqa: E402
+from shapes import TOP, alone, shapes_of  # noqa: E402
 from source import Refused, Source  # noqa: E402
 from trees import printed, row  # noqa: E402
 
@@ -72,7 +72,7 @@ def main():
     if command == "programs":
         files = list(map(Path, words[2:]))
         shapes = shapes_of(files)
-        write_programs(files, shapes, Maker(shapes).names, room, Path(words[1]))
+        write_programs(files, [item.name for item in alone(shapes)], Maker(shapes).names, room, Path(words[1]))
         return 0
     shapes = shapes_of(words[3:])
     cases = list(made(shapes, *map(int, words[1:3])))

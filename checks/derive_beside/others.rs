@@ -477,10 +477,96 @@ pub enum Packed {
 /// Values without a tag, of which two hold nothing.
 #[derive(Serialize, Deserialize)]
 #[serde(untagged)]
-pub enum Id {
+pub enum Handle {
     Number(i64),
     Null,
     Text(String),
     Pair(u8, Option<bool>),
     Never,
+}
+
+/// What is listed, a page at a time.
+#[derive(Serialize, Deserialize)]
+pub struct Listed<T> {
+    pub items: Vec<T>,
+    #[serde(default)]
+    pub more: bool,
+    #[serde(skip_serializing_if = "Option::is_none")]
+    pub next: Option<Box<T>>,
+}
+
+/// Of two sorts.
+#[derive(Serialize, Deserialize)]
+#[serde(rename_all = "lowercase")]
+pub enum Sorted<L, R> {
+    Left(L),
+    Right(R, u8),
+    Both { left: L, right: R },
+    Neither,
+}
+
+/// Where a value is.
+#[derive(Serialize, Deserialize)]
+pub struct Reference {
+    #[serde(rename = "$ref")]
+    pub path: String,
+}
+
+/// A reference or the value.
+#[derive(Serialize, Deserialize)]
+#[serde(untagged)]
+pub enum Referred<T> {
+    Reference(Reference),
+    Item(T),
+}
+
+/// What happened to a value.
+#[derive(Serialize, Deserialize)]
+#[serde(tag = "type", content = "object")]
+pub enum Watched<K> {
+    Added(K),
+    Changed(Vec<K>),
+    Reset,
+}
+
+/// One value in a box of its own.
+#[derive(Serialize, Deserialize)]
+#[serde(transparent)]
+pub struct Sealed<T>(pub T);
+
+/// A value by its sort.
+#[derive(Serialize, Deserialize)]
+#[serde(tag = "sort")]
+pub enum Named<T>
+where
+    T: Clone,
+{
+    Listed(Listed<T>),
+    One { value: T, count: Option<u8> },
+}
+
+/// Types with arguments.
+#[derive(Serialize, Deserialize)]
+pub struct Given {
+    pub numbers: Listed<u16>,
+    pub pairs: Listed<(String, Sealed<bool>)>,
+    pub sorted: Sorted<u8, Listed<String>>,
+    pub referred: Vec<Referred<Leaf>>,
+    pub watched: Option<Watched<Sealed<Option<i8>>>>,
+    pub named: Named<char>,
+}
+
+/// Two values of a type.
+#[derive(Serialize, Deserialize)]
+pub struct Twin<T> {
+    pub first: T,
+    pub second: Option<Box<T>>,
+}
+
+/// The fields of such a type next to others.
+#[derive(Serialize, Deserialize)]
+pub struct Beside {
+    pub before: u8,
+    #[serde(flatten)]
+    pub twin: Twin<i16>,
 }

@@ -34,10 +34,10 @@ pub fn static_name(name: &str) -> Option<&'static str> {{
 """
 
 
-def write_programs(files, shapes, names, driver, here):
+def write_programs(files, types, names, driver, here):
     """Writes these parts of the Rust program and of ours."""
     uses = "".join(f"use crate::{file.stem}::*;\n" for file in files)
-    arms = "".join(f"        {quoted(name)} => crate::sent::<{name}>(from),\n" for name in shapes)
+    arms = "".join(f"        {quoted(name)} => crate::sent::<{name}>(from),\n" for name in types)
     (driver / "typed.rs").write_text(RUST.format(uses=uses, arms=arms))
-    (here / "typed.rt").write_text(RATTLE.format(uses=uses, types=", ".join(shapes)))
+    (here / "typed.rt").write_text(RATTLE.format(uses=uses, types=", ".join(types)))
     (here / "names.rt").write_text(NAMES.format(count=len(names), names=", ".join(map(quoted, names))))

@@ -1,5 +1,6 @@
 """The types that files declare, as tools/serde_derive reads them."""
 import sys
+from dataclasses import replace
 from pathlib import Path
 
 TOP = Path(__file__).parents[2]
@@ -14,8 +15,9 @@ WHOLE = "by the struct"
 
 
 def shapes_of(files):
-    """The structs and enums of these files, by their names, with the names that are sent. A field that has a default by
-    its struct's attribute has `default` there as `WHOLE`."""
+    """The structs and enums of these files, by their names, with the names that are sent; of one with parameters each that
+    another holds, by its name with its arguments. A field that has a default by its struct's attribute has `default` there
+    as `WHOLE`."""
     shapes = {}
     for file in files:
         declared = read(Path(file).read_text(encoding="utf-8"))
@@ -29,12 +31,36 @@ def shapes_of(files):
             for field in item.fields() if "default" in item.serde else ():
                 if not any(field is one for one in its_own):
                     field.serde["default"] = WHOLE
+    return with_arguments(shapes)
+
+
+def with_arguments(declared):
+    """The types without parameters, and of the others each that is held, with its arguments."""
+    shapes = {name: item for name, item in declared.items() if not item.parameters}
+    left = [field.type for item in shapes.values() for field in item.fields()]
+    while left:
+        kind = left.pop()
+        left += kind.arguments
+        generic = declared.get(bare(kind))
+        if generic and generic.parameters and own(kind) not in shapes:
+            shapes[own(kind)] = generic.at(kind)
+            left += [field.type for field in shapes[own(kind)].fields()]
     return shapes
 
 
-def own(kind):
-    """The name of a type of one's own, without its path."""
+def alone(shapes):
+    """The types that have no arguments."""
+    return [item for name, item in shapes.items() if name == item.name]
+
+
+def bare(kind):
+    """The name of a type, without its path and its arguments."""
     return kind.name.split("::")[-1]
+
+
+def own(kind):
+    """The name of a type of one's own, without its path, with its arguments."""
+    return replace(kind, name=bare(kind)).rust()
 
 
 def default_variant(item):

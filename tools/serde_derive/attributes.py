@@ -20,7 +20,7 @@ NOT_COVERED = {
     **dict.fromkeys(["from", "try_from", "into"], "a conversion has no contract here: write the impls by hand"),
     **dict.fromkeys(["skip", "skip_serializing", "skip_deserializing"], "write the impls by hand"),
     **dict.fromkeys(["remote", "getter"], "only your own types are sent: declare one like it, and convert it by hand"),
-    "bound": "there are no type parameters: delete it",
+    "bound": "each impl has the bounds that it needs: delete it",
     "borrow": "values are owned: delete it",
     "crate": "what is written uses `serde_content`: delete it",
     "expecting": "refusals have a text of their own: delete it",

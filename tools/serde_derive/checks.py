@@ -6,7 +6,7 @@ from .declarations import Field, Item, NotRust, Refused
 from .files import File
 from .functions import Functions
 from .homes import extent, from_crate, placed
-from .types import LEAVES
+from .types import LEAVES, RESERVED
 from .words import CRATES, SEEN, TAKEN, WORDS
 
 # what names no type, field or variant: words of Rattle's, and names that it makes itself
@@ -114,6 +114,17 @@ def check_others(file: File) -> Iterator[Refused]:
                 for item in file.items if item.covered and item.name in others)
 
 
+def check_parameters(item: Item, file: File) -> Iterator[Refused]:
+    """Refuses names of parameters that the module could not write, and parameters that nothing in the type has."""
+    others = {*file.uses, *file.aliases, *file.passed, *(other.name for other in file.items)}
+    for name in item.parameters if item.covered else ():
+        if name in {*NOT_TYPES, *RESERVED, *others} or not name[:1].isupper():
+            yield Refused(item.line, f"the name `{name}` of a parameter is not covered: give it one that begins with a"
+                          " capital, and that nothing else has", item.name)
+        elif not any(name in data.parameters() for data in item.parts()):
+            yield NotRust(item.line, f"the parameter `{name}` is in no field", item.name)
+
+
 def check_parts(item: Item) -> Iterator[Refused]:
     """Refuses two fields or variants of one name."""
     groups = [[(v, f"{item.name}.{v.name}") for v in item.variants], [(f, f"{item.name}.{f.name}") for f in item.data.fields]]
@@ -150,5 +161,6 @@ def check(file: File, module: List[str]) -> Iterator[Refused]:
     for item in file.items:
         yield from check_parts(item)
         yield from check_names(item)
+        yield from check_parameters(item, file)
         yield from check_visible(item, ["crate", *module])
         yield from check_attributes(item, file.functions)

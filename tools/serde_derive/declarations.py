@@ -2,10 +2,10 @@
 import re
 from dataclasses import dataclass, field, replace
 from itertools import combinations, islice
-from typing import Dict, List, NamedTuple, Optional
+from typing import Dict, List, NamedTuple, Optional, Tuple
 
 from .cases import pascal
-from .types import DEFAULTS, SIGNED, Type, in_term
+from .types import DEFAULTS, SIGNED, Type, angled, in_term, parameter
 from .words import NO_PLACES
 
 
@@ -53,6 +53,11 @@ class Refusals(Exception):
         self.status = min(refused.status for refused in each)
 
 
+def absent_of(t: Type) -> str:
+    """What contracts say of the value that is read where a field of this type is missing."""
+    return DEFAULTS.get(t.name, f"⟦<{t.rust()} as Absent>⟧.is_absent x")
+
+
 class Test(NamedTuple):
     """A test of the user's own: whether {x} passes, as contracts see it, the code that says so of `value`, what contracts say
     of an `x` that passes, and that one that is read in place of {x} equals it."""
@@ -94,7 +99,8 @@ class Field(Named):
     """A field; one by place has its place as its name. Where it may be missing, `missing` is what
     contracts say of what is read then, and `made` the code that makes a Result of it, where it isn't that of its type.
     It `skips` where it isn't sent if it is empty, or passes a `test` of the user's.
-    Where it is flattened, `inside` is what its type holds."""
+    Where it is flattened, `inside` is what its type holds. In a type with arguments the field was declared with the type
+    `origin`, whose parameters are `given` types."""
 
     type: Type = Type("()")
     visible: str = ""
@@ -103,12 +109,41 @@ class Field(Named):
     skips: bool = False
     test: Optional[Test] = None
     inside: Optional["Data"] = None
+    origin: Optional[Type] = None
+    given: Dict[str, Type] = field(default_factory=dict)
+
+    def at(self, given: Dict[str, Type]) -> "Field":
+        """The same with types in the place of parameters."""
+        of, missing = self.type.at(given), self.missing
+        return replace(self, type=of, missing=absent_of(of) if missing == absent_of(self.type) else missing,
+                       inside=self.inside and self.inside.at(given))
+
+    def held_at(self, given: Dict[str, Type]) -> "Field":
+        """The same in a type with arguments."""
+        return replace(self.at(given), origin=self.type, given=given, inside=self.inside and self.inside.held_at(given))
+
+    @property
+    def plain(self) -> bool:
+        """Whether contracts take each of its values for one that exists."""
+        return (self.origin or self.type).plain
+
+    def sized_by(self) -> List[str]:
+        """The parameters on which its size depends as it was declared."""
+        return (self.origin or self.type).sized_by()
+
+    def arguments(self) -> Dict[str, str]:
+        """The parameters in its type as it was declared, each with what stands for it."""
+        return {p: self.given[p].rust() if self.origin else p for p in (self.origin or self.type).parameters()}
 
     def skipped(self, value: str) -> str:
         """Whether it is left out where it has this value."""
         if self.test:
             return self.test.term.format(x=value)
         return f"({self.type.member('Skip', 'is_empty')} {value})"
+
+    def is_plain(self) -> bool:
+        """Whether it is read by one name, and has to be there."""
+        return self.read and not (self.missing or self.aliases())
 
     def lost(self) -> bool:
         """Whether what is read in its place may not equal what was left out."""
@@ -148,13 +183,36 @@ class Data:
         return [leaf for f in self.fields for leaf in (
             [replace(leaf, name=f"{f.name}.{leaf.name}") for leaf in f.inside.leaves()] if f.inside else [f])]
 
+    def at(self, given: Dict[str, Type]) -> "Data":
+        """The same with types in the place of parameters."""
+        return replace(self, fields=[f.at(given) for f in self.fields])
+
+    def held_at(self, given: Dict[str, Type]) -> "Data":
+        """The same in a type with arguments."""
+        return replace(self, fields=[f.held_at(given) for f in self.fields])
+
+    def parameters(self) -> List[str]:
+        """The parameters in its fields, each once."""
+        return list(dict.fromkeys(p for f in self.fields for p in f.type.parameters()))
+
+    def steps(self) -> int:
+        """The place after the last field whose size depends on a parameter: up to it fields are read one by one."""
+        return max((place for place, f in enumerate(self.fields, 1) if f.sized_by()), default=0)
+
+    def arguments(self, start: int) -> List[str]:
+        """What stands for the parameters in its fields from a place on, each once."""
+        given: Dict[str, str] = {}
+        for f in self.fields[start:]:
+            given.update(f.arguments())
+        return list(given.values())
+
     def flat(self) -> "Data":
         """The same with its leaves as its fields."""
         return replace(self, fields=self.leaves())
 
     def asked(self) -> List[Field]:
         """The fields of which contracts must be told that they exist."""
-        return [f for f in self.fields if not f.type.plain]
+        return [f for f in self.fields if not f.plain]
 
     def places(self) -> List[str]:
         """The names of its values in code, each once."""
@@ -211,7 +269,7 @@ class Variant(Named):
     def held(self) -> Type:
         """What a variant is read as, where its enum is untagged: one of values by name as a struct, one without as a unit."""
         if self.data.named:
-            return Type(pascal(self.owner))
+            return Type(pascal(self.owner), tuple(map(parameter, self.data.parameters())))
         types = tuple(f.type for f in self.data.fields)
         if not types:
             return Type("()")
@@ -223,7 +281,8 @@ class Item(Named):
     """A struct or an enum, with the traits that it derives. Its functions are called after its
     `owner`, and contracts know an enum's variants by `cases`. `levels` is how deep what is flattened
     stands; what is not `covered` is not written. It `defaults` where its declaration derives Default,
-    and `absent` says that Absent is written, for a field that is read as that value where it is missing."""
+    and `absent` says that Absent is written, for a field that is read as that value where it is missing.
+    One with `parameters` may be `held_as` a type that has arguments in their place."""
 
     sort: str = "struct"
     visible: str = ""
@@ -236,6 +295,25 @@ class Item(Named):
     cases: str = ""
     defaults: bool = False
     absent: bool = False
+    parameters: List[str] = field(default_factory=list)
+    held_as: Optional[Type] = None
+
+    def itself(self) -> Type:
+        """Its type, of its parameters."""
+        return self.held_as or Type(self.name, tuple(map(parameter, self.parameters)))
+
+    def at(self, t: Type) -> "Item":
+        """The same with the arguments of this type."""
+        given = dict(zip(self.parameters, t.arguments))
+        variants = [replace(v, data=v.data.at(given)) for v in self.variants]
+        return replace(self, data=self.data.at(given), variants=variants) if given else self
+
+    def held_at(self, t: Type) -> "Item":
+        """The same as what has this type holds it."""
+        given = dict(zip(self.parameters, t.arguments))
+        variants = [replace(v, data=v.data.held_at(given), beside=v.beside and replace(
+            v.beside, data=v.beside.data.held_at(given))) for v in self.variants]
+        return replace(self, data=self.data.held_at(given), variants=variants, held_as=t)
 
     def parts(self) -> List[Data]:
         """The data of the struct, or of each variant."""
@@ -319,17 +397,38 @@ class Item(Named):
             self.variants or held) and all(
             f.type.comes_back_from_cbor() and not f.skips for f in held)
 
+    def alone(self) -> Optional[Type]:
+        """The type that it is read of null by, where it is."""
+        return self.data.fields[0].type if self.data.style == "Newtype" or self.transparent() else None
+
     def may_be_null(self) -> bool:
         """Whether it may be read of null, where CBOR keeps its values."""
-        alone = self.data.style == "Newtype" or self.transparent()
-        return alone and self.data.fields[0].type.may_be_null()
+        alone = self.alone()
+        return bool(alone and alone.may_be_null())
+
+    def null_by(self) -> List[str]:
+        """The parameters that decide whether it may be read of null."""
+        alone = self.alone()
+        return alone.null_by() if alone else []
+
+    def places_of(self, parameters: List[str]) -> Tuple[int, ...]:
+        """The places of these parameters among all."""
+        return tuple(place for place, one in enumerate(self.parameters) if one in parameters)
+
+    def sized_by(self) -> List[str]:
+        """The parameters on which its size depends."""
+        return [p for f in self.fields() for p in f.type.sized_by()]
+
+    def optionals(self) -> List[str]:
+        """The parameters that may not be read of null where CBOR keeps its values."""
+        return [p for f in self.fields() for p in f.type.optionals()]
 
     def declared(self) -> str:
         """The declaration."""
         kept = [d for d in self.derives if d not in ("Serialize", "Deserialize", "Drop")]
         derives = ", ".join(kept if "Copy" in kept else ["Drop"] + kept)
         lines = self.head + [f"#[derive({derives})]"]
-        start = f"{self.visible}{self.sort} {self.name}"
+        start = f"{self.visible}{self.sort} {self.name}{angled(*self.parameters)}"
         if self.sort == "struct":
             return "\n".join(lines + [f"{start}{self.data.declared()}{'' if self.data.named else ';'}"])
         inside = [line for v in self.variants for line in v.head + [f"{v.name}{v.data.declared()},"]]

@@ -26,6 +26,8 @@ def lacking(t: Type, trait: str, items: Dict[str, Item], file: File) -> Iterator
     elif mine:
         if trait not in mine.derives and (trait, t.name) not in file.impls:
             yield f"`{t.name}` does not derive {trait}, as what holds it does: derive it there too"
+        for argument in t.arguments:
+            yield from lacking(argument, trait, items, file)
     elif trait != "Default" or t.name != "Option":
         for argument in t.arguments:
             yield from lacking(argument, trait, items, file)
@@ -100,6 +102,9 @@ def check_derives(item: Item, items: Dict[str, Item], file: File) -> Iterator[Re
         missing = [needed for needed in NEEDS.get(trait, []) if needed not in derived]
         if missing:
             yield Refused(item.line, f"`derive({trait})` needs {' and '.join(missing)}: derive that too", item.name)
+    if item.parameters and "Copy" in item.derives:
+        yield Refused(item.line, "`derive(Copy)` is not covered on a type with parameters, as one that isn't Copy has to be"
+                      " dropped: delete Copy", item.name)
     yield from check_imports(item, file)
     yield from check_default(item)
     for trait in item.derives:

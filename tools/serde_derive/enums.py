@@ -6,16 +6,17 @@ from .cases import pascal
 from .declarations import Data, Item, Variant
 from .holder import Holder
 from .literals import ROWS_OPENED, list_impl, list_term, name_method, name_term, opened
-from .text import ABSENT, DESERIALIZE, KNOWN, REFUSES_NULL, SERIALIZE, all_hold, arm, bare, bracketed, clause
+from .text import ABSENT, DESERIALIZE, KNOWN, REFUSED_NULL, SERIALIZE, all_hold, arm, bare, bracketed, clause
 from .text import codes, elim, facts, function, ghost, together
-from .types import in_term
+from .types import READ, Type, angled, bounded, in_term
 
 
 class EnumWriter:
     """The impls of an enum, each member by cases."""
 
     def __init__(self, item: Item):
-        self.item, self.name, self.cases = item, name_term(item.wire), item.cases
+        self.item, self.name, self.cases, self.whole = item, name_term(item.wire), item.cases, item.itself().rust()
+        self.own = f"⟦<{self.whole} as {READ}>⟧" if item.held_as else "Self"
         self.list = f"NamesOf{pascal(item.owner)}"
         self.sends, self.reads = "Serialize" in item.derives, "Deserialize" in item.derives
         self.variants = [(v, Holder("Variant", [item.wire, i, v.wire], v.data, v.owner))
@@ -90,11 +91,12 @@ class EnumWriter:
         places = v.data.places()
         given = "".join(f", {p}: &{f.type.rust()}" for p, f in zip(places, v.data.fields))
         value = " ".join([f"{self.cases}.{in_term(v.name)}"] + [f"{in_term(p)}.now" for p in places])
-        return [f"/// Sends that variant.\nfn {self.whole_name(v)}<S: Serializer>(alloc: Global, serializer: &mut S,"
-                f" whole: &{self.item.name}{given}) -> Result<()>\n"
+        bounds = angled("S: Serializer", *bounded(self.item.parameters, "Serialize"))
+        return [f"/// Sends that variant.\nfn {self.whole_name(v)}{bounds}(alloc: Global, serializer: &mut S,"
+                f" whole: &{self.whole}{given}) -> Result<()>\n"
                 + clause("requires", f"whole.now ≡ {value}")
                 + clause("ensures", "Sends S.step S.refuses (S.seen serializer.old)\n"
-                         f"(⟦<{self.item.name} as Serialize>⟧.script whole.now)\nresult (S.seen serializer.new)")
+                         f"(⟦<{self.whole} as Serialize>⟧.script whole.now)\nresult (S.seen serializer.new)")
                 + "{\n" + "\n".join(self.send_values(v, holder)) + "\n}\n"]
 
     def is_apart(self, v: Variant, holder: Holder) -> bool:
@@ -124,11 +126,13 @@ class EnumWriter:
         if held:
             made = held.data.made(held.name, places)
             making = f"{holder.maker_name()}(row)" if holder.big else made
-            return holder.maker(held.name, made, held.data.term) + holder.read_function(
-                making, held.name, [f"z.{in_term(f.name)}" for f in holder.fields])
-        types = [f.type.rust() for f in v.data.fields]
+            whole = v.data.fields[0].type
+            return holder.maker(whole, made, held.data.term) + holder.read_function(
+                making, whole, [f"z.{in_term(f.name)}" for f in holder.fields])
+        types = tuple(f.type for f in v.data.fields)
         values = [f"z.{i}" for i in range(len(types))] if len(types) > 1 else ["z"]
-        return holder.read_function(together(places), together(types), values) * (not holder.big)
+        result = Type("tuple", types) if len(types) != 1 else types[0]
+        return holder.read_function(together(places), result, values) * (not holder.big)
 
     def maker(self, v: Variant, holder: Holder) -> List[str]:
         """The function that makes a variant of signed numbers, or of more values than a row has room for."""
@@ -136,11 +140,11 @@ class EnumWriter:
             return []
         made, term = self.made(v, v.data.places()), " ".join([f"{self.cases}.{in_term(v.name)}", "{}"])
         if holder.big:
-            return holder.maker(self.item.name, made, lambda values: term.format(" ".join(values)))
+            return holder.maker(self.item.itself(), made, lambda values: term.format(" ".join(values)))
         places = v.data.places()
         parameters = ", ".join(f"{p}: {f.type.rust()}" for p, f in zip(places, v.data.fields))
         return ["/// Its contract tells proofs what a variant of signed numbers holds.\n"
-                f"fn {holder.maker_name()}({parameters}) -> {self.item.name}\n"
+                f"fn {holder.maker_name()}{angled(*self.item.parameters)}({parameters}) -> {self.whole}\n"
                 + clause("ensures", f"result ≡ {term.format(' '.join(map(in_term, places)))}") + f"{{\n{made}\n}}\n"]
 
     def is_made(self, v: Variant, holder: Holder) -> bool:
@@ -154,7 +158,7 @@ class EnumWriter:
         """What is read where a field of this type is missing."""
         marked = next(v for v in self.item.variants if DEFAULT in v.head)
         return [ghost("is_absent", f"λ x. x ≡ {self.cases}.{in_term(marked.name)}"),
-                function(ABSENT.format(self.item.name), f"{self.item.name}::{marked.name}")]
+                function(ABSENT.format(self.whole), f"{self.item.name}::{marked.name}")]
 
     def serialize(self) -> List[str]:
         sent = [arm(self.made(v, v.data.places()), self.send_variant(v, h)) if v.sent else
@@ -162,9 +166,12 @@ class EnumWriter:
                 for v, h in self.variants]
         return [ghost("script", self.each(lambda v, holder, x: holder.script(x) if v.sent else
                                           f"unsent_script {codes(self.unsent(v))}")),
-                ghost("lawful", self.each(lambda v, holder, x: "λ readable. " + (
-                    holder.lawful(x) if v.sent else "unsent_lawful _"))),
+                ghost("lawful", self.lawful()),
                 function(SERIALIZE, *self.match(sent))]
+
+    def lawful(self) -> str:
+        """The law that each value's script is lawful."""
+        return self.each(lambda v, holder, x: "λ readable. " + (holder.lawful(x) if v.sent else "unsent_lawful _"))
 
     def unsent(self, v: Variant) -> str:
         """What a variant that isn't sent is refused with."""
@@ -203,7 +210,7 @@ class EnumWriter:
     def variants_impl(self) -> List[str]:
         """The members of the impl that reads the variant that a tag names."""
         read = (f"fn read_variant<'n: 'de>(alloc: Global, tag: &str, variant: VariantAccess<'de, 'n>)"
-                f" -> Result<{self.item.name}>")
+                f" -> Result<{self.whole}>")
         return self.variants_ghosts() + [
             name_method("name", self.item.wire),
             f"fn names() -> &'static [&'static str] {{\n{self.list}::names()\n}}",
@@ -217,16 +224,16 @@ class EnumWriter:
 
     def member(self, word: str) -> str:
         """A ghost member of that impl."""
-        return f"⟦<{self.item.name} as {self.variants_trait}>⟧.{word}"
+        return f"⟦<{self.whole} as {self.variants_trait}>⟧.{word}"
 
     def deserialize(self) -> List[str]:
         if self.tags:
             return [ghost("refusal", f"enum_refusal {self.name} (λ tag. {self.member('refusal')} {self.meant})"),
                     ghost("gives", f"λ s y. EnumGivesBy (λ tag. {self.meant}) {self.name}\n({self.member('named')} y)\n({self.member('held')} y) s"),
-                    function(DESERIALIZE.format(self.item.name), f"read_enum_by::<TagsOf{pascal(self.item.owner)}, Self>(alloc, from)")]
+                    function(DESERIALIZE.format(self.whole), f"read_enum_by::<TagsOf{pascal(self.item.owner)}, Self>(alloc, from)")]
         return [ghost("refusal", f"enum_refusal {self.name} {self.member('refusal')}"),
                 ghost("gives", f"λ s y. EnumGives {self.name}\n({self.member('named')} y)\n({self.member('held')} y) s"),
-                function(DESERIALIZE.format(self.item.name), "read_enum(alloc, from)")]
+                function(DESERIALIZE.format(self.whole), "read_enum(alloc, from)")]
 
     def making(self, v: Variant, holder: Holder) -> Callable[[List[str]], str]:
         """How the code makes a variant: by its own function, where it has one."""
@@ -243,31 +250,40 @@ class EnumWriter:
         looks = self.item.asked()
         return [ghost("exists", self.each(lambda v, holder, x: holder.exists(x)))] * looks + [
             function(KNOWN, *self.match(known) * looks),
-            ghost("comes_back", f"record {{\nof_value = {self.each(self.back)};\n}}"),
-            ghost("keeps", self.coercion_keeps())]
+            ghost("comes_back", self.back()),
+            ghost("keeps", self.keeps())]
 
-    def coercion_keeps(self) -> str:
-        """That what is given without coercion is given with it."""
-        return f"record {{\nof_origin = λ o people. {self.each(self.keeps)};\n}}"
+    def back(self) -> str:
+        """The law that values come back."""
+        return f"record {{\nof_value = {self.each(self.variant_back)};\n}}"
 
-    def back(self, v: Variant, holder: Holder, values: List[str]) -> str:
+    def keeps(self) -> str:
+        """The law that what is given without coercion is given with it."""
+        return f"record {{\nof_origin = λ o people. {self.each(self.variant_keeps)};\n}}"
+
+    def variant_back(self, v: Variant, holder: Holder, values: List[str]) -> str:
         """That a variant comes back."""
         law = f"{holder.word}_back{holder.back(values, self.sees(holder))}"
-        return (f"λ real f. variant_back Self.refusal Self.gives {bracketed(law)}\nf ({opened('λ d. refl')})\n"
+        return (f"λ real f. variant_back {self.own}.refusal {self.own}.gives {bracketed(law)}\nf ({opened('λ d. refl')})\n"
                 f"({opened('λ d only. ' + elim([self.read(v, w) for w in self.item.variants]))})")
 
-    def not_null(self) -> List[str]:
-        return [REFUSES_NULL]
+    def not_null(self) -> str:
+        """The law that it isn't read of null."""
+        return REFUSED_NULL
 
     def cbor_round_trip(self) -> List[str]:
-        return [ghost("kept", f"record {{\nof_value = {self.each(self.kept)};\n}}")]
+        return [ghost("kept", self.kept())]
 
-    def kept(self, v: Variant, holder: Holder, values: List[str]) -> str:
+    def kept(self) -> str:
+        """The law that values come back from CBOR."""
+        return f"record {{\nof_value = {self.each(self.variant_kept)};\n}}"
+
+    def variant_kept(self, v: Variant, holder: Holder, values: List[str]) -> str:
         """That a variant comes back from CBOR."""
         law = f"{holder.word}_kept{holder.kept(values, self.sees(holder))}"
         it = f"(given_as b {self.name} {name_term(v.wire)} d it)"
         read = elim([self.read(v, w, f"{it}.named", f"{it}.held") for w in self.item.variants])
-        return (f"λ real. variant_comes_back {self.member('refusal')} Self.gives {bracketed(law)}\n"
+        return (f"λ real. variant_comes_back {self.member('refusal')} {self.own}.gives {bracketed(law)}\n"
                 f"({opened('λ v. refl')})\n({opened('λ b d only. ' + read)})")
 
     def read(self, sent: Variant, read: Variant, named: str = "it.0", held: str = "it.1") -> str:
@@ -287,7 +303,7 @@ class EnumWriter:
         """Whether its one value stands in no row."""
         return v.data.style == "Newtype"
 
-    def keeps(self, v: Variant, holder: Holder, values: List[str]) -> str:
+    def variant_keeps(self, v: Variant, holder: Holder, values: List[str]) -> str:
         """That a variant is given with coercion where it is without."""
         law = f"{holder.word}_keeps{holder.keeps(self.sees(holder))}"
         own = f"{{own = {bracketed(holder.refusal())}}}"

@@ -161,7 +161,7 @@ class Functions:
     def variant(self, text: str, t: Type, owner: str) -> Optional[Value]:
         """A variant without values of an enum of the file."""
         of, _, name = text.rpartition("::")
-        if name in self.units.get(t.name, ()) and (of == t.name or (of == "Self" and owner == t.name)):
+        if not t.arguments and name in self.units.get(t.name, ()) and (of == t.name or (of == "Self" and owner == t.name)):
             return Value(f"x ≡ {CASES.format(t.name)}.{name}", f"Ok({t.name}::{name})")
         return None
 

@@ -3,9 +3,9 @@ from typing import Callable, Dict, List, NamedTuple, Optional, Tuple
 
 from .cases import pascal
 from .declarations import Data, Field
-from .literals import list_impl, list_term, name_call, name_method, name_term
+from .literals import ROWS_OPENED, list_impl, list_term, name_call, name_method, name_term
 from .text import bare, clause, fields_reader, function, ghost, together
-from .types import ALIKE, READ, TRIP, nest, snake
+from .types import ALIKE, LT_A, LT_DE, READ, TRIP, Type, angled, bounded, nest, snake
 
 
 LONGEST_ROW = 8  # types of longer rows take the checker's memory
@@ -91,6 +91,7 @@ class Holder:
             self.names_sent = [f.wire for f in data.fields if f.sent]
         self.sent_list = self.list if self.names_sent is self.names_known else f"SentOf{self.owner}"
         self.before: List[str] = []
+        self.steps = data.steps() if self.many else 0
         self.big = self.many and self.count > self.room()
         self.skips = any(f.skips for f in data.fields if f.sent)
         self.head = "" if self.of_variant else " " + self.names
@@ -128,7 +129,7 @@ class Holder:
             return f"PartsEnd<{self.count}>"
         if place == self.count:
             return f"Others{'Refused' if self.data.closed else 'Skipped'}<{self.list}>"
-        return f"{'Field' if self.data.named else 'Part'}{place + 1}Of{self.owner}"
+        return f"{'Field' if self.data.named else 'Part'}{place + 1}Of{self.owner}{angled(*self.data.arguments(place))}"
 
     def after(self, place: int) -> str:
         """What those before a place have as their rest: where a row would be too long, a struct."""
@@ -136,6 +137,10 @@ class Holder:
 
     def run(self, start: int) -> str:
         """The struct of the values from a place on."""
+        return f"{self.run_name(start)}{angled(*self.data.arguments(start))}"
+
+    def run_name(self, start: int) -> str:
+        """The name of the struct of the values from a place on."""
         return f"From{start + 1}Of{self.owner}"
 
     def starts(self) -> range:
@@ -149,9 +154,57 @@ class Holder:
         parts = [f"ReadPart<{self.count}, {place}" if not self.data.named else
                  f"{self.sort(f)}<{', '.join(self.read_by_names(f, place))}" for place, f in enumerate(self.fields)]
         rows = "".join(f"type {self.row_type(place)} = {part}{', ' * (part[-1] != '<')}{f.type.rust()}, {self.after(place + 1)}>;\n"
-                       for place, (part, f) in enumerate(zip(parts, self.fields)))
+                       for place, (part, f) in enumerate(zip(parts, self.fields)) if place >= self.steps)
         defaults = [self.default_impl(place) for place, f in enumerate(self.fields) if f.made]
-        return defaults + [rows] + [self.run_read(start) for start in self.starts()]
+        return (defaults + [rows] + [self.run_read(start) for start in self.starts()]
+                + [text for place in range(self.steps) for text in [self.one_read(place)] * self.data.named + [self.step(place)]])
+
+    def step_type(self, place: int) -> str:
+        """What the values from a place on are read as, where some of them are read one by one."""
+        if place == self.steps:
+            return self.row_type(place)
+        return f"({self.fields[place].type.rust()}, {self.step_type(place + 1)})"
+
+    def step_name(self, place: int) -> str:
+        """The function that reads the values from a place on, the first of them by itself."""
+        return f"{self.reader}_from_{place + 1}"
+
+    def step(self, place: int) -> str:
+        """That function. No type has all values, as nothing is known of its size."""
+        named = self.data.named
+        source, of, left = (("fields", "FieldsByName", "fields_left") if named else
+                            ("parts", "serde_content::de::Seq", "seq_view"))
+        rest = f"{self.step_name(place + 1)}(alloc, {source})?"
+        if place + 1 == self.steps:
+            rest = f"{self.trait()}::read(alloc, {source})?"
+        one = f"serde_content::de::next_part(alloc, &mut parts, {self.count}, {place})?"
+        if named:
+            one = f"{self.one_name(place)}(alloc, &mut fields)?"
+        values = [f"z{'.1' * (at - place)}.0" for at in range(self.count)]
+        refusal, gives = (self.row(member, inner, start=place) for member, inner in (
+            ("refusal", self.refusals()), ("gives", self.given(values))))
+        given = angled(LT_DE, f"'n: {LT_DE}", *bounded(self.data.arguments(place), READ))
+        return (f"/// Reads the values from place {place + 1} on.\n" + f"{ROWS_OPENED}\n" * named
+                + f"fn {self.step_name(place)}{given}(alloc: Global, mut {source}: {of}<'de, 'n>)"
+                f" -> Result<{self.step_type(place)}>\n"
+                + clause("ensures", f"Reads ({refusal}\n({left} {source}.entry))\n(λ z. {gives}\n({left} {source}.entry)) result")
+                + f"{{\nlet value = {one};\nOk((value, {rest}))\n}}\n")
+
+    def one_name(self, place: int) -> str:
+        """The function that reads the field at a place alone."""
+        return f"{self.reader}_at_{place + 1}"
+
+    def one_read(self, place: int) -> str:
+        """That function."""
+        f, name = self.fields[place], name_term(self.fields[place].known)
+        left = f"(field_named {name} (fields_left fields.old))"
+        given = angled(LT_DE, f"'n: {LT_DE}", *bounded(list(f.arguments().values()), READ))
+        return (f"/// Reads the field `{f.known}`, wherever it is.\nfn {self.one_name(place)}{given}(alloc: Global,"
+                f" fields: &mut FieldsByName<'de, 'n>) -> Result<{f.type.rust()}>\n"
+                + clause("ensures value", f"Reads\n(found_refusal (Some (missing_field {name})) ({f.type.member(READ, 'refusal')})\n{left})\n"
+                         f"(FoundGives (λ a. ⊥) ({f.type.member(READ, 'gives')})\n{left}) result")
+                + clause("ensures rest", f"fields_left fields.new ≡\nwithout_field {name} (fields_left fields.old)")
+                + f"{{\nserde_content::de::named_field(alloc, fields, {name_call(f.known)})\n}}\n")
 
     def read_by_names(self, f: Field, place: int) -> List[str]:
         """The arguments of what a field is read as, but its type and what follows it."""
@@ -203,7 +256,7 @@ class Holder:
         Its ghost members are functions, which the checker doesn't look into where nothing asks for it."""
         trait, source = self.trait(), "fields: FieldsByName" if self.data.named else "parts: serde_content::de::Seq"
         end = min(start + LONGEST_ROW, self.count)
-        more, whole = end < self.count, self.run(start)
+        more, whole, given = end < self.count, self.run(start), bounded(self.data.arguments(start), READ)
         types, made = [f.type.rust() for f in self.fields[start:end]], self.data.places()[start:end]
         values = [f"z.{place - start}" for place in range(self.count)]
         last = f"({self.run_member(end, 'gives')} {values[end]})" if more else self.end("gives")
@@ -212,10 +265,10 @@ class Holder:
             ghost("refusal", f"λ f. ⟦<{self.row_type(start)} as {trait}<'de>>⟧.refusal f"),
             ghost("gives", f"λ z f.{nest(self.parts('gives', self.given(values))[start:end], last)}\nf"),
             function(f"fn read<'n: 'de>(alloc: Global, {source}<'de, 'n>) -> Result<Self>",
-                     *taken, f"Ok({whole}({', '.join(made + ['row'] * more)}))")])
+                     *taken, f"Ok({self.run_name(start)}({', '.join(made + ['row'] * more)}))")])
         held = ", ".join(types + [self.run(end)] * more)
         return (f"/// The values from place {start + 1} on.\n#[derive(Drop)]\nstruct {whole}({held});\n\n"
-                f"impl<'de> {trait}<'de> for {whole} {{\n{members}\n}}\n")
+                f"impl{angled(LT_DE, *given)} {trait}<'de> for {whole} {{\n{members}\n}}\n")
 
     def trait(self) -> str:
         """What rows of its values are."""
@@ -242,7 +295,11 @@ class Holder:
     def taken(self, trait: str, source: str, places: List[str], start: int = 0) -> List[str]:
         """The statements that read the values from a place on as a row, and take it apart into these, and what
         follows them."""
-        lines = [f"let row: {self.row_type(start)} = {trait}::read(alloc, {source})?;"]
+        return [f"let row: {self.row_type(start)} = {trait}::read(alloc, {source})?;", *self.apart(places, start)]
+
+    def apart(self, places: List[str], start: int) -> List[str]:
+        """The statements that take a row apart into the values from a place on, and what follows them."""
+        lines = []
         for at, value in enumerate(places, start):
             sort = self.sort(self.fields[at]) if self.data.named else "ReadPart"
             rest = "_" if at + 1 == self.count else "row"
@@ -254,7 +311,13 @@ class Holder:
         """The statements that read all values, as `read_places` call them."""
         if self.big:
             return [f"let row: {self.run(0)} = {trait}::read(alloc, {source})?;"]
-        return self.taken(trait, source, self.data.places())
+        places = self.data.places()
+        if self.steps:
+            pattern = "row" if self.steps < self.count else "_"
+            for place in reversed(places[:self.steps]):
+                pattern = f"({place}, {pattern})"
+            return [f"let {pattern} = {self.step_name(0)}(alloc, {source})?;", *self.apart(places[self.steps:], self.steps)]
+        return self.taken(trait, source, places)
 
     def read_places(self) -> List[str]:
         """What code calls the values that were read: the struct of them all, where there is one."""
@@ -263,17 +326,18 @@ class Holder:
     def maker_name(self) -> str:
         return self.reader.replace("read_", "make_", 1)
 
-    def maker(self, result: str, made: str, term: Callable[[List[str]], str]) -> List[str]:
+    def maker(self, result: Type, made: str, term: Callable[[List[str]], str]) -> List[str]:
         """The function that makes a value of the struct of all values that were read: its contract spares proofs
         a look into that."""
         if not self.big:
             return []
         places = self.data.places()
-        apart = [f"let {self.run(start)}({', '.join(places[start:start + LONGEST_ROW] + ['row'] * more)}) = row;"
+        apart = [f"let {self.run_name(start)}({', '.join(places[start:start + LONGEST_ROW] + ['row'] * more)}) = row;"
                  for start in self.starts() for more in [start + LONGEST_ROW < self.count]]
         seen = [f"row{f'.{LONGEST_ROW}' * (place // LONGEST_ROW)}.{place % LONGEST_ROW}" for place in range(self.count)]
         body = "\n".join(apart + [made])
-        return [f"/// Its contract tells proofs what is made of the values.\nfn {self.maker_name()}(row: {self.run(0)}) -> {result}\n"
+        return ["/// Its contract tells proofs what is made of the values.\n"
+                f"fn {self.maker_name()}{angled(*result.parameters())}(row: {self.run(0)}) -> {result.rust()}\n"
                 + clause("ensures", f"result ≡ {term(seen)}") + f"{{\n{body}\n}}\n"]
 
     def words(self, member: str) -> Tuple[str, str]:
@@ -394,8 +458,10 @@ class Holder:
                         *row_of(self.sent_row(values, start), self.sent_last(values, start)),
                         "serde_content::derive_support::SendRow::send(&row, alloc, serializer, error)")
         types = ", ".join(f"&'a {f.type.rust()}" for f in self.fields[start:])
-        return (f"/// The values from place {start + 1} on, as they are sent.\n#[derive(Drop)]\nstruct {whole}<'a>({types});\n\n"
-                f"impl<'a> serde_content::derive_support::SendRow for {whole}<'a> {{\n"
+        parameters = self.data.arguments(start)
+        whole, given = f"{whole}{angled(LT_A, *parameters)}", angled(LT_A, *bounded(parameters, "Serialize"))
+        return (f"/// The values from place {start + 1} on, as they are sent.\n#[derive(Drop)]\nstruct {whole}({types});\n\n"
+                f"impl{given} serde_content::derive_support::SendRow for {whole} {{\n"
                 f"{ghost('script', f'λ row. {bare(script)}')}\n\n{send}\n}}\n")
 
     def sent(self, f: Field, value: str) -> str:
@@ -409,7 +475,11 @@ class Holder:
     def refusal_row(self) -> str:
         if self.big:
             return f"\n({self.run_member(0, 'refusal')})"
-        return self.row("refusal", [f"({f.type.member(READ, 'refusal')})" for f in self.fields])
+        return self.row("refusal", self.refusals())
+
+    def refusals(self) -> List[str]:
+        """What each of its values refuses."""
+        return [f"({f.type.member(READ, 'refusal')})" for f in self.fields]
 
     def refusal(self) -> str:
         """What is refused of it."""
@@ -452,7 +522,7 @@ class Holder:
             return self.all_taken("ReadFields", "fields")
         return [f"let {together(places)} = {self.reader}(alloc, fields)?;"]
 
-    def read_function(self, made: str, result: str, values: List[str]) -> List[str]:
+    def read_function(self, made: str, result: Type, values: List[str]) -> List[str]:
         """The function that reads fields by name, and makes a value of this type, of which contracts
         see these values."""
         if not self.data.named or not self.fields:
@@ -460,16 +530,17 @@ class Holder:
         lines = self.all_taken("ReadFields", "fields") + [f"Ok({made})"]
         return [fields_reader(self.reader, result, self.refusal_row(), self.gives_row(values), lines)]
 
-    def read_impl(self, made: str, name: str, values: List[str]) -> List[str]:
-        """How the fields of a struct of this name are read, wherever they are; contracts see these values of it."""
+    def read_impl(self, made: str, whole: Type, values: List[str]) -> List[str]:
+        """How the fields of this struct are read, wherever they are; contracts see these values of it."""
         if not self.data.named or not self.fields:
             return []
-        read = function(f"fn read<'n: 'de>(alloc: Global, fields: FieldsByName<'de, 'n>) -> Result<{name}>",
+        read = function(f"fn read<'n: 'de>(alloc: Global, fields: FieldsByName<'de, 'n>) -> Result<{whole.rust()}>",
                         *self.all_taken("ReadFields", "fields"), f"Ok({made})")
         members = [ghost("refusal", bare(self.refusal_row())), ghost("gives", f"λ z. {self.gives_row(values)}")]
         members = [*self.named_by(ghost("name", bare(name_term(self.wire)))), *members,
                    *self.named_by(name_method("name", self.wire)), read]
-        return [f"impl<'de> {self.read_by}<'de> for {name} {{\n" + "\n\n".join(members) + "\n}\n"]
+        given = angled(LT_DE, *bounded(whole.parameters(), READ))
+        return [f"impl{given} {self.read_by}<'de> for {whole.rust()} {{\n" + "\n\n".join(members) + "\n}\n"]
 
     @staticmethod
     def named_by(member: str) -> List[str]:
@@ -480,7 +551,7 @@ class Holder:
         """All its values in a law of what comes back, each with the fact that it exists."""
         asked, inner = self.data.asked(), []
         for f, law, value in zip(self.fields, laws, values):
-            real = "tt" if f.type.plain else "real" if len(asked) == 1 else f"real.{asked.index(f)}"
+            real = "tt" if f.plain else "real" if len(asked) == 1 else f"real.{asked.index(f)}"
             inner.append(f"{law} {value} {real}")
         return self.row(member, inner, sees, values=values)
 
@@ -509,4 +580,4 @@ class Holder:
     def exists(self, values: List[str]) -> str:
         """The fact of which values exist."""
         return " × ".join(f"{f.type.member(TRIP, 'exists')} {v}"
-                          for f, v in zip(self.fields, values) if not f.type.plain) or "⊤"
+                          for f, v in zip(self.fields, values) if not f.plain) or "⊤"

@@ -1,13 +1,13 @@
 """Where the own types of a file are declared, and which types are covered."""
 from collections import Counter
 from dataclasses import replace
-from typing import Dict, Iterable, Iterator, List, Optional, Set, Tuple
+from typing import Callable, Dict, Iterable, Iterator, List, Optional, Set, Tuple
 
 from .attributes import SERDE
 from .declarations import Field, Item, Refused
 from .files import File
 from .parser import DEEPEST, MOST_FIELDS
-from .types import HOLDERS, LEAVES, NUMBERS, Type, snake
+from .types import HOLDERS, LEAVES, NUMBERS, LawsOf, Type, snake
 from .unique import fresh
 from .words import SEEN, TAKEN, WORDS
 
@@ -21,6 +21,7 @@ NOT_COVERED = {
     "HashMap": "a HashMap is not covered: hold a BTreeMap",
 }
 MOST_PARTS = 500
+MOST_WRITTEN_OUT = 200
 DEEPEST_FLATTENED = 16
 # Rattle takes types of up to 64 levels, of which what is sent and read takes some
 DEEPEST_HELD = 56
@@ -63,15 +64,16 @@ def from_crate(path: List[str], here: List[str]) -> List[str]:
 class Homes:
     """Finds where the own types of a file are declared, and refuses types that are not covered."""
 
-    def __init__(self, crate: str, module: str, file: File):
+    def __init__(self, crate: str, module: str, file: File, laws_of: Callable[[Item, Type], LawsOf]):
         self.crate, self.file, self.items = crate, file, {item.name: item for item in file.items}
-        self.module = module.split("::")
+        self.module, self.laws_of = module.split("::"), laws_of
         self.here = self.specs(crate, self.module)
         self.used: Set[str] = set()
         self.looked_up: Set[str] = set()
         self.aliases: Dict[str, Type] = {}
         self.opened: Set[str] = set()
         self.levels: Dict[str, int] = {}
+        self.sizes: Dict[Type, int] = {}
         self.declared: Dict[str, Tuple[str, str]] = {}
         self.told = {refused.where for refused in file.refused}
         for item in file.items:
@@ -107,6 +109,8 @@ class Homes:
 
     def resolved(self, t: Type, holder: Item) -> Type:
         """The type with aliases written out and std's names short; a ValueError says why it is not covered."""
+        if t.parameter:
+            return t
         name = holder.name if t.name == "Self" else self.short(t.name)
         if name in self.file.aliases and not t.arguments:
             return self.alias(name, holder)
@@ -185,7 +189,7 @@ class Homes:
             while inside:
                 t = inside.pop()
                 inside += t.arguments
-                if t.name in self.items:
+                if t.name in self.items and not t.parameter:
                     yield where, f, t.name
 
     def ordered(self) -> Iterator[Item]:
@@ -269,13 +273,15 @@ class Homes:
         elif part.levels > DEEPEST_FLATTENED:
             reason = f"in more than {DEEPEST_FLATTENED} levels is not covered: name the fields"
         else:
-            return part
+            return part.at(f.type)
         self.refuse(Refused(f.line, f"{what} {reason}", where))
         return None
 
     def settled(self, t: Type, holder: Item) -> Type:
         """The type with its home; a ValueError says why it is not covered."""
         arguments = tuple(self.settled(a, holder) for a in t.arguments)
+        if t.parameter:
+            return t
         if t.name in LEAVES and not arguments:
             return Type(t.name, plain=True)
         if t.name == "tuple" and len(arguments) <= 4:
@@ -284,14 +290,36 @@ class Homes:
             if t.name == "BTreeMap":
                 self.check_key(arguments[0])
             return Type(t.name, arguments)
-        if arguments or t.name in HOLDERS or t.name in NOT_COVERED:
+        of_std = t.name in (*HOLDERS, *LEAVES, *NOT_COVERED) or (arguments and self.path(t.name)[0] in STANDARD)
+        if of_std or (arguments and t.name not in self.items and len(self.path(t.name)) < 2):
             raise ValueError(NOT_COVERED.get(t.name, f"the type `{t.rust()}` is not covered: the types that are stand"
                                              " in docs/OWN_TYPES.md"))
-        return self.part(t.name, holder) if t.name in self.items else self.own(t.name)
+        if t.name not in self.items:
+            if arguments:
+                raise ValueError(f"`{t.rust()}` is not covered: a type with arguments is where this file declares it: declare there"
+                                 " a struct around it, and hold that")
+            return self.own(t.name)
+        item = self.items[t.name]
+        whole = replace(self.part(t, holder), arguments=arguments,
+                        laws_of=(lambda one: self.laws_of(item, one)) if arguments else None)
+        if self.size(whole) > MOST_WRITTEN_OUT:
+            raise ValueError(f"a type with parameters that is made of more than {MOST_WRITTEN_OUT} types is not covered:"
+                             " divide it")
+        return whole
 
-    def part(self, name: str, holder: Item) -> Type:
-        """An own type of this file; a ValueError says why what holds it is not covered."""
-        part = self.items[name]
+    def size(self, t: Type) -> int:
+        """Of how many types' laws those of a type are made; those of other own types have names."""
+        if t not in self.sizes:
+            inside = [f.type for f in self.items[t.name].at(t).fields()] if t.laws_of else t.arguments
+            self.sizes[t] = 1 + sum(map(self.size, inside))
+        return self.sizes[t]
+
+    def part(self, t: Type, holder: Item) -> Type:
+        """An own type of this file, but for its arguments; a ValueError says why what holds it is not covered."""
+        name, part = t.name, self.items[t.name]
+        if len(t.arguments) != len(part.parameters):
+            raise ValueError(f"`{name}` has {len(t.arguments)} arguments here, and its parameters are:"
+                             f" {', '.join(part.parameters) or 'none'}")
         needed = SERDE & set(holder.derives)
         lacking = (needed | ({"PartialEq", "Eq"} if holder.derives_all() else set())) - set(part.derives)
         if not part.covered:
@@ -302,7 +330,8 @@ class Homes:
         law = ("records", "map_takes" if part.flattens() else "struct_takes")
         called = self.called(name, self.here, name)
         return Type(name, home=self.here, declared=name, called=called, plain=not part.asked(), astray=astray,
-                    lost=not part.comes_back_from_cbor(), null=part.may_be_null(),
+                    lost=not part.comes_back_from_cbor(), null=part.may_be_null(), nulls=part.places_of(part.null_by()),
+                    optional=part.places_of(part.optionals()), inside=part.places_of(part.sized_by()),
                     record=law if part.data.named and not part.transparent() else None)
 
     def own(self, name: str) -> Type:
@@ -338,6 +367,9 @@ class Homes:
     def check_key(self, key: Type) -> None:
         """Refuses a type that no key of a map has, as a ValueError."""
         mine = self.items.get(key.name)
+        if key.parameter or (key.home and key.arguments):
+            raise ValueError(f"a map with keys of type `{key.rust()}` is not covered, as their order is not known: hold a"
+                             " Vec of pairs")
         if not (key.home or key.name in NUMBERS or key.name in ("String", "char")):
             raise ValueError(f"a map with keys of type `{key.rust()}` is not covered: hold a Vec of pairs, or put the key into"
                              " a struct that derives Ord")

@@ -12,9 +12,11 @@ from .functions import CASES
 from .homes import Homes
 from .literals import with_names
 from .names import name_item
+from .sizes import check_sizes
 from .structs import StructWriter, TransparentWriter
+from .text import ghost
 from .tagged import TaggedWriter, check_tagged
-from .types import CBOR, NOT_NULL, READ, TRIP
+from .types import CBOR, LT_DE, NOT_NULL, READ, TRIP, Type, angled, bounded
 from .unique import KINDS, name_cases, name_functions
 from .untagged import UntaggedWriter, check_untagged
 from .words import ALIASES, METHODS, SEEN, USES, WORDS, words_in, words_of
@@ -31,13 +33,21 @@ def names(text: str, word: str) -> bool:
     return at >= 0
 
 
-def impl(item: Item, trait: str, members: List[str], lifetime: str = "") -> str:
-    """An impl, with the laws of own types that it names brought into it."""
+def owns(item: Item) -> List[Type]:
+    """The own types whose laws the impls of an item name: those that it holds, and those in a type with arguments."""
+    found = item.owns()
+    for own in found:
+        found += [one for one in own.laws_of(own).item.owns() if one not in found] if own.laws_of else []
+    return found
+
+
+def impl(item: Item, trait: str, members: List[str], *given: str) -> str:
+    """An impl with these parameters, and with the laws of own types that it names brought into it."""
     body = "\n\n".join(members)
     laws = [f"ghost use {own.home.format('contracts')}.{own.declared}{kind}.TheImpl.Laws as {word};\n"
-            for own in item.owns() for suffix, kind in TRAITS.items()
+            for own in owns(item) for suffix, kind in TRAITS.items()
             if names(body, word := f"{own.called}_{suffix}")]
-    return f"impl{lifetime} {trait} for {item.name} {{\n{''.join(laws)}\n{body}\n}}\n"
+    return f"impl{angled(*given)} {trait} for {item.itself().rust()} {{\n{''.join(dict.fromkeys(laws))}\n{body}\n}}\n"
 
 
 def writer_of(item: Item) -> Writer:
@@ -48,23 +58,31 @@ def writer_of(item: Item) -> Writer:
     return sort(item)
 
 
+def laws_of(item: Item, t: Type) -> Writer:
+    """What writes the laws of an item with the arguments of a type."""
+    return writer_of(item.held_at(t))
+
+
 def impls(item: Item, writer: Writer, cbor: bool) -> Iterator[str]:
     """The impls of the traits that an item derives, and for CBOR."""
     yield from writer.functions()
+    reading = [LT_DE, *bounded(item.parameters, READ)]
     if item.absent:
-        yield impl(item, "Absent", writer.absent())
+        yield impl(item, "Absent", writer.absent(), *item.parameters)
     if "Serialize" in item.derives:
-        yield impl(item, "Serialize", writer.serialize())
+        yield impl(item, "Serialize", writer.serialize(), *bounded(item.parameters, "Serialize"))
     if "Deserialize" in item.derives:
         if item.variants and "untagged" not in item.serde:
-            yield impl(item, writer.variants_trait, writer.variants_impl(), "<'de>")
-        yield impl(item, READ, writer.deserialize(), "<'de>")
+            yield impl(item, writer.variants_trait, writer.variants_impl(), *reading)
+        yield impl(item, READ, writer.deserialize(), *reading)
     if item.comes_back():
-        yield impl(item, TRIP, writer.round_trip(), "<'de>")
+        yield impl(item, TRIP, writer.round_trip(), LT_DE, *bounded(item.parameters, TRIP))
     if cbor and item.comes_back_from_cbor():
-        yield impl(item, CBOR, writer.cbor_round_trip(), "<'de>")
+        yield impl(item, CBOR, writer.cbor_round_trip(), LT_DE, *bounded(
+            item.parameters, CBOR, item.optionals(), f"{CBOR} + {NOT_NULL}"))
         if not item.may_be_null():
-            yield impl(item, NOT_NULL, writer.not_null(), "<'de>")
+            yield impl(item, NOT_NULL, [ghost("refuses_null", writer.not_null())], LT_DE, *bounded(
+                item.parameters, READ, item.null_by(), NOT_NULL))
 
 
 def read(source: str) -> File:
@@ -100,6 +118,7 @@ def settled(file: File, homes: Homes) -> Dict[str, Writer]:
     settle_defaults(list(homes.ordered()), homes.items, file)
     keep(lambda item: check_missing(item, homes.items))
     keep(check_variants)
+    keep(check_sizes)
     covered = [item for item in file.items if item.covered]
     keep(lambda item: check_derives(item, homes.items, file))
     for refused in check_work(covered):
@@ -122,7 +141,8 @@ def brought(words: Set[str], word: str, texts: List[str]) -> bool:
 
 def uses(file: File, homes: Homes, texts: List[str]) -> List[str]:
     """The lines that bring the words of contracts, and those that bring the items of code."""
-    seen = [found for text in texts for found in re.findall(r"λ (?:o )?\([xz] : (.*?)\)\.\s", text, re.S)]
+    seen = [found for text in texts for found in re.findall(r"λ (?:o )?\([xz] : (.*?)\)\.\s", text, re.S)
+            + re.findall(r"let law : \(x : (.*?)\) \(readable ", text, re.S)]
     words, named = words_in(texts), words_in(re.sub(r"(_as_seen)\.\w+", r"\1", text) for text in seen)
     owns = {own.called: own for item in file.items for own in item.owns()}.values()
     ghosts = words_of(words, WORDS) + words_of(named, SEEN)
@@ -159,7 +179,7 @@ def module(source: str, name: str, crate: str, place: str, cbor: bool = False,
     if notes is not None:
         notes += sorted(file.notes)
     file.notes = []
-    homes = Homes(crate, place, file)
+    homes = Homes(crate, place, file, laws_of)
     writers = settled(file, homes)
     if notes is not None:
         notes += [*file.notes, *homes.unused()] + [

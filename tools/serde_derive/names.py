@@ -3,10 +3,10 @@ import re
 from typing import Iterator, List, Optional, Sequence, Tuple
 
 from .cases import CASES, same
-from .declarations import Data, Field, Item, Named, Refused, Variant
+from .declarations import Data, Field, Item, Named, Refused, Variant, absent_of
 from .functions import EMPTY, Functions, Value
 from .tokens import LONGEST
-from .types import DEFAULTS, SKIPS
+from .types import SKIPS
 
 
 def name_item(item: Item, functions: Functions) -> Iterator[Refused]:
@@ -97,7 +97,7 @@ def name_fields(holder: str, data: Data, case: Optional[str], functions: Functio
         if f.serde.get("default") and "Deserialize" in derives and data.named:
             yield from default_by(where, f, functions.given(f.serde["default"], f.type), f.serde["default"])
         elif not f.missing and data.named and ("default" in f.serde or f.type.name == "Option"):
-            f.missing = DEFAULTS.get(f.type.name, f"⟦<{f.type.rust()} as Absent>⟧.is_absent x")
+            f.missing = absent_of(f.type)
         if "skip_serializing_if" in f.serde and "Serialize" in derives:
             yield from check_skipped(where, f, data, functions)
             f.skips = f.sent

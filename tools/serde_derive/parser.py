@@ -4,7 +4,7 @@ from typing import Callable, List, Optional, Tuple
 from .attributes import Attributes, Head
 from .declarations import Data, Field, Item, Named, NotRust, Refused, Variant
 from .tokens import KEYWORDS, ROOTS
-from .types import Type
+from .types import Type, parameter
 
 DEEPEST = 48
 MOST_FIELDS, MOST_VARIANTS = 250, 500
@@ -20,10 +20,12 @@ BEGINS = {
 
 
 class Parser(Attributes):
-    """Reads structs and enums; what is refused in one of them is kept, and the next part is read."""
+    """Reads structs and enums; what is refused in one of them is kept, and the next part is read. The `parameters` are those
+    of the one that is read."""
 
     def __init__(self, source: str):
         super().__init__(source)
+        self.parameters: List[str] = []
         self.refused: List[Refused] = []
         self.notes: List[Tuple[int, str]] = []
 
@@ -61,7 +63,10 @@ class Parser(Attributes):
             self.listed(">", lambda: arguments.append(self.type(depth + 1)))
         if self.next.text in ("::", "!", "="):
             raise Refused(line, f"a type with `{self.next.text}` in it is not covered: write the type itself")
-        return Type("::".join(path), tuple(arguments))
+        name = "::".join(path)
+        if name in self.parameters and arguments:
+            raise NotRust(line, f"the parameter `{name}` takes no arguments")
+        return parameter(name) if name in self.parameters else Type(name, tuple(arguments))
 
     def check_begins(self, line: int) -> None:
         """Refuses what begins a type that is not covered."""
@@ -158,8 +163,9 @@ class Parser(Attributes):
         line, sort = self.next.line, self.take().text
         item = Item(self.next.text, line, head.lines, head.serde, sort=sort, visible=visible, derives=head.derives,
                     defaults="Default" in head.derives)
-        start = self.place
+        start, self.parameters = self.place, item.parameters
         item.covered = self.guarded(item.name, head, lambda: self.body(item))
+        self.parameters = []
         if not item.covered:
             self.place = start
             self.pass_item()
@@ -171,11 +177,13 @@ class Parser(Attributes):
         item.name = self.name()
         if item.sort == "union":
             raise Refused(line, "a union is not covered: write an enum")
-        if self.next.text in ("<", "where"):
-            raise Refused(line, "type parameters and lifetimes are not covered: write a type for each that you use")
+        if self.eat("<"):
+            self.listed(">", lambda: self.parameter(item))
+        self.bounds("{", ";")
         if item.sort == "struct":
             item.data = self.data()
             if not item.data.named:
+                self.bounds(";")
                 self.expect(";")
             return
         self.expect("{")
@@ -184,6 +192,37 @@ class Parser(Attributes):
             raise Refused(line, "an enum of no variants is not covered, as no value of it is sent or read: delete it")
         if len(item.variants) > MOST_VARIANTS:
             raise Refused(line, f"more than {MOST_VARIANTS} variants are not covered: hold a text or a number")
+
+    def parameter(self, item: Item) -> None:
+        """A type parameter; its bounds are left out, as each impl has those that it needs."""
+        start, line = self.place, self.next.line
+        if self.next.sort == "lifetime":
+            raise Refused(line, "lifetimes are not covered: hold the value itself, as String for &str")
+        if self.next.text == "const":
+            raise Refused(line, "a parameter that is a value is not covered: write a type for each that you use")
+        name = self.name()
+        if name in item.parameters:
+            raise NotRust(line, f"two parameters are called `{name}`")
+        item.parameters.append(name)
+        if self.eat(":"):
+            self.pass_to(",", ">", "=", angles=True)
+            self.note_bounds(start, self.place)
+        if self.next.text == "=":
+            raise Refused(line, f"a default of a parameter is not covered: delete that of `{name}`, and write it where you"
+                          " use the type")
+
+    def bounds(self, *ends: str) -> None:
+        """What `where` says up to one of these signs, which is left out."""
+        start = self.place
+        if self.eat("where"):
+            self.pass_to(*ends)
+            self.note_bounds(start, self.place)
+
+    def note_bounds(self, start: int, end: int) -> None:
+        """Notes that bounds are left out, which are shown from their start to a place."""
+        end -= self.tokens[end - 1].text == ","
+        self.notes.append((self.tokens[start].line, f"left out: `{self.shown(start, end)}`, as each impl has the bounds that"
+                           " it needs"))
 
     def pass_item(self, braces: bool = True) -> None:
         """Passes an item up to its end: a `;`, or what stands in braces, where its sort may end so."""

@@ -3,7 +3,7 @@ from typing import Callable, Iterator, List
 
 from .declarations import Data, Field, Item
 from .holder import FLATTENED, Holder
-from .text import ABSENT, DESERIALIZE, KNOWN, REFUSES_NULL, SERIALIZE, all_hold, facts, function, ghost
+from .text import ABSENT, DESERIALIZE, KNOWN, REFUSED_NULL, SERIALIZE, all_hold, facts, function, ghost
 from .types import READ, TRIP, in_term
 
 
@@ -46,7 +46,7 @@ class StructWriter:
     """The impls of a struct."""
 
     def __init__(self, item: Item):
-        self.item, self.fields = item, item.data.leaves()
+        self.item, self.fields, self.whole = item, item.data.leaves(), item.itself()
         self.sends, self.reads = "Serialize" in item.derives, "Deserialize" in item.derives
         self.holder = FlattenedHolder(item) if item.flattens() else Holder("Struct", [item.wire], item.data, item.owner)
         self.values = [f"p.{in_term(f.name)}" for f in self.fields]
@@ -55,8 +55,8 @@ class StructWriter:
     def functions(self) -> List[str]:
         """Those that the impls call."""
         holder = self.holder
-        read = holder.read_impl(self.making(holder.read_places()), self.item.name, [f"z.{in_term(f.name)}" for f in self.fields])
-        made = holder.maker(self.item.name, self.item.data.made(self.item.name, holder.data.places()), self.item.data.term)
+        read = holder.read_impl(self.making(holder.read_places()), self.whole, [f"z.{in_term(f.name)}" for f in self.fields])
+        made = holder.maker(self.whole, self.item.data.made(self.item.name, holder.data.places()), self.item.data.term)
         return holder.names_list() + holder.sent_types() * self.sends + (holder.row_types() + made + read) * self.reads
 
     def making(self, places: List[str]) -> str:
@@ -69,45 +69,67 @@ class StructWriter:
         """What is read where a field of this type is missing."""
         facts_known = " × ".join(f"{f.type.member('Absent', 'is_absent')} {value}" for f, value in zip(self.fields, self.values))
         made = self.item.data.made(self.item.name, ["Absent::absent(alloc)"] * len(self.fields))
-        return [ghost("is_absent", f"λ p. {facts_known or '⊤'}"), function(ABSENT.format(self.item.name), made)]
+        return [ghost("is_absent", f"λ p. {facts_known or '⊤'}"), function(ABSENT.format(self.whole.rust()), made)]
 
     def serialize(self) -> List[str]:
         return [ghost("script", f"λ p. {self.holder.script(self.values)}"),
-                ghost("lawful", f"λ p readable. {self.holder.lawful(self.values)}"),
+                ghost("lawful", self.lawful()),
                 function(SERIALIZE, *self.holder.send([f"&self.{f.name}" for f in self.fields]))]
+
+    def lawful(self) -> str:
+        """The law that each value's script is lawful."""
+        return f"λ p readable. {self.holder.lawful(self.values)}"
 
     def deserialize(self) -> List[str]:
         return [ghost("refusal", self.holder.refusal()),
                 ghost("gives", f"λ s p. {self.holder.gives(self.values) + ' s' if self.fields else '⊤'}"),
-                function(DESERIALIZE.format(self.item.name), *self.holder.read(self.making))]
+                function(DESERIALIZE.format(self.whole.rust()), *self.holder.read(self.making))]
 
     def round_trip(self) -> List[str]:
-        holder, asked = self.holder, self.holder.data.asked()
+        asked = self.holder.data.asked()
+        return [ghost("exists", f"λ p. {self.holder.exists(self.values)}")] * bool(asked) + [
+            function(KNOWN, *[f"self.{f.name}.known();" for f in asked]),
+            ghost("comes_back", self.back()),
+            ghost("keeps", self.keeps())]
+
+    def back(self) -> str:
+        """The law that values come back."""
+        holder = self.holder
         laws = holder.back(self.values, self.sees)
         if not self.fields:
             back = (f"leaf_such (tree.structure (static_name {holder.names}) tree.no_data) refl\n"
                     "(record { free = refl; only = λ q h. refl })")
-            keeps = "heedless_keeps _ _"
         elif not holder.many:
             back = f"{holder.word}_back{laws} (λ q. q.0) f (λ q h. h)"
-            keeps = f"seen_keeps (λ q. q.0) ({holder.word}_keeps {holder.names}{holder.keeps(self.sees)})"
         else:
             back = f"{holder.word}_back{laws}\nf (λ q h. {same(self.item.data, iter(facts(holder.count, 'h')))})"
-            keeps = f"{holder.word}_keeps{holder.head}{holder.keeps(self.sees)}"
-        return [ghost("exists", f"λ p. {holder.exists(self.values)}")] * bool(asked) + [
-            function(KNOWN, *[f"self.{f.name}.known();" for f in asked]),
-            ghost("comes_back", f"record {{\nof_value = λ p real f. {back};\n}}"),
-            ghost("keeps", keeps)]
+        return f"record {{\nof_value = λ p real f. {back};\n}}"
 
-    def not_null(self) -> List[str]:
-        return [REFUSES_NULL]
+    def keeps(self) -> str:
+        """The law that what is given without coercion is given with it."""
+        holder = self.holder
+        if not self.fields:
+            return "heedless_keeps _ _"
+        if not holder.many:
+            return f"seen_keeps (λ q. q.0) ({holder.word}_keeps {holder.names}{holder.keeps(self.sees)})"
+        return f"{holder.word}_keeps{holder.head}{holder.keeps(self.sees)}"
+
+    def not_null(self) -> str:
+        """The law that it isn't read of null."""
+        if self.item.null_by():
+            return f"record {{ of_null = λ b e. {self.item.alone().not_null()}.of_null b e }}"
+        return REFUSED_NULL
 
     def cbor_round_trip(self) -> List[str]:
+        return [ghost("kept", self.kept())]
+
+    def kept(self) -> str:
+        """The law that values come back from CBOR."""
         holder = self.holder
         laws = f"{holder.word}_kept{holder.kept(self.values, self.sees)}"
         passes = same(self.item.data, iter(facts(holder.count, 'h'))) if holder.many else "h"
         see = "" if holder.many else " (λ q. q.0)"
-        return [ghost("kept", f"record {{\nof_value = λ p real. {laws}{see}\n(λ q h. {passes});\n}}")]
+        return f"record {{\nof_value = λ p real. {laws}{see}\n(λ q h. {passes});\n}}"
 
 
 class TransparentWriter(StructWriter):
@@ -122,24 +144,33 @@ class TransparentWriter(StructWriter):
 
     def serialize(self) -> List[str]:
         return [ghost("script", f"λ p. {self.type.member('Serialize', 'script')} {self.value}"),
-                ghost("lawful", f"λ p readable. {self.type.lawful(self.value)}"),
+                ghost("lawful", self.lawful()),
                 function(SERIALIZE, f"self.{self.field.name}.serialize(alloc, serializer)")]
+
+    def lawful(self) -> str:
+        return f"λ p readable. {self.type.lawful(self.value)}"
 
     def deserialize(self) -> List[str]:
         place = self.holder.data.places()[0]
         return [ghost("refusal", self.type.member(READ, "refusal")),
                 ghost("gives", f"λ s p. {self.type.member(READ, 'gives')} s {self.value}"),
-                function(DESERIALIZE.format(self.item.name), f"let {place} = Deserialize::deserialize(alloc, from)?;",
+                function(DESERIALIZE.format(self.whole.rust()), f"let {place} = Deserialize::deserialize(alloc, from)?;",
                          f"Ok({self.item.data.made(self.item.name, [place])})")]
 
     def round_trip(self) -> List[str]:
         exists = [ghost("exists", f"λ p. {self.type.member(TRIP, 'exists')} {self.value}")] * (not self.type.plain)
         return exists + [function(KNOWN, *[f"self.{self.field.name}.known();"] * (not self.type.plain)),
-                         ghost("comes_back", f"seen_back {self.see} {self.type.typed_back()}"),
-                         ghost("keeps", f"seen_keeps {self.see} {self.type.typed_keeps()}")]
+                         ghost("comes_back", self.back()),
+                         ghost("keeps", self.keeps())]
 
-    def not_null(self) -> List[str]:
-        return [ghost("refuses_null", self.type.not_null())]
+    def back(self) -> str:
+        return f"seen_back {self.see} {self.type.typed_back()}"
 
-    def cbor_round_trip(self) -> List[str]:
-        return [ghost("kept", f"seen_kept {self.see} {self.type.typed_kept()}")]
+    def keeps(self) -> str:
+        return f"seen_keeps {self.see} {self.type.typed_keeps()}"
+
+    def not_null(self) -> str:
+        return self.type.not_null()
+
+    def kept(self) -> str:
+        return f"seen_kept {self.see} {self.type.typed_kept()}"

@@ -79,7 +79,7 @@ class TaggedWriter(EnumWriter):
         """The fields beside the tag: the variant's own, or the one that holds its value."""
         if not self.content:
             return beside_tag(v)
-        return [Field("x1", f.line, [], {}, self.content, self.content, type=f.type,
+        return [Field("x1", f.line, [], {}, self.content, self.content, type=f.type, origin=f.origin, given=f.given,
                       missing=DEFAULTS["Option"] if f.type.name == "Option" else "")
                 for f in v.data.fields]
 
@@ -115,7 +115,7 @@ class TaggedWriter(EnumWriter):
 
     def variants_impl(self) -> List[str]:
         read = (f"fn read_variant<'n: 'de>(alloc: Global, tag: &str, fields: FieldsByName<'de, 'n>)"
-                f" -> Result<{self.item.name}>")
+                f" -> Result<{self.whole}>")
         ghosts = self.variants_ghosts()
         return [*ghosts[:1], ghost("tag_name", bare(name_term(self.tag))), *ghosts[1:],
                 name_method("name", self.item.wire), name_method("tag", self.tag),
@@ -126,7 +126,7 @@ class TaggedWriter(EnumWriter):
         fields = f"TagThen{self.buffered.title()} {tag}\n({self.member('named')} y)\n({self.member('held')} y)"
         return [ghost("refusal", f"struct_refusal {name} (read_by_name (tag_then{ending} {tag}\n{self.member('refusal')}))"),
                 ghost("gives", f"λ s y. StructGives {name} (ReadByName\n({fields})) s"),
-                function(DESERIALIZE.format(self.item.name),
+                function(DESERIALIZE.format(self.whole),
                          f"read_{'tagged' if self.buffered else 'adjacent'}(alloc, from)")]
 
     @staticmethod
@@ -134,19 +134,19 @@ class TaggedWriter(EnumWriter):
         """A row of no fields, with the type of what it gives."""
         return row if v.data.fields else re.sub(r"\((skipped|closed)_(back|keeps|kept) ", r"(\1_\2 {Y = Unit {0}} ", row)
 
-    def back(self, v: Variant, holder: Holder, values: List[str]) -> str:
+    def variant_back(self, v: Variant, holder: Holder, values: List[str]) -> str:
         row = self.unit(v, holder.back_row(values, self.sees(holder)))
         beside = "(buffering f)" if self.buffered else "f"
-        return (f"λ real f. tagged_back Self.refusal Self.gives{row}\nf {beside} refl ({opened('λ fs. refl')})\n"
+        return (f"λ real f. tagged_back {self.own}.refusal {self.own}.gives{row}\nf {beside} refl ({opened('λ fs. refl')})\n"
                 f"({opened('λ fs only. ' + elim([self.read(v, w) for w in self.item.variants]))})")
 
-    def kept(self, v: Variant, holder: Holder, values: List[str]) -> str:
+    def variant_kept(self, v: Variant, holder: Holder, values: List[str]) -> str:
         row = self.unit(v, holder.kept_row(values, self.sees(holder)))
         inside = "true" if self.buffered else "b"
-        return (f"λ real. tagged_kept Self.refusal Self.gives{row}\n(λ b. {inside}) ({opened('λ b fs. refl')})\n"
+        return (f"λ real. tagged_kept {self.own}.refusal {self.own}.gives{row}\n(λ b. {inside}) ({opened('λ b fs. refl')})\n"
                 f"({opened('λ b fs only. ' + elim([self.read(v, w) for w in self.item.variants]))})")
 
-    def keeps(self, v: Variant, holder: Holder, values: List[str]) -> str:
+    def variant_keeps(self, v: Variant, holder: Holder, values: List[str]) -> str:
         return (f"λ p.\nlet q = (struct_keeps {name_term(self.item.wire)} (by_name_keeps\n"
                 f"({self.tag_keeps(v, holder)}))).of_origin o people"
                 f" {together(values)}\n(record {{ free = p.free; given = p.given }}) in\n"

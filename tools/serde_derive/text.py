@@ -2,7 +2,7 @@
 import re
 from typing import List
 
-from .types import snake
+from .types import LT_DE, READ, Type, angled, bounded, snake
 from .words import ALIASES, RESERVED, WORDS
 
 
@@ -34,7 +34,7 @@ def ghost(name: str, term: str) -> str:
     return "\n".join(filled(line) for line in f"ghost {name} = {{ {term} }};".split("\n"))
 
 
-REFUSES_NULL = ghost("refuses_null", "record { of_null = λ b e. absurd (cc e) }")
+REFUSED_NULL = "record { of_null = λ b e. absurd (cc e) }"
 
 
 def clause(word: str, fact: str) -> str:
@@ -47,9 +47,10 @@ def function(signature: str, *lines: str) -> str:
     return f"{signature if 'alloc' in body else signature.replace('alloc', '_alloc')} {{\n{body}\n}}"
 
 
-def fields_reader(name: str, result: str, refusal: str, gives: str, lines: List[str]) -> str:
+def fields_reader(name: str, result: Type, refusal: str, gives: str, lines: List[str]) -> str:
     """A function that reads fields by name, under a contract of what it refuses and may give."""
-    signature = f"fn {name}<'de, 'n: 'de>(alloc: Global, fields: FieldsByName<'de, 'n>) -> Result<{result}>"
+    given = angled(LT_DE, f"'n: {LT_DE}", *bounded(result.parameters(), READ))
+    signature = f"fn {name}{given}(alloc: Global, fields: FieldsByName<'de, 'n>) -> Result<{result.rust()}>"
     reads = clause("ensures", f"Reads ({refusal}\n(fields_left fields.entry))\n(λ z. {gives}\n(fields_left fields.entry)) result")
     body = "\n".join(lines)
     return f"/// Reads the fields, in any order.\n{signature}\n{reads}{{\n{body}\n}}\n"

@@ -1,7 +1,7 @@
 """A field's type, and what is proved of it."""
 import re
-from dataclasses import dataclass
-from typing import Dict, Iterator, List, NamedTuple, Optional, Tuple
+from dataclasses import dataclass, field, replace
+from typing import Any, Callable, Dict, Iterator, List, NamedTuple, Optional, Protocol, Sequence, Tuple
 
 
 class Laws(NamedTuple):
@@ -76,11 +76,35 @@ ALIKE = {"Option": "none_alike _ {x} e y a", "String": "no_items_alike _ (string
 OWN = Laws("{own}_serialize.lawful-law {x} {h}", "{own}_round_trip.comes_back-law",
            "{own}_round_trip.keeps-law", "{declared}",
            "{own}_cbor_round_trip.kept-law", "{own}_not_null.refuses_null-law")
+PARAMETER = Laws("{own}.lawful {x} {h}", "{own}.comes_back", "{own}.keeps", "{declared}", "{own}.kept", "{own}.refuses_null")
 SENT_AND_READ = (("RoundTrip<'de>", "exists"), ("Serialize", "script"), ("Deserialize<'de>", "refusal"),
                  ("Deserialize<'de>", "gives"), ("PartialEq", "eq"))
 RESERVED = set("data record deriving module where use mod pub package open as unfoldable abbrev axiom unfold unfolding"
                " ruleset mutual infix infixl infixr elim let in do Type coe fcoe tcoe hcom com".split())
+LT_A, LT_DE = "'a", "'de"
+READ_ALONE = (("Deserialize<'de>", "refusal"), ("Deserialize<'de>", "gives"))
 READ, TRIP, CBOR, NOT_NULL = "Deserialize<'de>", "RoundTrip<'de>", "CborRoundTrip<'de>", "NotNull<'de>"
+
+
+class LawsOf(Protocol):
+    """What writes the laws of a type of the user's out; the `item` is the type as it is declared, with its arguments."""
+
+    item: Any
+
+    def lawful(self) -> str:
+        """The script of each value is lawful."""
+
+    def back(self) -> str:
+        """Its values come back."""
+
+    def keeps(self) -> str:
+        """What it gives without coercion it gives with it."""
+
+    def kept(self) -> str:
+        """Its values come back from CBOR."""
+
+    def not_null(self) -> str:
+        """It isn't read of null."""
 
 
 @dataclass(frozen=True)
@@ -90,7 +114,12 @@ class Type:
     An own type has a `home`, the path of the specifications of the module that declares it under
     the name `declared`, and contracts call its laws by what it is `called`. It is `plain` where contracts take each of its values for one that exists,
     `astray` where its values don't come back, `lost` where they don't from CBOR, `null` where it may be read of null.
-    One of the same file that is read as a struct or a map has a `record`, the law that it takes no others.
+    One of the same file that is read as a struct or a map has a `record`, the law that it takes no others. Of its arguments
+    those at the places `nulls` decide whether it may be read of null, those at `optional` are in an Option in it, and those
+    at `inside` are in itself, not elsewhere in memory.
+
+    A `parameter` is one of what holds it, whose bounds have the laws. Of one of the same file with arguments `laws_of` has
+    the laws, written out: the name of a law does not say for which arguments it is.
     """
 
     name: str
@@ -103,10 +132,50 @@ class Type:
     lost: bool = False
     null: bool = False
     record: Optional[Tuple[str, str]] = None
+    nulls: Tuple[int, ...] = ()
+    optional: Tuple[int, ...] = ()
+    inside: Tuple[int, ...] = ()
+    parameter: bool = False
+    laws_of: Optional[Callable[["Type"], "LawsOf"]] = field(default=None, compare=False, repr=False)
 
     @property
     def laws(self) -> Laws:
-        return OWN if self.home else {**LEAVES, **HOLDERS}[self.name]
+        return PARAMETER if self.parameter else OWN if self.home else {**LEAVES, **HOLDERS}[self.name]
+
+    def parameters(self) -> List[str]:
+        """The parameters in it, each once."""
+        inside = [self.name] * self.parameter + [p for a in self.arguments for p in a.parameters()]
+        return list(dict.fromkeys(inside))
+
+    def at(self, given: Dict[str, "Type"]) -> "Type":
+        """The same with types in the place of its parameters."""
+        if self.parameter:
+            return given[self.name]
+        return replace(self, arguments=tuple(a.at(given) for a in self.arguments))
+
+    def sized_by(self) -> List[str]:
+        """The parameters on which its size depends: those of which it has values in itself."""
+        if self.name in ("Vec", "Box", "BTreeMap"):
+            return []
+        places = self.inside if self.home else range(len(self.arguments))
+        return [self.name] * self.parameter + [p for i in places for p in self.arguments[i].sized_by()]
+
+    def unsized(self) -> Optional["Type"]:
+        """The first type in it, if any, that is no parameter, and whose size depends on one."""
+        if self.sized_by() and not self.parameter:
+            return self
+        return next(filter(None, (argument.unsized() for argument in self.arguments)), None)
+
+    def null_by(self) -> List[str]:
+        """The parameters that decide whether it may be read of null."""
+        if self.name == "Box":
+            return self.arguments[0].null_by()
+        return [self.name] * self.parameter + [p for i in self.nulls for p in self.arguments[i].null_by()]
+
+    def optionals(self) -> List[str]:
+        """The parameters that may not be read of null where CBOR keeps its values: those in an Option."""
+        places = (0,) if self.name == "Option" else self.optional
+        return [p for i in places for p in self.arguments[i].null_by()] + [p for a in self.arguments for p in a.optionals()]
 
     def width(self) -> int:
         """How many types without arguments it is made of."""
@@ -124,6 +193,9 @@ class Type:
         return f"⟦<{self.rust()} as {trait}>⟧.{member}"
 
     def lawful(self, x: str, h: str = "readable") -> str:
+        if self.laws_of:
+            of = f"(x : {self.seen()}) (readable : Bool) → IsLawful ({self.member('Serialize', 'script')} x readable)"
+            return f"(let law : {of} = {self.laws_of(self).lawful()} in law) {x} {h}"
         if self.name == "tuple":
             laws = [a.lawful(f"{x}.{i}", h) for i, a in enumerate(self.arguments)]
             return "tuple_lawful" + nest([f"element_fits ({law})" for law in laws], "end_fits")
@@ -133,6 +205,8 @@ class Type:
         return self.laws.lawful.format(*inside, x=x, h=h, own=self.called)
 
     def back(self) -> str:
+        if self.laws_of:
+            return self.typed("ComesBack", SENT_AND_READ, self.laws_of(self).back())
         inside, count = [a.inner_back() for a in self.arguments], len(self.arguments)
         if self.name != "tuple":
             return self.laws.back.format(*inside, own=self.called, **self.ordered())
@@ -141,6 +215,8 @@ class Type:
         return f"(record {{ of_value = λ x real f. tuple_back{parts}\nf (λ y h. {both(count, 'h')}) }})"
 
     def kept(self) -> str:
+        if self.laws_of:
+            return self.typed("FormComesBack", SENT_AND_READ, self.laws_of(self).kept())
         inside, count = [a.inner_kept() for a in self.arguments], len(self.arguments)
         if self.name != "tuple":
             null = self.arguments[0].not_null() if self.name == "Option" else ""
@@ -150,6 +226,8 @@ class Type:
         return f"(record {{ of_value = λ x real. tuple_kept{parts}\n(λ y h. {both(count, 'h')}) }})"
 
     def not_null(self) -> str:
+        if self.laws_of:
+            return self.typed("RefusesNull", READ_ALONE[:1], self.laws_of(self).not_null())
         refusals, count = [a.member(READ, "refusal") for a in self.arguments], len(self.arguments)
         if self.name == "tuple":
             parts = nest([f"part_then {count} {i} ({refusal})" for i, refusal in enumerate(refusals)], f"(end_of_parts {count})")
@@ -159,18 +237,23 @@ class Type:
 
     def comes_back_from_cbor(self) -> bool:
         """Whether CBOR keeps its values; so it does an optional one of what is never null."""
-        if self.home or not self.arguments:
-            return not self.lost if self.home else bool(self.laws.kept)
-        return all(a.comes_back_from_cbor() for a in self.arguments) and not (
-            self.name == "Option" and self.arguments[0].may_be_null())
+        if not self.home and not self.arguments:
+            return bool(self.laws.kept)
+        optional = (0,) if self.name == "Option" else self.optional
+        return not self.lost and all(a.comes_back_from_cbor() for a in self.arguments) and not any(
+            self.arguments[i].may_be_null() for i in optional)
 
     def may_be_null(self) -> bool:
         """Whether it may be read of null."""
         if self.name == "Box":
             return self.arguments[0].may_be_null()
-        return self.null if self.home else self.name in ("Option", "()")
+        if self.home:
+            return self.null or any(self.arguments[i].may_be_null() for i in self.nulls)
+        return self.name in ("Option", "()")
 
     def keeps(self) -> str:
+        if self.laws_of:
+            return self.typed("CoercionKeeps", READ_ALONE, self.laws_of(self).keeps())
         inside, count = [a.keeps() for a in self.arguments], len(self.arguments)
         if self.name != "tuple":
             return self.laws.keeps.format(*inside, own=self.called, **self.ordered())
@@ -187,15 +270,17 @@ class Type:
 
     def typed_back(self) -> str:
         """The same with its type, where the term alone does not tell it."""
-        return self.typed("ComesBack", SENT_AND_READ, self.back()) if self.arguments else self.back()
+        return self.typed("ComesBack", SENT_AND_READ, self.back()) if self.is_held() else self.back()
 
     def typed_kept(self) -> str:
-        return self.typed("FormComesBack", SENT_AND_READ, self.kept()) if self.arguments else self.kept()
+        return self.typed("FormComesBack", SENT_AND_READ, self.kept()) if self.is_held() else self.kept()
 
     def typed_keeps(self) -> str:
-        if not self.arguments:
-            return self.keeps()
-        return self.typed("CoercionKeeps", ((READ, "refusal"), (READ, "gives")), self.keeps())
+        return self.typed("CoercionKeeps", READ_ALONE, self.keeps()) if self.is_held() else self.keeps()
+
+    def is_held(self) -> bool:
+        """Whether its laws are made of those of its arguments, and don't tell its type."""
+        return bool(self.arguments) and not self.laws_of
 
     def typed(self, word: str, members: Tuple[Tuple[str, str], ...], law: str) -> str:
         said = " ".join(f"({self.member(trait, member)})" for trait, member in members)
@@ -205,11 +290,13 @@ class Type:
         inside = [a.seen() for a in self.arguments]
         if self.name == "tuple":
             return f"({' × '.join(inside)})" if len(inside) > 1 else f"(record {{0 : {inside[0]}}})"
-        return self.laws.seen.format(*inside, declared=f"{self.module()}.{self.declared}" if self.module() else self.declared)
+        if self.home and inside:
+            return f"({' '.join([replace(self, arguments=()).seen(), *inside])})"
+        return self.laws.seen.format(*inside, declared=f"{self.module()}.{self.declared}" if self.module() else self.declared or self.name)
 
     def module(self) -> str:
         """What contracts call the module of an own type by, whose name is another's in them too."""
-        return "" if self.called == snake(self.declared) else f"{self.called}_as_seen"
+        return "" if not self.home or self.called == snake(self.declared) else f"{self.called}_as_seen"
 
     def takes(self) -> Optional[Tuple[str, str]]:
         """The class of trees that it takes, where it takes one, and the law."""
@@ -265,6 +352,21 @@ def snake(name: str) -> str:
 def nest(heads: List[str], end: str) -> str:
     """Heads that each take the rest as their last argument, on lines of their own."""
     return "\n" + "".join(f"({head}\n" for head in heads) + end + ")" * len(heads)
+
+
+def parameter(name: str) -> Type:
+    """A type parameter of this name."""
+    return Type(name, called=name, parameter=True)
+
+
+def angled(*inside: str) -> str:
+    """Parameters or arguments in their brackets, or nothing."""
+    return f"<{', '.join(inside)}>" if inside else ""
+
+
+def bounded(parameters: List[str], bound: str, some: Sequence[str] = (), theirs: str = "") -> List[str]:
+    """Each of these parameters with this bound, but some of them with theirs."""
+    return [f"{one}: {theirs if one in some else bound}" for one in parameters]
 
 
 def both(count: int, such: str) -> str:

@@ -7,7 +7,7 @@ from .holder import Holder, sending
 from .structs import StructWriter
 from .text import DESERIALIZE, SERIALIZE, all_hold, arm, codes, elim, facts, function, ghost
 from .text import together
-from .types import READ, nest
+from .types import LT_DE, READ, angled, bounded, nest
 from .words import CHOICES, PLACES
 
 
@@ -30,7 +30,7 @@ class UntaggedWriter(EnumWriter):
         # a variant of values by name is sent and read as a struct is
         self.structs = {v.name: StructWriter(Item(
             v.held().name, v.line, [f"/// What the variant `{v.name}` holds."], {}, item.wire, item.known, derives=item.derives,
-            data=v.data, owner=v.owner)) for v in item.variants if v.data.named}
+            data=v.data, owner=v.owner, parameters=v.data.parameters())) for v in item.variants if v.data.named}
         self.holders = {v.name: holder for v, holder in self.variants}
         self.last = f"data did not match any variant of untagged enum {item.name}"
 
@@ -43,9 +43,10 @@ class UntaggedWriter(EnumWriter):
         if not v.data.named:
             return []
         writer = self.structs[v.name]
-        name, members = writer.item.name, "\n\n".join(writer.deserialize())
+        name, members = writer.whole.rust(), "\n\n".join(writer.deserialize())
+        given = angled(LT_DE, *bounded(writer.item.parameters, READ))
         read = ["\n".join(writer.item.head + [f"#[derive(Drop)]\nstruct {name}{v.data.declared()}\n"]),
-                f"impl<'de> {READ} for {name} {{\n{members}\n}}\n"]
+                f"impl{given} {READ} for {name} {{\n{members}\n}}\n"]
         return read[:1] * self.reads + writer.functions() + read[1:] * self.reads
 
     def is_apart(self, v: Variant, holder: Holder) -> bool:
@@ -58,7 +59,7 @@ class UntaggedWriter(EnumWriter):
 
     def serialize(self) -> List[str]:
         return [ghost("script", self.each(lambda v, holder, x: self.script(v, x))),
-                ghost("lawful", self.each(lambda v, holder, x: f"λ readable. {self.lawful(v, x)}")),
+                ghost("lawful", self.lawful()),
                 function(SERIALIZE, *self.match([
                     arm(self.made(v, v.data.places()), [self.send(v)]) for v in self.item.variants]))]
 
@@ -75,7 +76,10 @@ class UntaggedWriter(EnumWriter):
         """The calls of a tuple of these parts."""
         return f"tuple_script {len(parts)}" + nest([f"element_first ({part})" for part in parts], "end_script")
 
-    def lawful(self, v: Variant, values: List[str]) -> str:
+    def lawful(self) -> str:
+        return self.each(lambda v, holder, x: f"λ readable. {self.variant_lawful(v, x)}")
+
+    def variant_lawful(self, v: Variant, values: List[str]) -> str:
         if v.data.named:
             return self.structs[v.name].holder.lawful(values)
         laws = [f.type.lawful(x) for f, x in zip(v.data.fields, values)] or [v.held().lawful("tt")]
@@ -100,7 +104,7 @@ class UntaggedWriter(EnumWriter):
         refused = nest([f"or_next {refusal}" for refusal in refusals], f"(Some (custom {codes(self.last)}))")
         return [ghost("refusal", f"λ s.{refused}"),
                 ghost("gives", "λ s. " + self.each(lambda v, holder, x: next(given))),
-                function(DESERIALIZE.format(self.item.name), *self.tries())]
+                function(DESERIALIZE.format(self.whole), *self.tries())]
 
     def tries(self) -> List[str]:
         """The statements that try the variants: those before the last four one by one, and the
@@ -145,12 +149,12 @@ class UntaggedWriter(EnumWriter):
             return f"{first.takes()[1]} {second.takes()[1]}"
         return f"{first.counts()} {second.counts()}"
 
-    def back(self, v: Variant, holder: Holder, values: List[str]) -> str:
+    def variant_back(self, v: Variant, holder: Holder, values: List[str]) -> str:
         laws = [f.type.typed_back() for f in v.data.fields] or [v.held().back()]
         law = self.held(v, holder, values, laws, "back", "parts_end", " (buffering f)")
         return f"λ real f. such_seen (λ t one. {self.seen_as(v, 'one', 'in_buffer (tree_under f t)', 'f t')})\n{law}"
 
-    def kept(self, v: Variant, holder: Holder, values: List[str]) -> str:
+    def variant_kept(self, v: Variant, holder: Holder, values: List[str]) -> str:
         laws = [f.type.typed_kept() for f in v.data.fields] or [v.held().kept()]
         law = self.held(v, holder, values, laws, "kept", "parts_end_kept", "")
         seen = self.seen_as(v, "(one fits true)", "in_buffer (read_in b (form t))", "(flags_in b) (form t)")
@@ -189,6 +193,6 @@ class UntaggedWriter(EnumWriter):
         """That the variant's type is taken, out of what is given: each earlier one is refused, and then that."""
         return f"{given}.{self.place(v)}" if self.place(v) else given
 
-    def coercion_keeps(self) -> str:
+    def keeps(self) -> str:
         """That coercion changes nothing: in a buffer numbers are always coerced."""
         return "record { of_origin = λ o people x p. record { free = p.free; given = p.given } }"

@@ -26,6 +26,7 @@ std.specs.Cmp.Lexicographic texts_ties
 std.specs.String string_cmp_total
 content_tree.specs.Values.Text static_name
 content_tree.specs.Errors.Cause custom
+content_ser.specs.Scripts.Script IsLawful
 content_ser.specs.Scripts.Sends Sends
 content_ser.specs.Scripts.Standard tuple_script element_first
 content_ser.specs.Scripts.Own field_first tuple_field_first end_script {' '.join(f'{s}_script' for s in STYLES)}
@@ -38,10 +39,11 @@ content_de.specs.Requests.Leaves bool_from char_from unit_from text_from
 content_de.specs.Reads.Standard HasContent
 content_de.specs.Sources.Origin tree_under in_buffer buffering
 content_de.specs.Reads.Tuples part_then end_of_parts PartThen NoPart
-content_de.specs.Accesses.ByName fields_left
+content_de.specs.Accesses.ByName fields_left field_named without_field
+content_de.specs.Accesses.Seq seq_view
 content_de.specs.Reads.Read Reads
 content_de.specs.Reads.Attempts IsTakenAs or_next
-content_de.specs.Reads.ByName read_by_name no_others missing_field
+content_de.specs.Reads.ByName found_refusal FoundGives read_by_name no_others missing_field
 content_de.specs.Reads.ByName ReadByName NoOthers
 content_de.specs.Reads.Tagged tag_then TagThen tag_then_buffered TagThenBuffered
 content_de.specs.Reads.Own enum_refusal EnumGives
@@ -77,7 +79,7 @@ serde_content.specs.Laws.Variants variant_back other_variant variant_kept
 serde_content.specs.Laws.Variants {' '.join(f'{s}_back {s}_keeps' for s in STYLES[1::2])}
 content_cbor.specs.Decoded read_in flags_in
 content_cbor.specs.Form form
-content_cbor.specs.Typed.Kept FormComesBack
+content_cbor.specs.Typed.Kept FormComesBack RefusesNull
 content_cbor.specs.Typed.Leaves {' '.join(laws.kept for laws in LEAVES.values() if laws.kept)}
 content_cbor.specs.Typed.Leaves number_not_null bool_not_null text_not_null
 content_cbor.specs.Typed.Holders seen_kept option_kept seq_kept seq_not_null

@@ -1,0 +1,37 @@
+"""Which fields are refused since their size depends on a parameter: proofs know nothing of it."""
+from itertools import islice
+from typing import Iterator, List
+
+from .declarations import Field, Item, Refused
+from .holder import LONGEST_HELD, LONGEST_ROW
+
+
+def check_sizes(item: Item) -> Iterator[Refused]:
+    """Refuses fields whose size depends on a parameter, where they are read and that isn't covered."""
+    parts = [(v.data, v.beside, f"{item.name}.{v.name}") for v in item.variants] or [(item.data, None, item.name)]
+    for data, beside, where in parts if "Deserialize" in item.derives else ():
+        leaves = beside.data.leaves() if beside else data.leaves()
+        alone = not beside and "tag" not in item.serde and (data.style == "Newtype" or item.transparent())
+        for f in data.fields:
+            inside = f.inside.leaves() if f.inside else leaves if beside else [f]
+            reasons = (reason(item, leaves, leaf, alone) for leaf in inside)
+            yield from (Refused(f.line, why, f"{where}.{f.name}") for why in islice(filter(None, reasons), 1))
+
+
+def reason(item: Item, leaves: List[Field], f: Field, alone: bool) -> str:
+    """Why a field whose size depends on a parameter is not covered among these, or nothing."""
+    unsized, name = f.type.unsized(), f.type.rust()
+    if unsized:
+        of = unsized.sized_by()[0]
+        return f"the size of `{unsized.rust()}` depends on `{of}`, which is not covered: hold `Box<{of}>` there for `{of}`"
+    if alone or not f.type.parameter:
+        return ""
+    if "untagged" in item.serde:
+        return f"of an untagged enum, a value of a parameter's type is covered alone in its variant: hold `Box<{name}>`"
+    if len(leaves) > (LONGEST_HELD if item.variants else LONGEST_ROW):
+        return (f"a field of a parameter's type is covered among up to {LONGEST_ROW} of a struct and {LONGEST_HELD} of a variant:"
+                f" hold `Box<{name}>`")
+    if not all(one.is_plain() for one in leaves[:leaves.index(f) + 1]):
+        return ("a field of a parameter's type is covered before those that may be missing or have an alias: move it there, or"
+                f" hold `Box<{name}>`")
+    return ""
