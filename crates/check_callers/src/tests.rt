@@ -17,3 +17,4 @@ mod readme;
 mod round_trips;
 mod uses;
 mod values;
+mod written;

@@ -1,5 +1,6 @@
-//! A builder that a caller uses badly: calls out of place, and a stop that it swallows.
+//! A builder that a caller uses badly: a text after a refusal, and a stop that it swallows.
 
+use super::written::spelled;
 use serde_content::ser::{Builder, Serialize, Serializer};
 use serde_content::{CowStr, Data, ErrorKind, Result as Answer, Struct, Value};
 use std::alloc::Global;
@@ -13,37 +14,22 @@ fn is_refused(answer: Answer<()>, cause: &ErrorKind) -> bool {
     }
 }
 
-/// Whether finishing is refused for this cause.
-fn is_stuck(builder: Builder<'_>, cause: &ErrorKind) -> bool {
-    match builder.finish() {
-        Ok(_) => false,
-        Err(error) => error.kind() == cause,
-    }
-}
-
 #[test]
-fn a_refused_builder_has_failed(rt: HostRuntime) -> Result<(), Fail> {
+fn a_failed_builder_collects_nothing(rt: HostRuntime) -> Result<(), Fail> {
     let alloc = rt.alloc();
     let mut builder: Builder<'static> = Builder::new(alloc, false);
     builder.serialize_seq(None)?;
-    assert!(rt; !builder.is_failed());
     assert!(rt; is_refused(builder.serialize_unit(), &ErrorKind::Misplaced));
-    assert!(rt; builder.is_failed());
-    assert!(rt; is_refused(builder.end(), &ErrorKind::Failed));
     assert!(rt; is_refused(builder.collect_str(alloc, &7u8), &ErrorKind::Failed));
-    assert!(rt; is_stuck(builder, &ErrorKind::Failed));
-    assert!(rt; is_stuck(Builder::new(alloc, false), &ErrorKind::Unfinished));
-    let mut builder: Builder<'static> = Builder::new(alloc, false);
-    builder.serialize_map(None)?;
-    assert!(rt; is_stuck(builder, &ErrorKind::Unfinished));
+    assert!(rt; builder.is_failed());
     Ok(())
 }
 
-/// A struct of the static name S with one field, whose key is owned.
+/// A struct of the static name Foo with one field, whose key is owned.
 fn with_owned_key(alloc: Global) -> Answer<Struct<'static>> {
     let key = CowStr::Owned(String::from_str(alloc, "b")?);
     Ok(Struct {
-        name: CowStr::Borrowed("S"),
+        name: CowStr::Borrowed("Foo"),
         data: Data::Struct {
             fields: vec![in alloc; (key, Value::Unit)]?,
         },
@@ -58,40 +44,34 @@ fn is_stopped(answer: Answer<()>) -> bool {
     }
 }
 
+/// Sends a sequence up to its first item, which is stopped; whether it was.
+fn swallow(builder: &mut Builder<'static>, alloc: Global) -> Answer<bool> {
+    builder.serialize_seq(None)?;
+    builder.serialize_element()?;
+    let value = with_owned_key(alloc)?;
+    Ok(is_stopped(value.serialize(alloc, builder)))
+}
+
 #[test]
 fn a_swallowed_stop_has_made_its_calls(rt: HostRuntime) -> Result<(), Fail> {
     let alloc = rt.alloc();
-    let value = with_owned_key(alloc)?;
     let mut builder: Builder<'static> = Builder::new(alloc, false);
-    builder.serialize_seq(None)?;
-    builder.serialize_element()?;
-    assert!(rt; is_stopped(value.serialize(alloc, &mut builder)));
+    assert!(rt; swallow(&mut builder, alloc)?);
     assert!(rt; !builder.is_failed());
     assert!(rt; is_refused(builder.serialize_element(), &ErrorKind::Misplaced));
     Ok(())
 }
 
-/// A sequence of a struct of the static name S without fields.
-fn empty_in_a_sequence(alloc: Global) -> Answer<Value<'static>> {
-    let empty = Struct {
-        name: CowStr::Borrowed("S"),
-        data: Data::Struct {
-            fields: Vec::new(alloc),
-        },
-    };
-    Ok(Value::Seq(vec![in alloc; Value::Struct(Box::new(alloc, empty)?)]?))
-}
-
 #[test]
 fn after_a_swallowed_stop_the_open_nodes_end(rt: HostRuntime) -> Result<(), Fail> {
     let alloc = rt.alloc();
-    let value = with_owned_key(alloc)?;
     let mut builder: Builder<'static> = Builder::new(alloc, false);
-    builder.serialize_seq(None)?;
-    builder.serialize_element()?;
-    assert!(rt; is_stopped(value.serialize(alloc, &mut builder)));
+    assert!(rt; swallow(&mut builder, alloc)?);
     builder.end()?;
     builder.end()?;
-    assert!(rt; builder.finish()? == empty_in_a_sequence(alloc)?);
+
+    // A struct without fields, in a sequence.
+    let wanted = spelled(alloc, "seq; element; struct Foo 0; end; end")?;
+    assert!(rt; builder.finish()? == wanted);
     Ok(())
 }

@@ -32,7 +32,7 @@ fn a_configuration_is_changed_and_read(rt: HostRuntime) -> Result<(), Fail> {
     assert!(rt; config.pointer("/web/port").and_then(|port| port.as_i64()) == Some(8443));
     let text = format!(in alloc; "{}", config.pretty())?;
 
-    assert!(rt; format!(in alloc; "\n{text}\n")?.as_str() == PRINTED);
+    assert!(rt; text.as_str() == PRINTED.trim());
 
     let servers: BTreeMap<String, Server> = Deserializer::new(config).deserialize(alloc)?;
     assert!(rt;
@@ -40,6 +40,12 @@ fn a_configuration_is_changed_and_read(rt: HostRuntime) -> Result<(), Fail> {
             .get("web")
             .is_some_and(|web| web.port == 8443 && !web.open)
     );
+    Ok(())
+}
+
+#[test]
+fn a_misfit_is_told_with_its_place(rt: HostRuntime) -> Result<(), Fail> {
+    let alloc = rt.alloc();
 
     let wrong = value!(in alloc; { "web": { "host-name": "local", "port": "http" } })?;
     match Deserializer::new(wrong).deserialize::<BTreeMap<String, Server>>(alloc) {
