@@ -20,7 +20,7 @@ cases=("$room" "${3:-1}" 20000 "${files[@]}")
 
 place_ours derive_beside "$parts/here" 'derive_beside: content_de content_ser content_tree serde_content'
 here=$room/ours/crates/derive_beside
-for module in answer cursor failure flags named number piece printable quoted run show tree unfold; do
+for module in answer cursor failure flags named number order piece printable quoted run show tree unfold; do
     cp "$top/crates/check_rows/src/$module.rt" "$here/src/"
 done
 place_original "$crate" "$parts/driver"

@@ -13,13 +13,14 @@ pub fn sent_as(typ: &str, from: Deserializer<'static>) -> Result<String> {{
 RATTLE = """//! The types.
 
 {uses}use crate::answer::Answer;
+use crate::failure::Failure;
 use crate::named::with_type;
 use crate::operations::write_sent;
-use serde_content::{{Deserializer, Result}};
+use serde_content::Deserializer;
 
 /// Adds a value of the type of this name as it is sent again.
-pub fn write_typed(out: &mut Answer, typ: &str, from: Deserializer<'_, 'static>) -> Result<()> {{
-    with_type!(typ, write_sent(out, from), [{types}], out.no_row())
+pub fn write_typed(out: &mut Answer, typ: &str, from: Deserializer<'_, 'static>) {{
+    with_type!(typ, write_sent(out, from), [{types}], out.fail(Failure::NoRow))
 }}
 """
 NAMES = """//! The names that a case may have static.
