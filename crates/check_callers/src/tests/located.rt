@@ -2,6 +2,7 @@
 //!
 //! `checks/located.sh` compares the paths of a depot with those that Serde's derives give.
 
+use crate::tests::written::{changed, value_of};
 use check_derive::attributes::{Grade, Task};
 use check_derive::choices::Setting;
 use check_derive::inlined::Change;
@@ -10,7 +11,7 @@ use check_derive::sorts::{Code, Ledger, Stop};
 use check_derive::types::Step;
 use serde_content::de::Deserialize;
 use serde_content::samples::{Point, Shape};
-use serde_content::ser::{Builder, Call, Serializer, from_calls};
+use serde_content::ser::{Call, from_calls};
 use serde_content::{CowStr, Deserializer, Error, NamedValue, Number, Result as Answer, Value};
 use std::alloc::Global;
 use std::collections::BTreeMap;
@@ -488,66 +489,6 @@ const NAMES: [(&str, &str, &str); 10] = [
     ("\u{7f}", "/\u{7f}", "[\"\\u{7f}\"]"),
     ("\u{fc}", "/\u{fc}", "[\"\u{fc}\"]"),
 ];
-
-/// What a token tells that is no key and closes nothing.
-fn call_of(token: &str) -> Call<'_> {
-    if let Ok(number) = token.parse::<u64>() {
-        return Call::Number(Number::U64(number));
-    }
-    if let Ok(number) = token.parse::<i64>() {
-        return Call::Number(Number::I64(number));
-    }
-    if let Some(text) = token.strip_prefix('\'') {
-        return Call::Char(text.chars().next().unwrap_or('?'));
-    }
-    match token {
-        "{" => Call::Map(None),
-        "[" => Call::Seq(None),
-        "null" => Call::NoneCall,
-        "true" => Call::Bool(true),
-        "false" => Call::Bool(false),
-        text => Call::Str(CowStr::Borrowed(text)),
-    }
-}
-
-/// Makes the calls of a token. A value is an item of a sequence where it follows no key; says
-/// whether the next one would be.
-fn put(builder: &mut Builder<'static>, token: &str, is_item: bool) -> Answer<bool> {
-    if let Some(key) = token.strip_suffix(':') {
-        builder.serialize_entry()?;
-        builder.call(call_of(key))?;
-        return Ok(false);
-    }
-    if token == "}" || token == "]" {
-        builder.end()?;
-        return Ok(true);
-    }
-    if is_item {
-        builder.serialize_element()?;
-    }
-    builder.call(call_of(token))?;
-    Ok(true)
-}
-
-/// The value of a text, with the other tokens in place of each token that is this one.
-fn changed(alloc: Global, text: &str, token: &str, others: &str) -> Answer<Value<'static>> {
-    let mut builder: Builder<'static> = Builder::new(alloc, false);
-    let mut is_item = false;
-    for word in text.split_whitespace() {
-        let word = word.strip_suffix(',').unwrap_or(word);
-        let words = if word == token { others } else { word };
-        for word in words.split_whitespace() {
-            let word = word.strip_suffix(',').unwrap_or(word);
-            is_item = put(&mut builder, word, is_item)?;
-        }
-    }
-    builder.finish()
-}
-
-/// The value of a text.
-fn value_of(alloc: Global, text: &str) -> Answer<Value<'static>> {
-    changed(alloc, text, "", "")
-}
 
 /// The path of an error, or that it has none.
 fn path_of(alloc: Global, error: &Error) -> Answer<String> {
