@@ -100,8 +100,8 @@ pub fn fitting_trees_are_taken()
     ensures { FittingTreesAreTaken }
 {}
 
-/// Writes a value, reads it back, and answers an equal one. `bytes` is room for what is written,
-/// which replaces what it held.
+/// Writes a value, reads it back, and answers an equal one. `bytes` is room for what is written; no
+/// clause says what it holds afterwards.
 ///
 /// # Errors
 ///

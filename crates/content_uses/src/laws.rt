@@ -95,8 +95,8 @@ pub fn loaded_is_got<'v, 'n: 'v, T: CborRoundTrip<'v>>(
 }
 
 /// Puts a value, saves and loads its store, and gets it: what comes is equal to what was put, at
-/// any type whose values come back from CBOR. `bytes` is room for what is saved, which replaces
-/// what it held. Where it fails it may have been put.
+/// any type whose values come back from CBOR. `bytes` is room for what is saved; no clause
+/// says what it holds afterwards. Where it fails it may have been put.
 ///
 /// # Errors
 ///
