@@ -19,6 +19,11 @@ pub fn bytes(alloc: Global) -> Made<CowBytes<'static>> {
     Ok(CowBytes::Owned(vec![in alloc; 1u8, 2]?))
 }
 
+/// The same as a value.
+pub fn owned_bytes(alloc: Global) -> Made<Value<'static>> {
+    Ok(Value::Bytes(bytes(alloc)?))
+}
+
 /// One item.
 pub fn items(alloc: Global) -> Made<Vec<Value<'static>>> {
     Ok(vec![in alloc; 7u8.into()]?)
@@ -27,6 +32,11 @@ pub fn items(alloc: Global) -> Made<Vec<Value<'static>>> {
 /// A map of one entry.
 pub fn map(alloc: Global, key: &'static str) -> Made<Value<'static>> {
     Ok(Value::Map(vec![in alloc; (Value::from(key), 7u8.into())]?))
+}
+
+/// An option that is present.
+pub fn some(alloc: Global, value: Made<Value<'static>>) -> Made<Value<'static>> {
+    Ok(Value::Option(Some(Box::new(alloc, value?)?)))
 }
 
 /// One value.
@@ -53,8 +63,8 @@ pub fn holder(data: Data<'static>) -> Struct<'static> {
 }
 
 /// A struct.
-pub fn structure(alloc: Global, data: Data<'static>) -> Made<Value<'static>> {
-    Ok(Value::Struct(Box::new(alloc, holder(data))?))
+pub fn structure(alloc: Global, data: Made<Data<'static>>) -> Made<Value<'static>> {
+    Ok(Value::Struct(Box::new(alloc, holder(data?))?))
 }
 
 /// A variant, with no box.
@@ -68,6 +78,6 @@ pub fn variant(data: Data<'static>) -> Enum<'static> {
 }
 
 /// A variant.
-pub fn enumeration(alloc: Global, data: Data<'static>) -> Made<Value<'static>> {
-    Ok(Value::Enum(Box::new(alloc, variant(data))?))
+pub fn enumeration(alloc: Global, data: Made<Data<'static>>) -> Made<Value<'static>> {
+    Ok(Value::Enum(Box::new(alloc, variant(data?))?))
 }

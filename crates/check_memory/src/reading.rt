@@ -1,8 +1,10 @@
 //! Requests for what fits them, and what they hand out.
 
-use crate::nodes::{bytes, enumeration, fields, items, map, one, owned_text, places, structure};
-use crate::tally::{Made, Tally};
-use crate::values::ascend;
+use crate::nodes::{
+    enumeration, fields, items, map, one, owned_bytes, owned_text, places, some, structure,
+};
+use crate::tally::Tally;
+use crate::values::{ascend, same};
 use serde_content::de::{IntoDeserializer, Map, Seq, attempt_fitting};
 use serde_content::{CowStr, Data, Deserializer, Expected, Number, Result, Value, ValueVisitor};
 use std::alloc::Global;
@@ -11,17 +13,15 @@ use std::alloc::Global;
 pub type Reader = Deserializer<'static, 'static>;
 
 /// Makes the calls.
-pub fn run(tally: &mut Tally, alloc: Global) -> Made<()> {
+pub fn run(tally: &mut Tally, alloc: Global) {
     readers(tally, alloc);
     leaves(tally, alloc);
-    numbers(tally, alloc);
-    texts(tally, alloc)?;
-    octets(tally, alloc)?;
-    typed(tally, alloc)?;
-    tries(tally, alloc)?;
-    structs(tally, alloc)?;
-    sequences(tally, alloc)?;
-    maps(tally, alloc)
+    texts(tally, alloc);
+    typed(tally, alloc);
+    tries(tally, alloc);
+    structs(tally, alloc);
+    sequences(tally, alloc);
+    maps(tally, alloc);
 }
 
 /// Reads a value.
@@ -31,136 +31,181 @@ pub fn reads<T: Into<Value<'static>>>(from: T) -> Reader {
 
 fn readers(tally: &mut Tally, alloc: Global) {
     let number = Number::U8(7);
-    let value = Value::Number(number);
     let flagged = reads(7u8).human_readable().coerce_numbers();
-    tally.promised("the flags of a reader", flagged > reads(7u8));
-    tally.promised("Deserializer::into_value", flagged.into_value().is_ok());
+    tally.promised("the flags of a reader", ascend(reads(7u8), flagged));
+    tally.promised("the order of readers", ascend(reads(()), reads('a')));
+    let value = reads(7u8).coerce_numbers().into_value();
+    tally.promised(
+        "Deserializer::into_value",
+        same(value.ok(), Some(7u8.into())),
+    );
+    let value = Value::Number(number);
     tally.succeeds("a reader of a value", value.into_deserializer(alloc));
     tally.succeeds("a reader of a number", number.into_deserializer(alloc));
     tally.succeeds("a reader of itself", reads(7u8).into_deserializer(alloc));
 }
 
 fn leaves(tally: &mut Tally, alloc: Global) {
-    tally.promised("the order of readers", ascend(&reads(()), &reads('a')));
     tally.succeeds("deserialize_bool", reads(true).deserialize_bool(alloc));
     tally.succeeds("deserialize_char", reads('a').deserialize_char(alloc));
     tally.succeeds("deserialize_unit", reads(()).deserialize_unit(alloc));
     tally.succeeds("deserialize_any", reads("ab").deserialize_any(alloc));
-}
-
-fn numbers(tally: &mut Tally, alloc: Global) {
-    let wide = reads(7u8).coerce_numbers();
-    let option = reads(7u8).deserialize_option(alloc);
-    let newtype = reads(7u8).deserialize_newtype_struct(alloc, "S");
     tally.succeeds("deserialize_u8", reads(7u8).deserialize_u8(alloc));
-    tally.succeeds("a coerced number", wide.deserialize_i128(alloc));
+    let wide = reads(7u8).coerce_numbers().deserialize_i128(alloc);
+    tally.succeeds("a coerced number", wide);
+    let option = reads(7u8).deserialize_option(alloc);
     tally.succeeds("deserialize_option of no option", option);
+    let newtype = reads(7u8).deserialize_newtype_struct(alloc, "S");
     tally.succeeds("deserialize_newtype_struct of no struct", newtype);
 }
 
-fn texts(tally: &mut Tally, alloc: Global) -> Made<()> {
-    let reader = reads(owned_text(alloc)?);
-    tally.succeeds("deserialize_str", reader.deserialize_str(alloc));
-    let reader = reads(owned_text(alloc)?);
-    tally.succeeds("deserialize_string", reader.deserialize_string(alloc));
-    let name = reads(owned_text(alloc)?).deserialize_identifier(alloc);
-    tally.succeeds("deserialize_identifier", name);
-    Ok(())
+fn texts(tally: &mut Tally, alloc: Global) {
+    if let Some(text) = tally.reader(owned_text(alloc)) {
+        tally.succeeds("deserialize_str", text.deserialize_str(alloc));
+    }
+    if let Some(text) = tally.reader(owned_text(alloc)) {
+        tally.succeeds("deserialize_string", text.deserialize_string(alloc));
+    }
+    if let Some(text) = tally.reader(owned_text(alloc)) {
+        tally.succeeds("deserialize_identifier", text.deserialize_identifier(alloc));
+    }
+    if let Some(text) = tally.reader(owned_text(alloc)) {
+        tally.succeeds("a visited text", ValueVisitor.read(alloc, text));
+    }
+    if let Some(bytes) = tally.reader(owned_bytes(alloc)) {
+        tally.succeeds("deserialize_bytes", bytes.deserialize_bytes(alloc));
+    }
+    if let Some(bytes) = tally.reader(owned_bytes(alloc)) {
+        tally.succeeds("deserialize_byte_buf", bytes.deserialize_byte_buf(alloc));
+    }
+    if let Some(bytes) = tally.reader(owned_bytes(alloc)) {
+        tally.succeeds("visited bytes", ValueVisitor.read(alloc, bytes));
+    }
 }
 
-fn octets(tally: &mut Tally, alloc: Global) -> Made<()> {
-    let reader = reads(Value::Bytes(bytes(alloc)?));
-    tally.succeeds("deserialize_bytes", reader.deserialize_bytes(alloc));
-    let reader = reads(Value::Bytes(bytes(alloc)?));
-    tally.succeeds("deserialize_byte_buf", reader.deserialize_byte_buf(alloc));
-    let reader = reads(owned_text(alloc)?);
-    tally.succeeds("a visited text", ValueVisitor.read(alloc, reader));
-    let reader = reads(Value::Bytes(bytes(alloc)?));
-    tally.succeeds("visited bytes", ValueVisitor.read(alloc, reader));
-    Ok(())
-}
-
-fn typed(tally: &mut Tally, alloc: Global) -> Made<()> {
+fn typed(tally: &mut Tally, alloc: Global) {
     let flag: Result<bool> = reads(true).deserialize(alloc);
     tally.succeeds("bool::deserialize", flag);
-    let text: Result<CowStr<'static>> = reads(owned_text(alloc)?).deserialize(alloc);
-    tally.succeeds("CowStr::deserialize", text);
-    let text: Result<String> = reads(owned_text(alloc)?).deserialize(alloc);
-    tally.succeeds("String::deserialize", text);
-    let held = Value::Option(Some(Box::new(alloc, owned_text(alloc)?)?));
-    let option: Result<Option<String>> = reads(held).deserialize(alloc);
-    tally.succeeds("Option::deserialize", option);
-    let items = Value::Tuple(vec![in alloc; true.into(), owned_text(alloc)?]?);
-    let tuple: Result<(bool, String)> = reads(items).deserialize(alloc);
-    tally.succeeds("the read of a tuple", tuple);
-    Ok(())
-}
-
-fn tries(tally: &mut Tally, alloc: Global) -> Made<()> {
-    let text = reads(owned_text(alloc)?);
-    let flag: Result<Option<bool>> = attempt_fitting(alloc, &text, &Expected::Bool);
-    tally.promised("a refused try of a boolean", matches!(flag, Ok(None)));
-    let number: Result<Option<u8>> = attempt_fitting(alloc, &text, &Expected::U8);
-    tally.promised("a refused try of a number", matches!(number, Ok(None)));
-    let pair: Result<Option<(u8, u8)>> = attempt_fitting(alloc, &text, &Expected::Tuple(2));
-    tally.promised("a refused try of a tuple", matches!(pair, Ok(None)));
-    Ok(())
-}
-
-fn structs(tally: &mut Tally, alloc: Global) -> Made<()> {
-    let unit = reads(structure(alloc, Data::Unit)?).deserialize_unit_struct(alloc, "S");
-    tally.succeeds("deserialize_unit_struct", unit);
-    let held = reads(structure(alloc, one())?).deserialize_newtype_struct(alloc, "S");
-    tally.succeeds("deserialize_newtype_struct", held);
-    let value = reads(structure(alloc, one())?).deserialize_ignored_any(alloc);
-    tally.succeeds("deserialize_ignored_any", value);
-    let option = reads(Value::Option(Some(Box::new(alloc, Value::from(7u8))?)));
-    tally.succeeds("deserialize_option", option.deserialize_option(alloc));
-    Ok(())
-}
-
-/// Whether there is one item, which is handed out.
-fn is_item(items: Result<Seq<'static, 'static>>) -> bool {
-    match items {
-        Ok(mut items) => items.size_hint() == Some(1) && items.next_deserializer().is_some(),
-        Err(_) => false,
+    if let Some(text) = tally.reader(owned_text(alloc)) {
+        let text: Result<CowStr<'static>> = text.deserialize(alloc);
+        tally.succeeds("CowStr::deserialize", text);
     }
-}
-
-fn sequences(tally: &mut Tally, alloc: Global) -> Made<()> {
-    let seq = reads(Value::Seq(items(alloc)?)).deserialize_seq(alloc);
-    tally.promised("deserialize_seq", is_item(seq));
-    let tuple = reads(Value::Tuple(items(alloc)?)).deserialize_tuple(alloc, 1);
-    tally.promised("deserialize_tuple", is_item(tuple));
-    let by_place = reads(structure(alloc, places(alloc)?)?);
-    let items = by_place.deserialize_tuple_struct(alloc, "S", 1);
-    tally.promised("deserialize_tuple_struct", is_item(items));
-    Ok(())
-}
-
-/// Whether there is one entry, of which the key and then the value is handed out.
-fn is_entry(alloc: Global, entries: Result<Map<'static, 'static>>) -> bool {
-    match entries {
-        Ok(mut entries) => {
-            let size = entries.size_hint();
-            let key = entries.next_key_deserializer(alloc).is_ok();
-            let value = entries.next_value_deserializer(alloc).is_ok();
-            let end = entries.next_entry_deserializers(alloc).is_ok();
-            size == Some(1) && key && value && end
+    if let Some(text) = tally.reader(owned_text(alloc)) {
+        let text: Result<String> = text.deserialize(alloc);
+        tally.succeeds("String::deserialize", text);
+    }
+    if let Some(option) = tally.reader(some(alloc, owned_text(alloc))) {
+        let option: Result<Option<String>> = option.deserialize(alloc);
+        tally.succeeds("Option::deserialize", option);
+    }
+    if let Some(text) = tally.made(owned_text(alloc)) {
+        if let Some(items) = tally.made(vec![in alloc; Value::from(true), text]) {
+            let pair: Result<(bool, String)> = reads(Value::Tuple(items)).deserialize(alloc);
+            tally.succeeds("the read of a tuple", pair);
         }
-        Err(_) => false,
     }
 }
 
-fn maps(tally: &mut Tally, alloc: Global) -> Made<()> {
-    let pairs = reads(map(alloc, "x")?).deserialize_map(alloc);
-    tally.promised("deserialize_map", is_entry(alloc, pairs));
-    let by_key = reads(structure(alloc, fields(alloc)?)?);
-    let entries = by_key.deserialize_struct(alloc, "S", &[]);
-    tally.promised("deserialize_struct", is_entry(alloc, entries));
-    let by_key = reads(structure(alloc, fields(alloc)?)?).deserialize_any(alloc);
-    tally.succeeds("deserialize_any of a struct", by_key);
-    let variant = reads(enumeration(alloc, Data::Unit)?).deserialize_any(alloc);
-    tally.succeeds("deserialize_any of a variant", variant);
-    Ok(())
+fn tries(tally: &mut Tally, alloc: Global) {
+    if let Some(text) = tally.reader(owned_text(alloc)) {
+        refused_tries(tally, alloc, &text);
+        drop(text);
+    }
+}
+
+/// Tries to read a text as something else.
+fn refused_tries(tally: &mut Tally, alloc: Global, text: &Reader) {
+    let expected = Expected::Bool;
+    let flag: Result<Option<bool>> = attempt_fitting(alloc, text, &expected);
+    tally.promised("a refused try of a boolean", same(flag, Ok(None)));
+    drop(expected);
+    let expected = Expected::U8;
+    let number: Result<Option<u8>> = attempt_fitting(alloc, text, &expected);
+    tally.promised("a refused try of a number", same(number, Ok(None)));
+    drop(expected);
+    let expected = Expected::Tuple(2);
+    let pair: Result<Option<(u8, u8)>> = attempt_fitting(alloc, text, &expected);
+    tally.promised("a refused try of a tuple", same(pair, Ok(None)));
+    drop(expected);
+}
+
+fn structs(tally: &mut Tally, alloc: Global) {
+    if let Some(unit) = tally.reader(structure(alloc, Ok(Data::Unit))) {
+        let unit = unit.deserialize_unit_struct(alloc, "S");
+        tally.succeeds("deserialize_unit_struct", unit);
+    }
+    if let Some(newtype) = tally.reader(structure(alloc, Ok(one()))) {
+        let held = newtype.deserialize_newtype_struct(alloc, "S");
+        tally.succeeds("deserialize_newtype_struct", held);
+    }
+    if let Some(newtype) = tally.reader(structure(alloc, Ok(one()))) {
+        let ignored = newtype.deserialize_ignored_any(alloc);
+        tally.succeeds("deserialize_ignored_any", ignored);
+    }
+    if let Some(option) = tally.reader(some(alloc, Ok(7u8.into()))) {
+        tally.succeeds("deserialize_option", option.deserialize_option(alloc));
+    }
+    if let Some(by_key) = tally.reader(structure(alloc, fields(alloc))) {
+        let entries = by_key.deserialize_any(alloc);
+        tally.succeeds("deserialize_any of a struct", entries);
+    }
+    if let Some(variant) = tally.reader(enumeration(alloc, Ok(Data::Unit))) {
+        let variant = variant.deserialize_any(alloc);
+        tally.succeeds("deserialize_any of a variant", variant);
+    }
+}
+
+/// Counts a request for a sequence of one item, which is handed out.
+fn hands_out_item(tally: &mut Tally, name: &str, items: Result<Seq<'static, 'static>>) {
+    if let Some(mut items) = tally.given(name, items) {
+        tally.promised("Seq::size_hint", items.size_hint() == Some(1));
+        let item = items.next_deserializer();
+        tally.promised("Seq::next_deserializer", same(item, Some(reads(7u8))));
+        drop(items);
+    }
+}
+
+fn sequences(tally: &mut Tally, alloc: Global) {
+    if let Some(items) = tally.made(items(alloc)) {
+        let seq = reads(Value::Seq(items)).deserialize_seq(alloc);
+        hands_out_item(tally, "deserialize_seq", seq);
+    }
+    if let Some(items) = tally.made(items(alloc)) {
+        let tuple = reads(Value::Tuple(items)).deserialize_tuple(alloc, 1);
+        hands_out_item(tally, "deserialize_tuple", tuple);
+    }
+    if let Some(by_place) = tally.reader(structure(alloc, places(alloc))) {
+        let items = by_place.deserialize_tuple_struct(alloc, "S", 1);
+        hands_out_item(tally, "deserialize_tuple_struct", items);
+    }
+}
+
+/// Counts a request for a map of one entry, of which the key and then the value is handed out.
+fn hands_out_entry(
+    tally: &mut Tally,
+    alloc: Global,
+    name: &str,
+    entries: Result<Map<'static, 'static>>,
+) {
+    if let Some(mut entries) = tally.given(name, entries) {
+        tally.promised("Map::size_hint", entries.size_hint() == Some(1));
+        let key = entries.next_key_deserializer(alloc);
+        tally.succeeds("Map::next_key_deserializer", key);
+        let value = entries.next_value_deserializer(alloc);
+        tally.succeeds("Map::next_value_deserializer", value);
+        let end = entries.next_entry_deserializers(alloc);
+        tally.succeeds("Map::next_entry_deserializers", end);
+        drop(entries);
+    }
+}
+
+fn maps(tally: &mut Tally, alloc: Global) {
+    if let Some(pairs) = tally.reader(map(alloc, "x")) {
+        let entries = pairs.deserialize_map(alloc);
+        hands_out_entry(tally, alloc, "deserialize_map", entries);
+    }
+    if let Some(by_key) = tally.reader(structure(alloc, fields(alloc))) {
+        let entries = by_key.deserialize_struct(alloc, "S", &[]);
+        hands_out_entry(tally, alloc, "deserialize_struct", entries);
+    }
 }
