@@ -44,7 +44,7 @@ past-step m k t n f h = ap (λ b. if b then forest.grown k t n ∷ f else past (
 pub past_fields-step : (m : ℕ) (k : Text) (t : Tree) (n : ℕ) (f : List forest.Grown) → 0 < m → past_fields m (forest.grown k t n ∷ f) ≡ past_fields ((m - n) - 1) f
 past_fields-step m k t n f h = ap (λ b. if b then forest.grown k t n ∷ f else past_fields ((m - n) - 1) f) (nonzero m h)
 
-near-step : (m : ℕ) (k : Text) (t : Tree) (n : ℕ) (f : List forest.Grown) → 0 < m → trees_near m (forest.grown k t n ∷ f) ≡ tree_then t (trees_near (m - n) f)
+pub near-step : (m : ℕ) (k : Text) (t : Tree) (n : ℕ) (f : List forest.Grown) → 0 < m → trees_near m (forest.grown k t n ∷ f) ≡ tree_then t (trees_near (m - n) f)
 near-step m k t n f h = ap (λ b. if b then no_trees else tree_then t (trees_near (m - n) f)) (nonzero m h)
 
 pub items-step : (items more : List NamedValue) (m : ℕ) (g : Grown) (f : List forest.Grown) → 0 < m → more ≡ items ++ g.value ∷ []
@@ -57,7 +57,7 @@ pub fields-zero : (f : List forest.Grown) → fields_near 0 f ≡ no_fields
 fields-zero [] = refl
 fields-zero (forest.grown k t n ∷ f) = refl
 
-near-step_field : (m : ℕ) (k : Text) (t : Tree) (n : ℕ) (f : List forest.Grown) → 0 < m → fields_near m (forest.grown k t n ∷ f) ≡ field_then k t (fields_near ((m - n) - 1) f)
+pub near-step_field : (m : ℕ) (k : Text) (t : Tree) (n : ℕ) (f : List forest.Grown) → 0 < m → fields_near m (forest.grown k t n ∷ f) ≡ field_then k t (fields_near ((m - n) - 1) f)
 near-step_field m k t n f h = ap (λ b. if b then no_fields else field_then k t (fields_near ((m - n) - 1) f)) (nonzero m h)
 
 pub fields-step : (items more : List (CowStr × NamedValue)) (m : ℕ) (g : Grown) (k : CowStr) (f : List forest.Grown) → 0 < m → text_of k ≡ static_name g.key.now → more ≡ items ++ (k, g.value) ∷ []
@@ -83,7 +83,7 @@ pairs-odd m k t n (forest.grown l u o ∷ f) h z =
     ap (λ b. if b then no_pairs else (if nat_eq (m - n) 0 then no_pairs else pair_then t u (pairs_near ((m - n) - o) f))) (nonzero m h)
     ∙ ap (λ x. if nat_eq x 0 then no_pairs else pair_then t u (pairs_near (x - o) f)) z
 
-pairs-two : (m : ℕ) (k : Text) (t : Tree) (n : ℕ) (l : Text) (u : Tree) (o : ℕ) (f : List forest.Grown) → 0 < m → 0 < m - n → pairs_near m (forest.grown k t n ∷ forest.grown l u o ∷ f) ≡ pair_then t u (pairs_near ((m - n) - o) f)
+pub pairs-two : (m : ℕ) (k : Text) (t : Tree) (n : ℕ) (l : Text) (u : Tree) (o : ℕ) (f : List forest.Grown) → 0 < m → 0 < m - n → pairs_near m (forest.grown k t n ∷ forest.grown l u o ∷ f) ≡ pair_then t u (pairs_near ((m - n) - o) f)
 pairs-two m k t n l u o f h z =
     ap (λ b. if b then no_pairs else (if nat_eq (m - n) 0 then no_pairs else pair_then t u (pairs_near ((m - n) - o) f))) (nonzero m h)
     ∙ ap (λ b. if b then no_pairs else pair_then t u (pairs_near ((m - n) - o) f)) (nonzero (m - n) z)
@@ -107,3 +107,7 @@ key-given gs n g new k s here is =
 
 pub no-key-given : (gs : List Grown) (k : Text) → length gs ≡ 0 → grown_trees gs ≡ plant_key k (grown_trees gs)
 no-key-given gs k z = subst (λ l. grown_trees l ≡ plant_key k (grown_trees l)) (sym (nothing gs z)) refl
+
+pub read-append : (cs ds : List Cell) (f : List forest.Grown) → read (cs ++ ds) f ≡ read cs (read ds f)
+read-append [] ds f = refl
+read-append (c ∷ cs) ds f = ap (plant c) (read-append cs ds f)

@@ -2,6 +2,7 @@
 pub mod Tokens
 pub mod Cells
 pub mod Forest
+pub mod Leaves
 pub mod Decoding
 pub mod Frames
 pub mod Sound

@@ -2,7 +2,8 @@
 
 #![tactic(auto, using(crate::proofs::Pushes::pushes))]
 
-ghost use Rattle.std.specs.Prelude.{◌≡◌, ◌-◌, ◌∷◌, [], IfOk, MatchOption, vec_len};
+ghost use Rattle.std.specs.Prelude.{◌≡◌, ◌-◌, ◌<◌, ◌∷◌, [], IfOk, MatchOption};
+ghost use Rattle.std.specs.Prelude.{take, vec_len};
 ghost use Rattle.content_tree.specs.Values.Text.{static_name};
 ghost use Rattle.content_tree.specs.Values.Tree.{Tree};
 ghost use Rattle.content_tree.specs.Values.Value.{tree_of, tree_data_of, trees_view, pairs_view};
@@ -13,13 +14,15 @@ ghost use Rattle.content_build.specs.Inner.Cells.{cell, flat, names_of};
 ghost use Rattle.content_build.specs.Inner.Frames.{cells_of, frame_view, sort_view};
 ghost use Rattle.content_build.specs.Inner.Forest as forest;
 ghost use Rattle.content_build.specs.Inner.Forest.{data_near, fields_near, no_key, pairs_near};
-ghost use Rattle.content_build.specs.Inner.Forest.{past};
+ghost use Rattle.content_build.specs.Inner.Forest.{past, read};
 ghost use Rattle.content_build.specs.Inner.Forest.{past_data, past_fields, plant, plant_key};
 ghost use Rattle.content_build.specs.Inner.Forest.{trees_near};
 ghost use Rattle.content_build.specs.Inner.Values.{grown_trees};
 
+use crate::flat::flat_node;
 use crate::frame::{Frame, Label, Sort, leaf_value};
 use crate::parts::with_head;
+use crate::room::push_one;
 use content_ser::Head;
 use content_tree::{CowStr, NamedData, NamedValue};
 use std::alloc::{AllocError, Global};
@@ -61,7 +64,7 @@ fn take_items<'v, 'n>(
             None => return Ok(items),
             Some(Grown { value, size, .. }) => {
                 left = left.saturating_sub(size);
-                items.push(value)?;
+                push_one(&mut items, value)?;
             }
         }
     }
@@ -85,7 +88,7 @@ fn take_fields<'v, 'n>(
             None => return Ok(fields),
             Some(Grown { value, key, size }) => {
                 left = left.saturating_sub(size).saturating_sub(1);
-                fields.push((CowStr::Borrowed(key), value))?;
+                push_one(&mut fields, (CowStr::Borrowed(key), value))?;
             }
         }
     }
@@ -122,7 +125,7 @@ fn take_pairs<'v, 'n>(
                     None => return Ok(pairs),
                     Some(Grown { value, size, .. }) => {
                         left = left.saturating_sub(size);
-                        pairs.push((key, value))?;
+                        push_one(&mut pairs, (key, value))?;
                     }
                 }
             }
@@ -133,7 +136,7 @@ fn take_pairs<'v, 'n>(
 
 /// One value more, with no key.
 #[inline(always)]
-fn add<'v, 'n>(
+pub(crate) fn add<'v, 'n>(
     grown: &mut Vec<Grown<'v, 'n>>,
     value: NamedValue<'v, 'n>,
     size: usize,
@@ -141,11 +144,12 @@ fn add<'v, 'n>(
     ensures { IfOk result (λ _. grown_trees grown.new.items
         ≡ forest.grown no_key (tree_of value.entry) size ∷ grown_trees grown.old.items) }
 {
-    grown.push(Grown {
+    let one = Grown {
         value,
         key: "",
         size,
-    })?;
+    };
+    push_one(grown, one)?;
     Ok(())
 }
 
@@ -305,29 +309,24 @@ fn grow_one<'v, 'n>(
     }
 }
 
-/// The same frames, without the room of those that are gone. It is seldom done, and so isn't
-/// inlined.
+/// Gives back the room of the frames that are gone. It is seldom done, and so isn't inlined.
 #[cold]
 #[inline(never)]
-fn shrunk(frames: Vec<Frame>) -> Vec<Frame>
-    ensures items { result.items ≡ frames.items }
-    ensures len { vec_len result ≡ vec_len frames }
+fn shrink(frames: &mut Vec<Frame>)
+    ensures items { frames.new.items ≡ frames.old.items }
+    ensures len { vec_len frames.new ≡ vec_len frames.old }
 {
-    let mut frames = frames;
     frames.shrink_to_fit();
-    frames
 }
 
-/// The same frames, without the room of those that are gone once these are the half.
+/// Gives back the room of the frames that are gone once these are the half.
 #[inline(always)]
-fn trimmed(frames: Vec<Frame>) -> Vec<Frame>
-    ensures items { result.items ≡ frames.items }
-    ensures len { vec_len result ≡ vec_len frames }
+fn trim(frames: &mut Vec<Frame>)
+    ensures items { frames.new.items ≡ frames.old.items }
+    ensures len { vec_len frames.new ≡ vec_len frames.old }
 {
     if frames.len() < frames.capacity() / 2 {
-        shrunk(frames)
-    } else {
-        frames
+        shrink(frames);
     }
 }
 
@@ -347,6 +346,64 @@ fn count_at_first(frames: &Vec<Frame>) -> usize {
     count
 }
 
+/// The place of the last node that isn't a leaf, or of the first.
+fn last_node(frames: &Vec<Frame>) -> usize
+    requires { 0 < vec_len frames.now }
+    ensures { result < vec_len frames.now }
+{
+    let mut at = frames.len();
+    while at > 0 {
+        at -= 1;
+        if frames[at].size != 1 {
+            return at;
+        }
+    }
+    0
+}
+
+/// Makes the values of the frames from this place on, one by one.
+fn grow_each<'v, 'n>(
+    alloc: Global,
+    frames: &mut Vec<Frame>,
+    grown: &mut Vec<Grown<'v, 'n>>,
+    to: usize,
+) -> Result<(), AllocError>
+    ensures { IfOk result (λ _. (frames.new.items ≡ take to frames.old.items)
+        × (read (cells_of frames.new.items) (grown_trees grown.new.items)
+        ≡ read (cells_of frames.old.items) (grown_trees grown.old.items))) }
+{
+    while frames.len() > to {
+        match frames.pop() {
+            None => return Ok(()),
+            Some(next) => grow_one(alloc, grown, next)?,
+        }
+    }
+    Ok(())
+}
+
+/// Makes the values of the frames from this node on. A node that holds leaves alone is made at once.
+#[inline(always)]
+fn grow_node<'v, 'n>(
+    alloc: Global,
+    frames: &mut Vec<Frame>,
+    grown: &mut Vec<Grown<'v, 'n>>,
+    at: usize,
+) -> Result<(), AllocError>
+    requires { at < vec_len frames.old }
+    ensures { IfOk result (λ _. (frames.new.items ≡ take at frames.old.items)
+        × (read (cells_of frames.new.items) (grown_trees grown.new.items)
+        ≡ read (cells_of frames.old.items) (grown_trees grown.old.items))) }
+{
+    let end = at.saturating_add(frames[at].size.max(1));
+    if end < frames.len() {
+        grow_each(alloc, frames, grown, end)?;
+    }
+    if flat_node(alloc, frames, grown, at)? {
+        return Ok(());
+    }
+    grow_each(alloc, frames, grown, at)
+}
+
 /// The value of a whole tape.
 pub(crate) fn grow<'v, 'n>(
     alloc: Global,
@@ -357,9 +414,10 @@ pub(crate) fn grow<'v, 'n>(
 {
     let mut frames = frames;
     let mut grown = Vec::with_capacity(alloc, count_at_first(&frames))?;
-    while let Some(next) = frames.pop() {
-        frames = trimmed(frames);
-        grow_one(alloc, &mut grown, next)?;
+    while frames.len() > 0 {
+        let at = last_node(&frames);
+        grow_node(alloc, &mut frames, &mut grown, at)?;
+        trim(&mut frames);
     }
     match grown.pop() {
         None => Ok(None),

@@ -27,9 +27,11 @@
 mod builder;
 mod calls;
 mod calls_error;
+mod flat;
 mod frame;
 mod grow;
 pub mod laws;
+mod leaves;
 mod limit;
 mod parts;
 mod prefix;

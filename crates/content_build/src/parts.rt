@@ -24,6 +24,7 @@ pub(crate) enum Series {
 }
 
 /// The struct or the variant of this head that holds this.
+#[inline(always)]
 pub(crate) fn with_head<'v, 'n>(
     alloc: Global,
     head: Head,

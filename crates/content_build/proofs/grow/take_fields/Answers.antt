@@ -26,8 +26,8 @@ loop-left-preserved c =
     let s = c.saturating_sub-left.ensures ∙ ap (λ m. m - 1) c.saturating_sub.ensures in
     let f = grown_trees c.pop.new.self.items in
     let ts = fields_view c.loop-left.fields.items in (
-      ap (λ m. append_fields (fields_view c.push.new.self.items) (fields_near m f)) s
-          ∙ (fields-step c.loop-left.fields.items c.push.new.self.items c.loop-left.left g _ f (omega arith) refl c.in_ok-push-in-Some.ensures.items
+      ap (λ m. append_fields (fields_view c.push_one.new.items.items) (fields_near m f)) s
+          ∙ (fields-step c.loop-left.fields.items c.push_one.new.items.items c.loop-left.left g _ f (omega arith) refl c.in_ok-push_one-in-Some.ensures
           ∙ (ap (λ x. append_fields ts (fields_near c.loop-left.left x)) (sym e) ∙ c.loop-left.invariant.0)),
       ap (λ m. past_fields m f) s ∙ (sym (past_fields-step c.loop-left.left (static_name g.key.now) (tree_of g.value) g.size f (omega arith)) ∙ (ap (past_fields c.loop-left.left) (sym e) ∙ c.loop-left.invariant.1)),
     )

@@ -25,8 +25,8 @@ loop-left-preserved c =
     let s = c.saturating_sub-left.ensures in
     let f = grown_trees c.pop.new.self.items in
     let ts = trees_view c.loop-left.items.items in (
-      ap (λ m. append_trees (trees_view c.push.new.self.items) (trees_near m f)) s
-          ∙ (items-step c.loop-left.items.items c.push.new.self.items c.loop-left.left g f (omega arith) c.in_ok-push-in-Some.ensures.items
+      ap (λ m. append_trees (trees_view c.push_one.new.items.items) (trees_near m f)) s
+          ∙ (items-step c.loop-left.items.items c.push_one.new.items.items c.loop-left.left g f (omega arith) c.in_ok-push_one-in-Some.ensures
           ∙ (ap (λ x. append_trees ts (trees_near c.loop-left.left x)) (sym e) ∙ c.loop-left.invariant.0)),
       ap (λ m. past m f) s ∙ (sym (past-step c.loop-left.left (static_name g.key.now) (tree_of g.value) g.size f (omega arith)) ∙ (ap (past c.loop-left.left) (sym e) ∙ c.loop-left.invariant.1)),
     )

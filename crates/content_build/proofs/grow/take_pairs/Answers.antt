@@ -54,8 +54,8 @@ loop-left-preserved c =
     let s = c.saturating_sub-left-in-Some-pop.ensures ∙ ap (λ m. m - h.size) s1 in
     let some_left : 0 < c.loop-left.left - g.size = omega arith in
     let ts = pairs_view c.loop-left.pairs.items in (
-      ap (λ m. append_pairs (pairs_view c.push.new.self.items) (pairs_near m f)) s
-          ∙ (pairs-step c.loop-left.pairs.items c.push.new.self.items c.loop-left.left g h f (omega arith) some_left c.in_ok-push-in-Some-pop.ensures.items
+      ap (λ m. append_pairs (pairs_view c.push_one.new.items.items) (pairs_near m f)) s
+          ∙ (pairs-step c.loop-left.pairs.items c.push_one.new.items.items c.loop-left.left g h f (omega arith) some_left c.in_ok-push_one-in-Some-pop.ensures
           ∙ (ap (λ x. append_pairs ts (pairs_near c.loop-left.left x)) (sym e) ∙ c.loop-left.invariant.0)),
       ap (λ m. past m f) s
           ∙ (sym (past-step c.loop-left.left (static_name g.key.now) (tree_of g.value) g.size (grown_view h ∷ f) (omega arith) ∙ past-step (c.loop-left.left - g.size) (static_name h.key.now) (tree_of h.value) h.size f some_left)

@@ -1,0 +1,24 @@
+use Rattle.std.proofs.Common.{◌≡◌, ◌≤◌, ◌+◌, ◌-◌, [], drop, take, vec_len, vec_capacity}
+use Rattle.content_tree.specs.Values.Value.{fields_view}
+use Rattle.content_build.specs.Inner.Decoding.{all_fields}
+use Rattle.content_build.specs.Inner.Forest.{read}
+use Rattle.content_build.specs.Inner.Frames.{cells_of}
+use Rattle.content_build.specs.Inner.Leaves.{AreFields}
+use Rattle.content_build.proofs.Forward.{append_fields}
+use Rattle.content_build.proofs.leaves.leaf_fields.Given as goal
+
+abbrev pub invariant-loop-at : goal.invariant-loop-at
+invariant-loop-at l = record {
+  len : vec_len l.frames ≡ vec_len l.fn.frames;
+  low : l.from ≤ l.at;
+  high : l.at ≤ vec_len l.frames;
+  filled : (vec_len l.fields + vec_len l.fields) + l.from ≡ l.at;
+  room : vec_len l.fn.frames ≤ ((vec_capacity l.fields + vec_capacity l.fields) + l.from) + 1;
+  kept : take l.from l.frames.items ≡ take l.from l.fn.frames.items;
+  rest : drop l.at l.frames.items ≡ drop l.at l.fn.frames.items;
+  leaves : AreFields (drop l.at (cells_of l.fn.frames.items));
+  done : append_fields (fields_view l.fields.items) (all_fields (read (drop l.at (cells_of l.fn.frames.items)) [])) ≡ all_fields (read (drop l.from (cells_of l.fn.frames.items)) []);
+}
+
+abbrev pub decreases-loop-at : goal.decreases-loop-at
+decreases-loop-at l = vec_len l.frames - l.at
