@@ -3,6 +3,7 @@
 //! All else is rows, which `check_rows` runs.
 
 mod cbor;
+mod collections;
 mod derived;
 mod fields_by_name;
 mod for_people;

@@ -4,6 +4,10 @@ pub mod Leaves
 pub mod Holders
 pub mod Series
 pub mod Maps
+pub mod Made
+pub mod Sets
+pub mod HashMaps
+pub mod Texts
 pub mod Records
 pub mod ByName
 pub mod Variants

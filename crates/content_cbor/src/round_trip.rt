@@ -14,8 +14,10 @@ use content_tree::Result;
 use serde_content::RoundTrip;
 use std::alloc::Global;
 
+mod holders;
 mod map;
 mod samples;
+mod sets;
 mod standard;
 mod tuple;
 
@@ -23,7 +25,7 @@ mod tuple;
 /// [`read_back`] reads an equal one.
 ///
 /// It holds of booleans, `String`, whole numbers of each kind, and where it does of what they hold,
-/// of `Box`, `Vec`, `BTreeMap`, tuples, and an `Option` of what is [`NotNull`]. [`from_bytes`] says
+/// of `Box`, `Vec`, sets, maps, tuples, and an `Option` of what is [`NotNull`]. [`from_bytes`] says
 /// of what it doesn't.
 pub trait CborRoundTrip<'de>: RoundTrip<'de> {
     /// The calls of a value that exists spell a tree. What CBOR keeps of that, where it fits, isn't

@@ -11,3 +11,4 @@ pub mod Named
 pub mod KeyTrees
 pub mod LeftOver
 pub mod Ascending
+pub mod PutIn

@@ -4,6 +4,9 @@ pub mod Access
 pub mod Standard
 pub mod Tuples
 pub mod Maps
+pub mod Pairs
+pub mod Sets
+pub mod Hashed
 pub mod Names
 pub mod Own
 pub mod ByName

@@ -1,8 +1,17 @@
 //! What the standard library's types send.
 
+mod arc;
+mod borrowed;
+mod boxed_str;
+mod deque;
+mod hash_map;
+mod hash_set;
 mod holders;
 mod map;
 mod numbers;
+mod path;
+mod rc;
+mod set;
 mod text;
 mod tuple;
 mod vec;

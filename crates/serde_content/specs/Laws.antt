@@ -3,6 +3,10 @@ pub mod Leaves
 pub mod Holders
 pub mod Series
 pub mod Maps
+pub mod Made
+pub mod Sets
+pub mod Hashed
+pub mod Texts
 pub mod Records
 pub mod Variants
 pub mod ByName

@@ -2,7 +2,6 @@
 use Rattle.std.specs.Prelude.{ℕ, zero, suc, Bool, true, false, List, [], ◌∷◌}
 use Rattle.content_ser.specs.Scripts.Script.{Script, stop_with}
 use Rattle.content_ser.specs.Scripts.Own.{field_first}
-use Rattle.content_de.specs.Accesses.ByName.{FieldsLeft}
 
 -- there are no items
 abbrev pub has_none : {A : Type 0} → List A → Bool
@@ -20,9 +19,9 @@ abbrev pub field_unless : Bool → List ℕ → (Bool → Script) → (Bool → 
 field_unless true name item rest = rest
 field_unless false name item rest = field_first name item rest
 
--- such a value for a field that isn't read, and then the others
-abbrev pub UnreadThen : {A : Type 0} → (A → Type 0) → A → (FieldsLeft → Type 0) → FieldsLeft → Type 0
-UnreadThen missing a others f = missing a × others f
+-- such a value for what isn't read, and then the others
+abbrev pub UnreadThen : {A S : Type 0} → (A → Type 0) → A → (S → Type 0) → S → Type 0
+UnreadThen missing a others s = missing a × others s
 
 -- what isn't sent: a stop
 abbrev pub unsent_script : List ℕ → Bool → Script

@@ -1,9 +1,12 @@
 //! What is read where a field is missing.
 
-ghost use Rattle.std.specs.Prelude.{◌≡◌, [], None, false, pos, string_bytes};
+ghost use Rattle.std.specs.Path.{path_buf_bytes};
+ghost use Rattle.std.specs.Prelude.{◌≡◌, [], None, false, pos, string_bytes, ⊤};
 
 use std::alloc::Global;
-use std::collections::BTreeMap;
+use std::collections::{BTreeMap, BTreeSet, HashMap, HashSet, VecDeque};
+use std::hash::Hash;
+use std::path::PathBuf;
 
 /// A type with a value that is read where a field is missing: the one that its `Default` has.
 pub trait Absent: Sized {
@@ -52,6 +55,46 @@ impl<K: Ord, V> Absent for BTreeMap<K, V> {
 
     fn absent(alloc: Global) -> BTreeMap<K, V> {
         BTreeMap::new(alloc)
+    }
+}
+
+impl<T: Ord> Absent for BTreeSet<T> {
+    ghost is_absent = { λ x. x.keys ≡ [] };
+
+    fn absent(alloc: Global) -> BTreeSet<T> {
+        BTreeSet::new(alloc)
+    }
+}
+
+impl<K: Eq + Hash, V> Absent for HashMap<K, V> {
+    ghost is_absent = { λ x. x.entries ≡ [] };
+
+    fn absent(alloc: Global) -> HashMap<K, V> {
+        HashMap::new(alloc)
+    }
+}
+
+impl<T: Eq + Hash> Absent for HashSet<T> {
+    ghost is_absent = { λ x. x.keys ≡ [] };
+
+    fn absent(alloc: Global) -> HashSet<T> {
+        HashSet::new(alloc)
+    }
+}
+
+impl<T> Absent for VecDeque<T> {
+    ghost is_absent = { λ x. x.items ≡ [] };
+
+    fn absent(alloc: Global) -> VecDeque<T> {
+        VecDeque::new(alloc)
+    }
+}
+
+impl Absent for PathBuf {
+    ghost is_absent = { λ x. path_buf_bytes x ≡ [] };
+
+    fn absent(alloc: Global) -> PathBuf {
+        PathBuf::new(alloc)
     }
 }
 
@@ -148,5 +191,56 @@ impl Absent for isize {
 
     fn absent(_alloc: Global) -> isize {
         0
+    }
+}
+
+impl Absent for char {
+    ghost is_absent = { λ x. x ≡ 0 };
+
+    fn absent(_alloc: Global) -> char {
+        '\0'
+    }
+}
+
+impl Absent for () {
+    ghost is_absent = { λ x. ⊤ };
+
+    fn absent(_alloc: Global) {}
+}
+
+impl<A: Absent> Absent for (A,) {
+    ghost is_absent = { λ x. A.is_absent x.0 };
+
+    fn absent(alloc: Global) -> (A,) {
+        (A::absent(alloc),)
+    }
+}
+
+impl<A: Absent, B: Absent> Absent for (A, B) {
+    ghost is_absent = { λ x. A.is_absent x.0 × B.is_absent x.1 };
+
+    fn absent(alloc: Global) -> (A, B) {
+        (A::absent(alloc), B::absent(alloc))
+    }
+}
+
+impl<A: Absent, B: Absent, C: Absent> Absent for (A, B, C) {
+    ghost is_absent = { λ x. A.is_absent x.0 × B.is_absent x.1 × C.is_absent x.2 };
+
+    fn absent(alloc: Global) -> (A, B, C) {
+        (A::absent(alloc), B::absent(alloc), C::absent(alloc))
+    }
+}
+
+impl<A: Absent, B: Absent, C: Absent, D: Absent> Absent for (A, B, C, D) {
+    ghost is_absent = { λ x. A.is_absent x.0 × B.is_absent x.1 × C.is_absent x.2 × D.is_absent x.3 };
+
+    fn absent(alloc: Global) -> (A, B, C, D) {
+        (
+            A::absent(alloc),
+            B::absent(alloc),
+            C::absent(alloc),
+            D::absent(alloc),
+        )
     }
 }

@@ -7,15 +7,15 @@ pub use crate::fields_read::{
     ReadParts, ReadStruct, read_flattened, read_struct,
 };
 pub use crate::fields_sent::{
-    SendElement, SendEnd, SendEntry, SendField, SendFieldUnless, SendOpen, SendPart, SendRow,
-    SendTag, send_row,
+    SendElement, SendEnd, SendEntry, SendField, SendFieldUnless, SendInside, SendOpen, SendPart,
+    SendRow, SendTag, refuse_unsent, send_row,
 };
 pub use crate::name_lists::{Names, no_such_variant, variant_index};
 pub use crate::one_of::{
     OneOfFour, OneOfThree, OneOfTwo, first_of_four, first_of_three, first_of_two,
 };
 pub use crate::own_functions::{
-    DefaultOf, ReadAbsent, ReadFieldElse, ReadMade, SendFieldIf, SkipIf, count_if, default_text,
+    DefaultOf, ReadFieldElse, SendFieldIf, SkipIf, count_if, default_text,
 };
 pub use crate::skips::{Skip, count_unless};
 pub use crate::tags::{Aliases, OtherAt, OwnNames, Tags, read_enum_by};

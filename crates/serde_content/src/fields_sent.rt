@@ -12,7 +12,7 @@ ghost use Rattle.content_ser.specs.Scripts.Own.{end_script, field_first, tuple_f
 ghost use Rattle.content_ser.specs.Scripts.Standard.{call_first, element_first, only};
 ghost use Rattle.content_ser.specs.Sending.Aside.{answer_of};
 ghost use Rattle.content_ser.specs.Serializers.Step.{Takes};
-ghost use Rattle.serde_content.specs.Skips.{field_unless};
+ghost use Rattle.serde_content.specs.Skips.{field_unless, unsent_script};
 ghost use Rattle.serde_content.specs.Laws.Flattened.{flattened_first};
 
 use crate::name_lists::{Names, name_at};
@@ -140,6 +140,23 @@ impl<K: Names, V: Names, R: SendRow> SendRow for SendTag<K, V, R> {
     }
 }
 
+/// A field whose name has this index among the names `K` and whose value is a row, and those after
+/// it.
+#[derive(Drop)]
+pub struct SendInside<K, C, R>(pub K, pub usize, pub C, pub R);
+
+impl<K: Names, C: SendRow, R: SendRow> SendRow for SendInside<K, C, R> {
+    ghost script = { λ row. field_first (slice_index_or K.names row.1 []) (C.script row.2)
+        (R.script row.3) };
+
+    #[inline(always)]
+    fn send<S: Serializer>(&self, alloc: Global, serializer: &mut S, error: &mut Error) -> Sent {
+        announce_field::<K, S>(self.1, serializer, error)?;
+        self.2.send(alloc, serializer, error)?;
+        self.3.send(alloc, serializer, error)
+    }
+}
+
 /// An entry of a map whose key is a text, as a flattened field is sent, and those after it.
 #[derive(Drop)]
 pub struct SendEntry<'a, K, T, R>(pub K, pub usize, pub &'a T, pub R);
@@ -231,4 +248,13 @@ pub fn send_row<S: Serializer, R: SendRow>(alloc: Global, serializer: &mut S, ro
     let mut error = Error::from(ErrorKind::OutOfMemory);
     let sent = row.send(alloc, serializer, &mut error);
     answer(sent, error)
+}
+
+/// Refuses a variant that isn't sent: the error has this text, or is out of memory. It makes no call.
+pub fn refuse_unsent<S: Serializer>(alloc: Global, serializer: &mut S, text: &str) -> Result<()>
+    ensures { Sends S.step S.refuses (S.seen serializer.old) (unsent_script text.now) result
+        (S.seen serializer.new) }
+{
+    let _serializer = serializer;
+    Err(Error::custom(alloc, text))
 }

@@ -8,9 +8,8 @@ ghost use Rattle.content_de.specs.Accesses.ByName.{field_named, fields_left, wit
 ghost use Rattle.content_de.specs.Reads.Read.{Reads};
 ghost use Rattle.content_de.specs.Reads.ByName.{found_refusal, FoundGives};
 ghost use Rattle.serde_content.specs.Literals.{row_or_then, RowOrThen};
-ghost use Rattle.serde_content.specs.Skips.{fields_less, field_unless, UnreadThen};
+ghost use Rattle.serde_content.specs.Skips.{fields_less, field_unless};
 
-use crate::absent::Absent;
 use crate::fields_read::ReadFields;
 use crate::fields_sent::{SendRow, send_field};
 use crate::name_lists::{Names, name_at};
@@ -82,38 +81,6 @@ impl<
     fn read<'n: 'de>(alloc: Global, mut fields: FieldsByName<'de, 'n>) -> Result<Self> {
         let value = field_at_else::<K, T, D>(alloc, &mut fields, I)?;
         Ok(ReadFieldElse(value, R::read(alloc, fields)?, PhantomData))
-    }
-}
-
-/// A field that isn't read, which has the value that is [`Absent`], and those after it.
-#[derive(Drop)]
-pub struct ReadAbsent<T, R>(pub T, pub R);
-
-impl<'de, T: Absent, R: ReadFields<'de>> ReadFields<'de> for ReadAbsent<T, R> {
-    ghost refusal = { R.refusal };
-
-    ghost gives = { λ row. UnreadThen T.is_absent row.0 (R.gives row.1) };
-
-    #[inline(always)]
-    fn read<'n: 'de>(alloc: Global, fields: FieldsByName<'de, 'n>) -> Result<Self> {
-        let rest = R::read(alloc, fields)?;
-        Ok(ReadAbsent(T::absent(alloc), rest))
-    }
-}
-
-/// A field that isn't read, of which `D` makes the value, and those after it.
-#[derive(Drop)]
-pub struct ReadMade<D, T, R>(pub T, pub R, pub PhantomData<D>);
-
-impl<'de, D: DefaultOf<T>, T: Drop, R: ReadFields<'de>> ReadFields<'de> for ReadMade<D, T, R> {
-    ghost refusal = { R.refusal };
-
-    ghost gives = { λ row. UnreadThen D.is_default row.0 (R.gives row.1) };
-
-    #[inline(always)]
-    fn read<'n: 'de>(alloc: Global, fields: FieldsByName<'de, 'n>) -> Result<Self> {
-        let value = D::make(alloc)?;
-        Ok(ReadMade(value, R::read(alloc, fields)?, PhantomData))
     }
 }
 

@@ -16,7 +16,15 @@ use content_ser::Serialize;
 use content_tree::{NamedValue, Result, Value};
 use std::alloc::Global;
 
+mod arc;
+mod boxed_str;
+mod deque;
+mod hash_map;
+mod hash_set;
 mod map;
+mod path;
+mod rc;
+mod set;
 mod standard;
 mod tuple;
 

@@ -4,7 +4,8 @@ ghost use Rattle.std.specs.Prelude.{◌≡◌, ℕ, Bool, string_bytes};
 ghost use Rattle.std.specs.Option.{is_none};
 ghost use Rattle.serde_content.specs.Skips.{fields_less, has_none};
 
-use std::collections::BTreeMap;
+use std::collections::{BTreeMap, BTreeSet, HashMap, HashSet, VecDeque};
+use std::hash::Hash;
 
 /// A type with an empty value, such as `None`: a field may be left out where it has that.
 pub trait Skip {
@@ -45,6 +46,38 @@ impl<K: Ord, V> Skip for BTreeMap<K, V> {
 
     fn is_skipped(&self) -> bool {
         self.is_empty()
+    }
+}
+
+impl<T: Ord> Skip for BTreeSet<T> {
+    ghost is_empty = { λ x. has_none x.keys };
+
+    fn is_skipped(&self) -> bool {
+        BTreeSet::is_empty(self)
+    }
+}
+
+impl<K: Eq + Hash, V> Skip for HashMap<K, V> {
+    ghost is_empty = { λ x. has_none x.entries };
+
+    fn is_skipped(&self) -> bool {
+        HashMap::is_empty(self)
+    }
+}
+
+impl<T: Eq + Hash> Skip for HashSet<T> {
+    ghost is_empty = { λ x. has_none x.keys };
+
+    fn is_skipped(&self) -> bool {
+        HashSet::is_empty(self)
+    }
+}
+
+impl<T> Skip for VecDeque<T> {
+    ghost is_empty = { λ x. has_none x.items };
+
+    fn is_skipped(&self) -> bool {
+        VecDeque::is_empty(self)
     }
 }
 

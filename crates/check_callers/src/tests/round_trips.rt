@@ -6,7 +6,7 @@ use std::alloc::Global;
 use std::test::Fail;
 
 /// Whether a value comes back under each pair of flags.
-fn comes_back<'de, T: RoundTrip<'de>>(alloc: Global, value: &T) -> Answer<bool> {
+pub(super) fn comes_back<'de, T: RoundTrip<'de>>(alloc: Global, value: &T) -> Answer<bool> {
     for (readable, coerces) in [(false, false), (false, true), (true, false), (true, true)] {
         if round_trip(alloc, value, readable, coerces)? != *value {
             return Ok(false);

@@ -8,6 +8,7 @@ ghost use Rattle.content_de.specs.Outcomes.{refusal_then, IsTaken};
 ghost use Rattle.content_de.specs.Accesses.Map.{map_view, map_at};
 ghost use Rattle.content_de.specs.Reads.Read.{Reads};
 ghost use Rattle.content_de.specs.Reads.Maps.{map_refusal, MapGives, put_in};
+ghost use Rattle.content_de.specs.Reads.Pairs.{LeftGives};
 
 use crate::deserialize::Deserialize;
 use crate::deserializer::Deserializer;
@@ -33,13 +34,12 @@ impl<'de, K: Deserialize<'de> + Ord, V: Deserialize<'de>> Deserialize<'de> for B
 }
 
 /// The entries that are left, in order.
-fn read_entries<'de, 'n: 'de, K: Deserialize<'de> + Ord, V: Deserialize<'de>>(
+pub(super) fn read_entries<'de, 'n: 'de, K: Deserialize<'de>, V: Deserialize<'de>>(
     alloc: Global,
     mut from: Map<'de, 'n>,
 ) -> Result<Vec<(K, V)>>
     ensures { Reads (map_refusal K.refusal V.refusal (map_view from.entry))
-        (λ v. MapGives K.gives V.gives K.cmp (map_view from.entry) [] (put_in K.cmp [] v.items))
-        result }
+        (λ v. LeftGives K.gives V.gives (map_view from.entry) v.items) result }
 {
     let mut entries = Vec::with_capacity(alloc, from.size_hint().unwrap_or(0))?;
     while let Some(entry) = from.take_entry() {

@@ -3,6 +3,7 @@ use Rattle.std.specs.Prelude.{◌≡◌, ℕ, Bool, true, false, List, map, Opti
 use Rattle.std.specs.Prelude.{refl}
 use Rattle.std.specs.Map.{lookup, remove_entry}
 use Rattle.std.proofs.Common.{ap, subst, sym, ◌∙◌}
+use Rattle.std.proofs.lemmas.Slice.Eq.{bytes_eq-Decides}
 use Rattle.content_tree.specs.Values.Text.{Text, static_name, owned_text}
 use Rattle.content_tree.specs.Values.Tree as tree
 use Rattle.content_tree.specs.Values.Tree.{Tree, Fields}
@@ -18,12 +19,14 @@ use Rattle.content_de.specs.Outcomes.{Outcome, taken, refused, refusal_then, IsT
 use Rattle.content_de.specs.Requests.Compounds.{entries_of_fields}
 use Rattle.content_de.specs.Accesses.ByName.{FieldsLeft, key_tree}
 use Rattle.content_de.specs.Reads.Read.{Refusal, Gives}
+use Rattle.content_de.specs.Reads.ByName.{missing_field}
 use Rattle.content_de.specs.Reads.Tagged.{found_text, tag_at, tag_then, TagThen, tag_then_buffered, TagThenBuffered}
-use Rattle.serde_content.specs.RoundTrip.{SpellsSuch, GivesOnly, flags}
+use Rattle.serde_content.specs.Literals.{row_then, RowThen}
+use Rattle.serde_content.specs.RoundTrip.{SpellsSuch, GivesOnly, CoercionKeeps, flags}
 use Rattle.serde_content.specs.Laws.Spelled.{FieldsSuch, Spelled, spelled_call, such_spelled, leaf_such}
 use Rattle.serde_content.specs.Laws.Spelled.{fields_more_such}
 use Rattle.serde_content.specs.Laws.ByName.{NamedBack, NamedKeep, named_entries, named_under}
-use Rattle.serde_content.specs.Laws.ByName.{entries_by_name}
+use Rattle.serde_content.specs.Laws.ByName.{entries_by_name, entry_first, named_keeps}
 
 -- what is next to the tag
 abbrev pub beside_tag : Flags → Fields → FieldsLeft
@@ -109,3 +112,21 @@ tag_keeps_buffered tag variant variants given = record {
         given = subst (λ o. IsTaken o (λ t. t.content ≡ variant) × given z others) same p.given;
       };
 }
+
+-- the content of a variant, which is sent as a tree that gives only such values, and then the others
+pub content_back : {A : Type 0} {rest : Bool → Script} {passes such : A → Type 0} {others : FieldsLeft → Option Cause} {given : A → FieldsLeft → Type 0}
+    (name : List ℕ) (script : Bool → Script) (refusal : Refusal) (gives : Gives A)
+    → ((f : Flags) → SpellsSuch (λ t. GivesOnly (refusal (tree_under f t)) (gives (tree_under f t)) passes) (script f.human_readable))
+    → NamedBack rest others given such
+    → NamedBack (field_first name script rest) (row_then name refusal others) (λ y. RowThen name gives y (given y)) (λ y. passes y × such y)
+content_back {others} {given} name script refusal gives one more = unfold row_then RowThen in record {
+  of_flags = λ f.
+      fields_more_such
+      (λ t fs content last. entry_first refusal gives others given name (Some (missing_field name)) (λ b. ⊥) (λ y. y) f (tree.text (static_name name)) t (named_entries fs) ((bytes_eq-Decides name name).1 refl) content last)
+      (one f) (more.of_flags f);
+}
+
+-- what the content of a variant may give without coercion it may give with it, and then the others
+pub content_keeps : {A : Type 0} {others : FieldsLeft → Option Cause} {given : A → FieldsLeft → Type 0} (name : List ℕ) (refusal : Refusal) (gives : Gives A)
+    → CoercionKeeps refusal gives → NamedKeep others given → NamedKeep (row_then name refusal others) (λ y. RowThen name gives y (given y))
+content_keeps name refusal gives keeps more = named_keeps name (λ y. y) keeps more

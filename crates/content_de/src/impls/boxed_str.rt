@@ -1,0 +1,26 @@
+//! Boxed texts.
+
+ghost use Rattle.std.specs.Prelude.{◌≡◌, false};
+ghost use Rattle.std.specs.Box.{boxed_str_bytes};
+ghost use Rattle.content_de.specs.Outcomes.{refusal_of, IsTaken};
+ghost use Rattle.content_de.specs.Requests.Leaves.{text_from};
+ghost use Rattle.content_de.specs.Reads.Standard.{HasContent};
+
+use crate::deserialize::Deserialize;
+use crate::deserializer::Deserializer;
+use content_tree::Result;
+use std::alloc::Global;
+use std::boxed::BoxedStr;
+
+/// A text, as a `String` reads it.
+impl<'de> Deserialize<'de> for BoxedStr {
+    ghost refusal = { λ s. refusal_of (text_from s.origin) };
+
+    ghost gives = { λ s v. IsTaken (text_from s.origin) (HasContent (boxed_str_bytes v)) };
+
+    ghost memoryless = { λ s. IsTaken (text_from s.origin) (λ t. t.borrowed ≡ false) };
+
+    fn deserialize<'n: 'de>(alloc: Global, from: Deserializer<'de, 'n>) -> Result<BoxedStr> {
+        Ok(String::deserialize(alloc, from)?.into_boxed_str())
+    }
+}

@@ -1,0 +1,37 @@
+use Rattle.std.proofs.Common.{◌≡◌, [], length, Some, rules}
+use Rattle.std.proofs.lemmas.List.{nil_from_length}
+use Rattle.std.specs.VecDeque.Iter.{deque_iter_rest}
+use Rattle.content_ser.specs.Calls.Event as event
+use Rattle.content_ser.proofs.Sending.{takes_only, takes_then, takes_err, sends_then, sends_err}
+use Rattle.content_ser.proofs.Sending.{at_exit_aside, told_then, told_err}
+use Rattle.content_ser.proofs.impls.deque.VecDequeSerialize.serialize_aside.Goals as goal
+
+pub returns-in_err-serialize_seq : goal.returns-in_err-serialize_seq
+returns-in_err-serialize_seq g c =
+    let n : c.len.result ≡ length c.args.self.now.items = search rules in
+    at_exit_aside _ _ c.from_residual.ensures.1 (told_err (λ n. event.seq (Some n)) n c.in_err-serialize_seq.ensures)
+
+pub loop-item-init : goal.loop-item-init
+loop-item-init g c = λ r new rest. rw (← c.into_iter-item-iterator.ensures.into_iter_gives.0) rest
+
+pub returns-in_err-serialize_element : goal.returns-in_err-serialize_element
+returns-in_err-serialize_element g c =
+    let n : c.len.result ≡ length c.args.self.now.items = search rules in
+    at_exit_aside _ _ c.from_residual-in_err-serialize_element.ensures.1 (told_then (λ n. event.seq (Some n)) n c.in_ok-serialize_seq.ensures
+    (c.loop-item.invariant _ _ (rw c.in-Some.ensures.steps (takes_err c.in_err-serialize_element.ensures))))
+
+pub returns-in_err-serialize_aside : goal.returns-in_err-serialize_aside
+returns-in_err-serialize_aside g c =
+    let n : c.len.result ≡ length c.args.self.now.items = search rules in
+    at_exit_aside _ _ c.from_residual-in_err-serialize_aside.ensures.1 (told_then (λ n. event.seq (Some n)) n c.in_ok-serialize_seq.ensures
+    (c.loop-item.invariant _ _ (rw c.in-Some.ensures.steps (takes_then c.in_ok-serialize_element.ensures (sends_err _ c.in_err-serialize_aside.ensures)))))
+
+pub loop-item-preserved : goal.loop-item-preserved
+loop-item-preserved g c = λ r new rest.
+    c.loop-item.invariant r new (rw c.in-Some.ensures.steps (takes_then c.in_ok-serialize_element.ensures (sends_then c.in_ok-serialize_aside.ensures rest)))
+
+pub returns : goal.returns
+returns g c =
+    let n : c.len.result ≡ length c.args.self.now.items = search rules in
+    let none : deque_iter_rest c.loop-item.item-iterator ≡ [] = nil_from_length _ c.in-None.ensures.steps.0 in
+    told_then (λ n. event.seq (Some n)) n c.in_ok-serialize_seq.ensures (c.loop-item.invariant _ _ (rw none (takes_only c.end.ensures)))

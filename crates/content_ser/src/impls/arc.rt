@@ -1,0 +1,29 @@
+//! What several own in many threads, as the value itself.
+
+#![tactic(auto, using(crate::proofs::Sending::sending))]
+
+use crate::aside::Sent;
+use crate::serialize::Serialize;
+use crate::serializer::Serializer;
+use content_tree::{Error, Result};
+use std::alloc::Global;
+use std::sync::Arc;
+
+impl<T: Serialize> Serialize for Arc<T> {
+    ghost script = { λ b. T.script b.value };
+
+    ghost lawful = { λ b. T.lawful b.value };
+
+    fn serialize<S: Serializer>(&self, alloc: Global, serializer: &mut S) -> Result<()> {
+        Serialize::serialize(&**self, alloc, serializer)
+    }
+
+    fn serialize_aside<S: Serializer>(
+        &self,
+        alloc: Global,
+        serializer: &mut S,
+        error: &mut Error,
+    ) -> Sent {
+        Serialize::serialize_aside(&**self, alloc, serializer, error)
+    }
+}

@@ -1,0 +1,38 @@
+//! Double-ended queues, as sequences from the front.
+
+#![tactic(auto, using(crate::proofs::Sending::sending))]
+
+ghost use Rattle.content_ser.specs.Scripts.Standard.{seq_script};
+ghost use Rattle.content_ser.specs.Laws.StandardScripts.{seq_lawful};
+
+use crate::aside::{Sent, answered};
+use crate::send::calls::{end, serialize_element, serialize_seq};
+use crate::serialize::Serialize;
+use crate::serializer::Serializer;
+use content_tree::{Error, Result};
+use std::alloc::Global;
+use std::collections::VecDeque;
+
+impl<T: Serialize> Serialize for VecDeque<T> {
+    ghost script = { λ q. seq_script T.script q.items };
+
+    ghost lawful = { λ q. seq_lawful T.lawful q.items };
+
+    fn serialize<S: Serializer>(&self, alloc: Global, serializer: &mut S) -> Result<()> {
+        answered!(error => self.serialize_aside(alloc, serializer, &mut error))
+    }
+
+    fn serialize_aside<S: Serializer>(
+        &self,
+        alloc: Global,
+        serializer: &mut S,
+        error: &mut Error,
+    ) -> Sent {
+        serialize_seq(self.len(), serializer, error)?;
+        for item in self {
+            serialize_element(serializer, error)?;
+            item.serialize_aside(alloc, serializer, error)?;
+        }
+        end(serializer, error)
+    }
+}

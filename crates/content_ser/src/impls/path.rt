@@ -1,0 +1,37 @@
+//! Paths, as texts.
+
+#![tactic(auto, using(crate::proofs::Sending::sending))]
+
+ghost use Rattle.std.specs.Prelude.{refl};
+ghost use Rattle.std.specs.Path.{path_buf_bytes};
+ghost use Rattle.content_ser.specs.Calls.Event.{text};
+ghost use Rattle.content_ser.specs.Scripts.Standard.{only};
+ghost use Rattle.content_ser.specs.Laws.StandardScripts.{leaf_lawful};
+
+use crate::aside::Sent;
+use crate::call::Call;
+use crate::serialize::Serialize;
+use crate::serializer::Serializer;
+use content_tree::{CowStr, Error, Result};
+use std::alloc::Global;
+use std::path::PathBuf;
+
+impl Serialize for PathBuf {
+    ghost script = { λ p. only (text (path_buf_bytes p)) };
+
+    ghost lawful = { λ x readable. leaf_lawful refl };
+
+    fn serialize<S: Serializer>(&self, _alloc: Global, serializer: &mut S) -> Result<()> {
+        serializer.serialize_str(self.as_str())
+    }
+
+    #[inline(always)]
+    fn serialize_aside<S: Serializer>(
+        &self,
+        _alloc: Global,
+        serializer: &mut S,
+        error: &mut Error,
+    ) -> Sent {
+        serializer.call_aside(Call::Str(CowStr::Borrowed(self.as_str())), error)
+    }
+}

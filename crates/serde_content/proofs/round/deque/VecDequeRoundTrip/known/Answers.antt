@@ -1,0 +1,15 @@
+use Rattle.std.proofs.Common.{◌≡◌, []}
+use Rattle.std.proofs.lemmas.List.{nil_from_length}
+use Rattle.std.specs.VecDeque.Iter.{deque_iter_rest}
+use Rattle.serde_content.proofs.round.deque.VecDequeRoundTrip.known.Goals as goal
+
+pub loop-item-init : goal.loop-item-init
+loop-item-init g c = λ rest. rw (← c.into_iter-item-iterator.ensures.into_iter_gives.0) rest
+
+pub loop-item-preserved : goal.loop-item-preserved
+loop-item-preserved g c = λ rest. c.loop-item.invariant (rw c.in-Some.ensures.steps (c.known.ensures, rest))
+
+pub returns : goal.returns
+returns g c =
+    let none : deque_iter_rest c.loop-item.item-iterator ≡ [] = nil_from_length _ c.in-None.ensures.steps.0 in
+    c.loop-item.invariant (rw none tt)
