@@ -5,6 +5,7 @@ type, of which the last item is the one that is tried.
   python3 checks/derive/matrix.py NAME       prints the declarations of one
   python3 checks/derive/matrix.py --sample   prints crates/check_derive/sample.rs: one file of some
 """
+import re
 import sys
 from itertools import cycle, islice
 from typing import Dict, List
@@ -18,12 +19,16 @@ HELD = ["Option<u8>", "Option<String>", "Option<Vec<u8>>", "Vec<String>", "Vec<i
         "BTreeMap<char, u8>", "BTreeMap<String, Vec<u8>>", "(u8,)", "(u8, String)", "(u8, i32, bool)", "(u8, u8, u8, u8)",
         "Vec<(i32, i32)>", "BTreeMap<String, (u8, bool)>", "((u8, u8), (u8, String))", "Option<(u8, u8)>", "Box<(u8, u8)>",
         "Vec<Own>", "Option<Own>", "Box<Own>", "BTreeMap<String, Own>", "(Own, u8)", "Deep", "Vec<Deep>", "Option<Vec<Deeper>>"]
+KEY = f"{ALL.replace('derive(', 'derive(PartialOrd, Ord, Hash, ')}\npub enum Key {{ A, B(u8) }}\n\n"
 LENGTHS = [1, 9, 10, 20, 40]
 WORDS = ["name", "codes", "data", "record", "variants", "tree", "kind", "gives", "refusal", "result", "now", "entry", "open",
          "module", "elim", "tag", "fields", "alloc", "names", "refl", "script", "value", "parts", "serializer", "variant"]
+COLLECTED = ["BTreeSet<String>", "BTreeSet<u8>", "BTreeSet<Key>", "HashMap<String, u8>", "HashMap<Key, Vec<u8>>", "HashSet<i32>",
+             "HashSet<String>", "VecDeque<u8>", "PathBuf", "BTreeMap<PathBuf, u8>", "HashSet<PathBuf>", "Rc<String>", "Arc<Option<u8>>",
+             "Option<BTreeSet<char>>", "HashMap<u64, HashMap<char, (u8, i8)>>", "Vec<HashSet<Key>>", "Box<str>"]
 OWN = (f"{ALL}\npub struct Own {{ pub a: u8, pub b: String }}\n\n{ALL}\npub enum Deeper {{ A, B(Own) }}\n\n"
        f"{ALL}\npub struct Deep {{ pub own: Own, pub deeper: Vec<Deeper> }}\n\n")
-SAMPLE = """struct_mixed_12 struct_byte_9 skipped_closed_6 sent_20 read_12 place_mixed_9 external_mixed_4 internal_mixed_2
+SAMPLE = """struct_mixed_12 struct_byte_9 skipped_closed_6 sent_20 read_12 place_mixed_9 adjacent_mixed_4
 untagged_4 untagged_places skipped_in_variant_2 skipped_beside_tag_2 default_whole_4 transparent_3
 names_of_fields_20 names_of_variants_40 name_of_tag_20 word_data word_in_variant_record flat""".split()
 CASES = ["lowercase", "UPPERCASE", "PascalCase", "camelCase", "snake_case", "SCREAMING_SNAKE_CASE", "kebab-case",
@@ -74,8 +79,7 @@ def enums() -> Dict[str, str]:
     for count in (1, 2, 4, 8, 20):
         for tag, line in tags.items():
             for sort, kinds in holds.items():
-                kinds = [([], style) if (tag == "internal" and style == "place") or (tag == "adjacent" and len(types) > 1)
-                         else (types, style) for types, style in kinds]
+                kinds = [([], style) if tag == "internal" and style == "place" else (types, style) for types, style in kinds]
                 if not any(types for types, _ in kinds) and sort != "units":
                     continue
                 body = ", ".join(f"V{i}{held(*kinds[i % len(kinds)])}" for i in range(count))
@@ -83,6 +87,8 @@ def enums() -> Dict[str, str]:
     for count in (3, 6, 8, 9, 12, 20):
         types = list(islice(cycle(MIXED), count))
         made[f"external_big_{count}"] = f"{ALL}\npub enum Tried {{ A, B{held(types, 'named')}, C{held(types[:8], 'place')} }}"
+        made[f"adjacent_big_{count}"] = (f'{ALL}\n#[serde(tag = "kind", content = "of")]\npub enum Tried {{ A, B{held(types, "named")},'
+                                         f' C{held(types[:4], "place")} }}')
         made[f"internal_big_{count}"] = f'{ALL}\n#[serde(tag = "kind")]\npub enum Tried {{ A, B{held(types, "named")} }}'
     untagged = ["bool", "i64", "String", "Vec<u8>", "()", "BTreeMap<String, u8>"]
     for count in (1, 2, 4, 6):
@@ -143,11 +149,25 @@ def types() -> Dict[str, str]:
     return made
 
 
+def collections() -> Dict[str, str]:
+    """Fields of the other collections, of paths and of what several own, also left out, missing and among alternatives."""
+    made = {}
+    for place, one in enumerate(COLLECTED):
+        made[f"collected_{place}"] = f"{KEY * ('Key' in one)}{ALL}\npub struct Tried {{ pub only: {one}, pub y: u8 }}"
+        made[f"collected_in_variant_{place}"] = f"{KEY * ('Key' in one)}{ALL}\npub enum Tried {{ A({one}), B {{ x: {one}, y: u8 }} }}"
+    for place, (one, empty) in enumerate([("BTreeSet<String>", "BTreeSet"), ("HashMap<String, u8>", "HashMap"), ("HashSet<u8>", "HashSet"),
+                                          ("VecDeque<u8>", "VecDeque")]):
+        made[f"collected_skipped_{place}"] = (f'{ALL}\npub struct Tried {{ #[serde(default, skip_serializing_if = "{empty}::is_empty")]'
+                                              f" pub x: {one}, #[serde(default)] pub y: PathBuf }}")
+        made[f"collected_untagged_{place}"] = f"{ALL}\n#[serde(untagged)]\npub enum Tried {{ A({one}), B(PathBuf), C(u8) }}"
+    return made
+
+
 def attributes() -> Dict[str, str]:
     """Fields that are left out where they are empty, or are read as a default; structs that are sent as their one field."""
     made = {}
     empty = [(name, f'#[serde(default, skip_serializing_if = "{name.split("<")[0]}::is_empty")] ')
-             for name in ("Vec<u8>", "String", "BTreeMap<String, u8>")]
+             for name in ("Vec<u8>", "String", "BTreeSet<String>")]
     kinds = [("Option<String>", '#[serde(skip_serializing_if = "Option::is_none")] '), *empty, ("i32", ""), ("u8", "")]
     for count in (1, 2, 4, 6, 9, 12, 24):
         public, inner = (", ".join(f"{attribute}{visible}f{i}: {one}" for i, (one, attribute) in enumerate(islice(cycle(kinds), count)))
@@ -155,6 +175,8 @@ def attributes() -> Dict[str, str]:
         made[f"skipped_{count}"] = f"{ALL}\npub struct Tried {{ {public} }}"
         made[f"skipped_closed_{count}"] = f"{BOTH}\n#[serde(deny_unknown_fields)]\npub struct Tried {{ {public} }}"
         made[f"skipped_in_variant_{count}"] = f"{ALL}\npub enum Tried {{ A {{ {inner} }}, B(u8) }}"
+        made[f"skipped_in_content_{count}"] = (f'{ALL}\n#[serde(tag = "kind", content = "of", deny_unknown_fields)]\npub enum Tried'
+                                               f" {{ A {{ {inner} }}, B }}")
         made[f"skipped_beside_tag_{count}"] = f'{ALL}\n#[serde(tag = "kind")]\npub enum Tried {{ A {{ {inner} }}, B }}'
     made["skipped_lost"] = f'{ALL}\npub struct Tried {{ pub x: u8, #[serde(skip_serializing_if = "Vec::is_empty")] pub y: Vec<u8> }}'
     default = ALL.replace("derive(", "derive(Default, ")
@@ -164,6 +186,16 @@ def attributes() -> Dict[str, str]:
         made[f"default_whole_{count}"] = (f"{inside}{default}\n#[serde(default)]\npub struct Tried"
                                           f" {named(list(islice(cycle(kinds), count)))}")
     made["default_own"] = f"{inside}{ALL}\npub struct Tried {{ #[serde(default)] pub a: Inside, #[serde(default)] pub b: Level }}"
+    made["default_alone"] = (f"{inside}{default}\npub struct Tried {{ pub a: char, pub b: (u8, String), pub c: (), pub d: Inside,"
+                             " pub e: Option<Box<u8>>, pub f: (Level,) }")
+    made["default_left_out"] = f"{default}\npub struct Tried {{ pub a: String, pub b: Box<u8> }}"
+    made["default_of_one_value"] = (f"{ALL}\npub enum Listed {{ List(Vec<String>), Map(BTreeMap<String, u8>), Off }}\n\n"
+                                    "impl Default for Listed { fn default() -> Self { Self::List(Vec::new()) } }\n\n"
+                                    f"{ALL}\npub struct Kept {{ pub x: i32, pub y: Option<String> }}\n\n"
+                                    "impl Default for Kept { fn default() -> Self { Kept { x: -5, y: None } } }\n\n"
+                                    f"{default}\npub struct Tried {{ #[serde(default)] pub listed: Listed, pub kept: Kept }}")
+    made["default_of_kinds"] = (f"{ALL}\npub struct Tried {{ #[serde(default)] pub a: char, #[serde(default)] pub b: (u8, String),"
+                                " #[serde(default)] pub c: ((), Vec<u8>, i8) }")
     for place, one in enumerate(["u64", "String", "Option<i32>", "Vec<String>", "(u8, String)", "BTreeMap<String, u8>", "Own"]):
         made[f"transparent_{place}"] = f"{ALL}\n#[serde(transparent)]\npub struct Tried(pub {one});"
     made["transparent_named"] = f"{ALL}\n#[serde(transparent)]\npub struct Tried {{ pub only: Box<Own> }}"
@@ -195,7 +227,52 @@ def own_rules() -> Dict[str, str]:
                         ' u8, #[serde(rename(deserialize = "other"))] pub second_name: String }')
     made["two_ways_of_variants"] = (f'{ALL}\npub enum Tried {{ #[serde(rename(serialize = "a", deserialize = "b"))] A(u8),'
                                     ' #[serde(rename(serialize = "c"))] B { x: u8, y: i32 }, C }')
+    made["own_variants"] = (f'{ALL}\npub enum Level {{ Low, High }}\n\n{ALL}\npub struct Tried {{ #[serde(default = "Level::usual",'
+                            ' skip_serializing_if = "Level::is_usual")] pub level: Level, pub x: u8 }\n\nimpl Level { fn usual() -> Level {'
+                            " Self::High } fn is_usual(&self) -> bool { *self == Level::High } }")
+    made["called"] = (f'{ALL}\npub struct Tried {{ #[serde(default = "crate::rules::port", skip_serializing_if = "crate::rules::is_port")]'
+                      ' pub port: u16, #[serde(default = "crate::rules::name")] pub name: String, #[serde(default, skip_serializing_if ='
+                      ' "crate::rules::is_plain")] pub text: String }')
+    made["called_in_variant"] = (f'{ALL}\npub enum Tried {{ A {{ #[serde(default = "crate::rules::port", skip_serializing_if ='
+                                 ' "crate::rules::is_port")] port: u16, x: i8 }, B }')
     made["raw"] = f"{ALL}\npub struct Tried {{ pub r#type: u8, pub r#match: i32 }}"
+    return made
+
+
+def one_way() -> Dict[str, str]:
+    """Fields and variants that aren't sent, aren't read or neither."""
+    made, way = {}, ["skip", "skip_serializing", 'skip, default = "five"', "skip_deserializing"]
+    kinds = ["u16", "String", "i32", "Option<u8>", "Vec<u8>", "BTreeMap<String, u8>", "i32", "u64"]
+    functions = "\n\nfn five() -> i32 { 5 }"
+    for count in (1, 2, 4, 5, 9, 12):
+        fields = [(f"#[serde({said})] ", one) for said, one in islice(zip(cycle(way), cycle(kinds)), count)]
+        public, inner = (", ".join(f"{visible}k{i}: {MIXED[i % 8]}, {said}{visible}f{i}: {one}" for i, (said, one) in enumerate(fields))
+                         for visible in ("pub ", ""))
+        made[f"unsent_{count}"] = f"{ALL}\npub struct Tried {{ {public} }}{functions}"
+        made[f"unsent_closed_{count}"] = f"{BOTH}\n#[serde(deny_unknown_fields)]\npub struct Tried {{ {public} }}{functions}"
+        made[f"unsent_in_variant_{count}"] = f"{ALL}\npub enum Tried {{ A {{ {inner} }}, B(u8) }}{functions}"
+        made[f"unsent_beside_tag_{count}"] = f'{ALL}\n#[serde(tag = "kind")]\npub enum Tried {{ A {{ {inner} }}, B }}{functions}'
+        by_place = ", ".join(f"{MIXED[i % 8]}, {said}{one}" for i, (said, one) in enumerate(fields))
+        made[f"unsent_place_{count}"] = f"{ALL}\npub struct Tried({by_place});{functions}"
+        made[f"unsent_place_in_variant_{count}"] = f"{ALL}\npub enum Tried {{ A({by_place}), B(u8) }}{functions}"
+    for count in (1, 2, 4, 8):
+        for sort, tag in (("variants", ""), ("variants_internal", 'tag = "kind"'), ("variants_adjacent", 'tag = "kind", content = "of"')):
+            held_by = " { x: i32 }" if sort == "variants_internal" else "(i32)"
+            variants = ", ".join(f"#[serde({said})] V{i}{hold}" for i, (said, hold) in enumerate(
+                islice(zip(cycle(way[:2] + way[3:]), cycle([held_by, "", held_by, held_by])), count)))
+            made[f"unsent_{sort}_{count}"] = f"{ALL}\n{f'#[serde({tag})]{chr(10)}' * bool(tag)}pub enum Tried {{ A{held_by}, {variants} }}"
+    made["unsent_alone"] = f"{SENT}\npub struct Tried {{ #[serde(skip)] pub x: u8 }}"
+    made["unsent_all"] = f"{ALL}\npub struct Tried {{ #[serde(skip)] pub x: u8, #[serde(skip_deserializing)] pub y: String }}"
+    made["unsent_others"] = (f"{BOTH}\npub struct Tried {{ pub a: u8, #[serde(skip)] pub b: char, #[serde(skip)] pub c: (u8, (String, bool)),"
+                             " #[serde(skip)] pub d: f64, #[serde(skip)] pub e: () }")
+    made["unsent_variants_untagged"] = (f"{ALL}\n#[serde(untagged)]\npub enum Tried {{ A(u8), #[serde(skip)] B(String), #[serde(skip_serializing)]"
+                                        " C { x: u8 }, #[serde(skip_deserializing)] D { y: String }, E(String, u8) }")
+    made["unsent_flat"] = (f"{ALL}\npub struct Inside {{ pub a: u8, #[serde(skip)] pub b: String }}\n\n"
+                           f"{ALL}\npub struct Tried {{ pub x: u8, #[serde(flatten)] pub inside: Inside, #[serde(skip)] pub y: i32 }}")
+    made["unsent_beside"] = (f"{ALL}\npub struct Inside {{ pub a: u8, #[serde(skip)] pub b: String }}\n\n"
+                             f'{ALL}\n#[serde(tag = "kind")]\npub enum Tried {{ A(Inside), B }}')
+    made["unsent_untagged"] = f"{ALL}\n#[serde(untagged)]\npub enum Tried {{ A {{ x: u8, #[serde(skip)] y: String }}, B(u8) }}"
+    made["unsent_generic"] = f"{ALL}\npub struct Tried<T> {{ #[serde(skip)] pub f0: Option<u8>, pub f1: T, #[serde(skip)] pub f2: Vec<T> }}"
     return made
 
 
@@ -229,17 +306,44 @@ def generics() -> Dict[str, str]:
     }
 
 
-HEAD = "//! {}.\n\nuse serde::{{Deserialize, Serialize}};\nuse std::collections::BTreeMap;\n\n"
+def borrowed() -> Dict[str, str]:
+    """Types that are only sent, and hold borrowed texts."""
+    part = f"{SENT}\npub struct Part<'a> {{ pub name: &'a str, pub more: Option<&'a str> }}\n\n"
+    return {
+        "borrowed": f"{part}{SENT}\npub struct Tried<'a>(pub &'a str, pub Vec<Part<'a>>, pub u8, pub BTreeMap<String, &'static str>);",
+        "borrowed_external": f"{part}{SENT}\npub enum Tried<'a> {{ A, B(&'a str), C {{ x: &'a str, y: i8, z: Part<'a> }}, D(Part<'a>, u8) }}",
+        "borrowed_adjacent": f'{part}{SENT}\n#[serde(tag = "t", content = "c")]\npub enum Tried<\'a> {{ A, B(Part<\'a>),'
+                             " C { x: Option<&'a str>, y: Option<u64> }, D(&'a str, i8) }",
+        "borrowed_internal": f'{part}{SENT}\n#[serde(tag = "t")]\npub enum Tried<\'a> {{ A, B(Part<\'a>), C {{ x: &\'a str, y: u8 }} }}',
+        "borrowed_untagged": f"{part}{SENT}\n#[serde(untagged)]\npub enum Tried<'a> {{ A(Part<'a>), B(&'a str, u8), C {{ x: &'a str }} }}",
+        "borrowed_24": f"{SENT}\npub struct Tried<'a> {named(['&' + chr(39) + 'a str', 'u8'] * 12)}",
+    }
+
+
+HEAD = "//! {}.\n\nuse serde::{{Deserialize, Serialize}};\n{}\n"
+STANDARD = {"std::collections": ["BTreeMap", "BTreeSet", "HashMap", "HashSet", "VecDeque"], "std::path": ["PathBuf"],
+            "std::rc": ["Rc"], "std::sync": ["Arc"]}
+
+
+def imported(text: str) -> str:
+    """The lines that bring what a text names of the standard library."""
+    lines = []
+    for module, names in STANDARD.items():
+        used = [name for name in names if re.search(rf"\b{name}\b", text)]
+        if used:
+            lines.append(f"use {module}::{used[0] if len(used) == 1 else '{' + ', '.join(used) + '}'};\n")
+    return "".join(lines)
 
 
 def bodies() -> Dict[str, str]:
     """The declaration of each type, by name."""
-    return {**structs(), **enums(), **names(), **types(), **attributes(), **own_rules(), **generics()}
+    return {**structs(), **enums(), **names(), **types(), **collections(), **attributes(), **own_rules(), **one_way(), **generics(),
+            **borrowed()}
 
 
 def matrix() -> Dict[str, str]:
     """The file of each type, by name."""
-    return {name: HEAD.format("One type") + (OWN if "Own" in text or "Deep" in text else "") + text + "\n"
+    return {name: HEAD.format("One type", imported(text)) + (OWN if "Own" in text or "Deep" in text else "") + text + "\n"
             for name, text in bodies().items()}
 
 
@@ -248,7 +352,8 @@ def sample() -> str:
     every = bodies()
     called = {name: "".join(map(str.capitalize, name.split("_"))) for name in SAMPLE}
     texts = [every[name].replace("Tried", called[name]).strip() for name in SAMPLE]
-    return HEAD.format("Types of every sort and size") + OWN + "\n\n".join(texts) + "\n"
+    body = "\n\n".join(texts)
+    return HEAD.format("Types of every sort and size", imported(body)) + OWN + body + "\n"
 
 
 def main() -> None:

@@ -51,11 +51,22 @@ def crate(top: Path, room: Path, name: str, types: Dict[str, str], flags: List[s
             print(f"{module}: refused: {written.stderr.strip().splitlines()[-1]}", flush=True)
         else:
             (source / f"{module}.rt").write_text(written.stdout)
+    if any("crate::rules" in text for text in types.values()):
+        rules(top, room / "crates" / name, name)
     kept = [f"pub mod {module};" for module in types if module not in refused]
+    kept += ["pub mod rules;"] * (source / "rules.rt").exists()
     (source / "lib.rt").write_text("\n".join(["//! Types.", "#![tactic(auto)]", "", *kept, ""]))
     with open(room / "crates.txt", "a") as crates:
         crates.write(f"{name}: {' '.join(libraries)}\n")
     return [module for module in types if module not in refused]
+
+
+def rules(top: Path, crate: Path, name: str) -> None:
+    """Writes the functions that types name by their path, and the definitions of their contracts."""
+    for part, place in (("rules.rt.in", "src/rules.rt"), ("Rules.antt.in", "specs/Rules.antt")):
+        (crate / place).parent.mkdir(exist_ok=True)
+        (crate / place).write_text((top / "checks" / "derive" / part).read_text().replace("CRATE", name))
+    (crate / "specs" / "Lib.antt").write_text("pub mod Rules\n")
 
 
 def failing(name: str, module: str, log: str) -> str:

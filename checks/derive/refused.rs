@@ -6,13 +6,13 @@ struct A {
     x: Vec<f64>,
 }
 
-// 2: A: lifetimes are not covered: hold the value itself, as String for &str
+// 2: A.0: a type that begins with `[` is not covered: write a Vec, or a tuple of up to four
 // 4: B: a parameter that is a value is not covered: write a type for each that you use
 // 6: C: a default of a parameter is not covered: delete that of `T`, and write it where you use the type
 // 8: D: the name `S` of a parameter is not covered: give it one that begins with a capital, and that nothing else has
 // 8: D: the name `A` of a parameter is not covered: give it one that begins with a capital, and that nothing else has
 // 8: D: the name `t` of a parameter is not covered: give it one that begins with a capital, and that nothing else has
-// 11: E.x: its default is not covered: hold a number, bool, String, Option, Vec, BTreeMap or a type of your own that derives Default
+// 11: E.x: its default is not covered: hold a number, bool, char, String, PathBuf, Option, Vec, map, set, a tuple of these or a type of your own that derives Default
 // 12: E.y: what is flattened is covered where it is a struct of this file with named fields and without `deny_unknown_fields`: hold such a struct, or delete `flatten`
 // 13: E.z: a map with keys of type `T` is not covered, as their order is not known: hold a Vec of pairs
 // 18: F.0: `G` has 0 arguments here, and its parameters are: T
@@ -30,7 +30,7 @@ struct A {
 // 33: N.Y.1: of an untagged enum, a value of a parameter's type is covered alone in its variant: hold `Box<T>`
 // 35: O: `derive(Copy)` is not covered on a type with parameters, as one that isn't Copy has to be dropped: delete Copy
 #[derive(Serialize)]
-struct A<'a, T>(&'a T);
+struct A<'a, T>(&'a [T]);
 #[derive(Serialize)]
 struct B<const N: usize>(u8);
 #[derive(Serialize)]
@@ -65,37 +65,24 @@ enum N<T> { X { x: T }, Y(u8, T), Z(T) }
 #[derive(Clone, Copy, Serialize)]
 struct O<T>(T);
 
-// 3: A.x: a type that begins with `&` is not covered: hold the value itself, as String for &str
-#[derive(Serialize)]
-struct A {
-    x: &'static str,
-}
-
 // 2: A: a union is not covered: write an enum
 #[derive(Serialize)]
 union A {
     x: u8,
 }
 
-// 4: A.x: serde's `skip_serializing_if` so is not covered: Option::is_none, String::is_empty, Vec::is_empty, BTreeMap::is_empty are, each on a field of its type
+// 4: A.x: serde's `skip_serializing_if` so is not covered: Option::is_none is, and `is_empty` of String, Vec, VecDeque, maps and sets, each on a field of its type, and a function of another module that is named from `crate` on
 #[derive(Serialize)]
 struct A {
     #[serde(skip_serializing_if = "is_zero")]
     x: u8,
 }
 
-// 4: A.x: serde's `skip_serializing_if` so is not covered: Option::is_none, String::is_empty, Vec::is_empty, BTreeMap::is_empty are, each on a field of its type
+// 4: A.x: serde's `skip_serializing_if` so is not covered: Option::is_none is, and `is_empty` of String, Vec, VecDeque, maps and sets, each on a field of its type, and a function of another module that is named from `crate` on
 #[derive(Serialize)]
 struct A {
     #[serde(skip_serializing_if = "Vec::is_empty")]
     x: Option<Vec<u8>>,
-}
-
-// 4: A.x: serde's `skip_serializing_if` so is not covered: Option::is_none, String::is_empty, Vec::is_empty, BTreeMap::is_empty are, each on a field of its type
-#[derive(Serialize)]
-struct A {
-    #[serde(skip_serializing_if = "mine::Option::is_none")]
-    x: Option<u8>,
 }
 
 // 2: A.0: serde's `skip_serializing_if` is covered in fields with names: give them names
@@ -230,19 +217,19 @@ struct B(A);
 #[derive(Serialize)]
 struct A(BTreeMap<Vec<u8>, u8>);
 
-// 2: A.0: a HashMap is not covered: hold a BTreeMap
+// 2: A.0: a LinkedList is not covered: hold a VecDeque
 #[derive(Serialize)]
-struct A(HashMap<u8, u8>);
+struct A(LinkedList<u8>);
 
 // 2: A: what has no fields is covered without brackets alone: delete them
 #[derive(Serialize)]
 struct A {}
 
-// 4: A.x: its default is not covered: hold a number, bool, String, Option, Vec, BTreeMap or a type of your own that derives Default
+// 4: A.x: its default is not covered: hold a number, bool, char, String, PathBuf, Option, Vec, map, set, a tuple of these or a type of your own that derives Default
 #[derive(Deserialize)]
 struct A {
     #[serde(default)]
-    x: char,
+    x: Box<u8>,
 }
 
 // 3: A: the name `\xe9` is not covered: printable ASCII but " and \ is
@@ -265,11 +252,11 @@ struct A(u8);
 // 3: A.x: floats are not covered: hold a whole number of a smaller unit, or a String
 // 4: A.y: serde's `with` on a field is not covered: a function of your own has no contract here: hold a struct around the value, and write its impls by hand
 // 6: A.z: `#[cfg(unix)]` is not covered, as the module is written once for all: delete it, or move what it is about to a file of its own
-// 7: A.z: a type that begins with `&` is not covered: hold the value itself, as String for &str
+// 7: A.z: a map with keys of type `&'static str` is not covered: hold a Vec of pairs, or put the key into a struct that derives Ord
 // 9: A.größe: the name `größe` is not covered, as Rattle takes names in ASCII alone: give it another
 // 13: B.X.2: a type that begins with `[` is not covered: write a Vec, or a tuple of up to four
 // 13: B.X.0: floats are not covered: hold a whole number of a smaller unit, or a String
-// 14: B.Y.a: lifetimes are not covered: hold the value itself, as String for &str
+// 14: B.Y.a: the lifetime `'a` is not declared here: hold the value itself, as String for &str
 // 14: B.Y.b: a type that begins with `dyn` is not covered: write an enum of the types that it may be
 // 15: B.Z.0: the type `Duration` is not covered: declare it in this file, or name it by its full path
 #[derive(Serialize)]
@@ -293,13 +280,13 @@ enum B {
 struct C(A, B);
 
 // 4: A.x: the type `std::time::Duration` is not covered: hold what it is made of, as a number or a String
-// 4: A.y: the type `std::path::PathBuf` is not covered: hold what it is made of, as a number or a String
+// 4: A.y: the type `std::path::Path` is not covered: hold what it is made of, as a number or a String
 // 4: A.z: the type `serde::Value` is not covered: hold what it is made of, as a number or a String
-// 4: A.w: a HashMap is not covered: hold a BTreeMap
+// 4: A.w: a LinkedList is not covered: hold a VecDeque
 use std::time::Duration;
 use serde::Value;
 #[derive(Serialize)]
-struct A { x: Duration, y: std::path::PathBuf, z: Option<Value>, w: std::collections::HashMap<u8, u8> }
+struct A { x: Duration, y: std::path::Path, z: Option<Value>, w: std::collections::LinkedList<u8> }
 
 // 3: A.0: `Vec` is `indexmap::Vec` here, which is not covered: import it by another name
 use indexmap::Vec;
@@ -372,14 +359,6 @@ struct A(u8);
 #[derive(Serialize, Clone, Copy)]
 struct A { x: Option<String>, y: (u8, Vec<u8>), z: B }
 #[derive(Serialize, Clone)]
-struct B(u8);
-
-// 2: A.x: `derive(Default)` is not covered beside `String`, which takes an allocator: delete Default, and write a `new(alloc)`
-// 2: A.y: `derive(Default)` is not covered beside `Box<u8>`, which takes an allocator: delete Default, and write a `new(alloc)`
-// 2: A.b: `B` does not derive Default, as what holds it does: derive it there too
-#[derive(Serialize, Default)]
-struct A { x: String, y: (u8, Box<u8>), z: Option<Box<u8>>, b: B }
-#[derive(Serialize)]
 struct B(u8);
 
 // 2: A: `derive(Copy)` needs Clone: derive that too
@@ -460,15 +439,15 @@ struct A(u8);
 // 2: A.7: a type with `!` in it is not covered: write the type itself
 // 2: A.8: values as arguments of a type are not covered: write a type for each that you use
 // 2: A.9: values as arguments of a type are not covered: write a type for each that you use
-// 2: A.10: lifetimes are not covered: hold the value itself, as String for &str
+// 2: A.10: the lifetime `'a` is not declared here: hold the value itself, as String for &str
 #[derive(Serialize)]
 struct A(u8, Größe, <u8 as X>::Y, *const u8, impl X, !, Vec<u8>::Item, m!(x), A<3>, A<{ 3 }>, Vec<'a>);
 
-// 3: A.X: of an enum that is tagged adjacently, only variants with no values and with one value are covered: hold a tuple or a struct of them
+// 3: A.X: of an enum that is tagged adjacently, only variants with no values, with values by name, and with one to four by place, are covered: hold a struct of them
 // 6: B.X: of an untagged enum, only variants with no values, with values by name, and with one to four by place, are covered: hold a struct of them
 #[derive(Serialize, Deserialize)]
 #[serde(tag = "t", content = "c")]
-enum A { X(u8, u8) }
+enum A { X(u8, u8, u8, u8, u8), Y { x: u8 } }
 #[derive(Serialize, Deserialize)]
 #[serde(untagged)]
 enum B { X(u8, u8, u8, u8, u8), Y { x: u8 } }
@@ -599,13 +578,13 @@ struct A { x: u8 }
 struct A(u8, u8);
 
 // 2: A.b: its default is not covered: `B` derives no Default, or holds what has none here: hold an Option
-// 6: C.x: its default is not covered: hold a number, bool, String, Option, Vec, BTreeMap or a type of your own that derives Default
+// 6: C.x: its default is not covered: hold a number, bool, char, String, PathBuf, Option, Vec, map, set, a tuple of these or a type of your own that derives Default
 #[derive(Deserialize)]
 struct A { #[serde(default)] b: B }
 #[derive(Deserialize)]
 struct B { x: u8 }
 #[derive(Deserialize)]
-struct C { #[serde(default)] x: (u8, u8) }
+struct C { #[serde(default)] x: (u8, Box<u8>) }
 
 // 3: A: such attributes don't go together: `transparent` and `rename`: delete one of them
 #[derive(Serialize)]
@@ -629,17 +608,11 @@ struct B { x: u8 }
 #[derive(Serialize)]
 struct A { #[serde(flatten)] b: B }
 
-// 2: A.b: `derive(Default)` is not covered beside `B`, which takes an allocator: delete Default, and write a `new(alloc)`
-#[derive(Default, Serialize, Deserialize)]
-struct A { b: B, c: char }
-#[derive(Default, Serialize, Deserialize)]
-struct B { x: String }
-
 // 2: A.b: its default is not covered: `B` derives no Default, or holds what has none here: hold an Option
 #[derive(Deserialize)]
 struct A { #[serde(default)] b: B }
 #[derive(Default, Deserialize)]
-struct B { x: char, y: (u8, u8) }
+struct B { x: char, y: (u8, Box<u8>) }
 
 // 5: C.A: what stands beside a tag is covered where it is a struct of this file with named fields and without `deny_unknown_fields` and `flatten`: hold such a struct
 #[derive(Serialize)]
@@ -660,15 +633,14 @@ enum A { B(u8) }
 // 6: A.Y: of an untagged enum, only variants with no values, with values by name, and with one to four by place, are covered: hold a struct of them
 // 7: A.Z.0: floats are not covered: hold a whole number of a smaller unit, or a String
 // 11: B: the tag and the content are both called `t`: give one of them another name
-// 13: B.X: of an enum that is tagged adjacently, only variants with no values and with one value are covered: hold a tuple or a struct of them
-// 14: B.Y: of an enum that is tagged adjacently, only variants with no values and with one value are covered: hold a tuple or a struct of them
-// 16: C.U.0: a HashMap is not covered: hold a BTreeMap
+// 13: B.X: of an enum that is tagged adjacently, only variants with no values, with values by name, and with one to four by place, are covered: hold a struct of them
+// 16: C.U.0: a LinkedList is not covered: hold a VecDeque
 // 16: C.Z: what stands beside a tag is covered where it is a struct of this file with named fields and without `deny_unknown_fields` and `flatten`: hold such a struct
 // 16: C.V: what stands beside a tag is covered where it is a struct of this file with named fields and without `deny_unknown_fields` and `flatten`: hold such a struct
 // 16: C.X: a field is called as the tag, `t`: give one of them another name
 // 16: C.Y: a field is called as the tag, `t`: give one of them another name
 // 16: C.W: of an enum that is tagged internally, only variants with no values and with a struct, or values by name, are covered: hold a struct of them
-// 18: D.T.x: its default is not covered: hold a number, bool, String, Option, Vec, BTreeMap or a type of your own that derives Default
+// 18: D.T.x: its default is not covered: hold a number, bool, char, String, PathBuf, Option, Vec, map, set, a tuple of these or a type of your own that derives Default
 #[derive(Serialize, Copy)]
 #[serde(untagged)]
 enum A {
@@ -681,17 +653,17 @@ enum A {
 #[serde(tag = "t", content = "t")]
 enum B {
     W(u8),
-    X(u8, u8),
+    X(u8, u8, u8, u8, u8),
     Y { x: u8 },
 }
-#[derive(Serialize)] #[serde(tag = "t")] enum C { X { t: u8 }, Y(E), Z(u8), V(A), U(HashMap<u8, u8>), W(u8, u8) }
+#[derive(Serialize)] #[serde(tag = "t")] enum C { X { t: u8 }, Y(E), Z(u8), V(A), U(LinkedList<u8>), W(u8, u8) }
 #[derive(Deserialize)]
-enum D { T { #[serde(default)] x: char } }
+enum D { T { #[serde(default)] x: Box<u8> } }
 #[derive(Serialize)]
 struct E { t: u8 }
 
 // 3: A.x: the name `\xfc` is not covered: printable ASCII but " and \ is
-// 4: A.y: serde's `skip_serializing_if` so is not covered: Option::is_none, String::is_empty, Vec::is_empty, BTreeMap::is_empty are, each on a field of its type
+// 4: A.y: serde's `skip_serializing_if` so is not covered: Option::is_none is, and `is_empty` of String, Vec, VecDeque, maps and sets, each on a field of its type, and a function of another module that is named from `crate` on
 // 5: A.z: two are called `y`: give one another name by `rename`
 // 6: A.u: two are called `y`: give one another name by `rename`
 // 7: A.v: a type that begins with `[` is not covered: write a Vec, or a tuple of up to four
@@ -765,13 +737,13 @@ struct B { x: u8 }
 // 2: A: `#[cfg(x)]` is not covered, as the module is written once for all: delete it, or move what it is about to a file of its own
 // 3: A.0: floats are not covered: hold a whole number of a smaller unit, or a String
 // 5: A: `#[cfg(not(x))]` is not covered, as the module is written once for all: delete it, or move what it is about to a file of its own
-// 6: A.x: a HashMap is not covered: hold a BTreeMap
+// 6: A.x: a LinkedList is not covered: hold a VecDeque
 #[derive(Serialize)]
 #[cfg(x)]
 struct A(f32);
 #[derive(Serialize)]
 #[cfg(not(x))]
-struct A { x: HashMap<u8, u8> }
+struct A { x: LinkedList<u8> }
 #[derive(Serialize)]
 struct B(A);
 
@@ -821,7 +793,7 @@ struct A(super::super::B, self::other::B, B, Self::B, C, D);
 
 // 3: passed over: `fn f`
 // 4: passed over: `fn f`
-// 2: A.x: its default is not covered: write in this file a function `f` that gives one value, such as `8080`, `"text".to_owned()`, `Vec::new()` or a variant of an enum of this file
+// 2: A.x: its default is not covered: write in this file a function `f` that gives one value, such as `8080`, `"text".to_owned()`, `Vec::new()` or a variant of an enum of this file, or name one of another module from `crate` on
 // 2: A.y: two are called `x`: give one another name
 #[derive(Serialize, Deserialize)]
 struct A { #[serde(default = "f")] x: u8, #[serde(alias = "x")] y: u8 }
@@ -837,17 +809,14 @@ enum B { X, #[serde(alias = "X")] Y, #[serde(other)] Z(u8) }
 #[derive(Serialize, Deserialize)]
 enum B { X, #[serde(other)] Z(u8) }
 
-// 3: A.W: serde's `skip` on a variant is not covered: write the impls by hand
-// 3: A.V.a: serde's `skip_deserializing` on a field is not covered: write the impls by hand
 // 3: A.X: a field is called as the tag, `t`: give one of them another name
-// 3: A.Y: names by direction are not covered beside a tag: delete them
 // 3: A.Z: `alias` and `other` are covered in enums that are tagged externally: delete them
 // 5: B: two fields are called `x`: give one another name by `rename`
 // 9: D.x: serde's `default` so is not covered: write `default` alone
 // 9: D.y: serde's `rename` stands twice
 #[derive(Serialize, Deserialize)]
 #[serde(tag = "t")]
-enum A { X { #[serde(alias = "t")] a: u8 }, Y { #[serde(rename(deserialize = "c"))] a: u8, b: u8 }, #[serde(alias = "z")] Z, #[serde(skip)] W(u8, u8), V { #[serde(skip_deserializing)] a: u8 } }
+enum A { X { #[serde(alias = "t")] a: u8 }, Y { #[serde(skip)] t: u8, b: u8 }, #[serde(alias = "z")] Z, #[serde(skip)] W(u8, u8), V { #[serde(skip_deserializing)] a: u8 } }
 #[derive(Serialize, Deserialize)]
 struct B { #[serde(flatten)] c: C, #[serde(rename(deserialize = "x"))] y: u8 }
 #[derive(Serialize, Deserialize)]
@@ -860,13 +829,20 @@ struct D { #[serde(default(x))] x: u8, #[serde(rename = "a", rename(serialize = 
 #[serde(tag = "t")]
 enum B { X, #[serde(alias = "z")] Z }
 
-// 2: A.0: serde's `skip` on a field is not covered: write the impls by hand
+// 2: A.0: serde's `skip` is not covered on a value that stands alone: delete it, or what holds the value
+// 4: B.X.0: serde's `skip` is not covered on a value that stands alone: delete it, or what holds the value
 #[derive(Serialize, Deserialize)]
-struct A(#[serde(skip)] u8, u8);
+struct A(#[serde(skip)] u8);
+#[derive(Serialize, Deserialize)]
+enum B { X(#[serde(skip_serializing)] u8), Y }
 
-// 2: A.x: serde's `skip` on a field is not covered: write the impls by hand
+// 2: A.a: its default is not covered: hold a number, bool, char, String, PathBuf, Option, Vec, map, set, a tuple of these or a type of your own that derives Default
+// 2: A.b: its default is not covered: `B` derives no Default, or holds what has none here: hold an Option
+// 2: A.c: its default is not covered: `B` derives no Default, or holds what has none here: hold an Option
 #[derive(Serialize, Deserialize)]
-struct A { #[serde(skip)] x: u8 }
+struct A { #[serde(skip)] a: Box<u8>, #[serde(skip)] b: B, #[serde(skip)] c: (u8, B), d: u8 }
+#[derive(Serialize, Deserialize)]
+struct B;
 
 // 2: A.x: serde's `rename` knows `serialize` and `deserialize`, each once
 #[derive(Serialize, Deserialize)]
@@ -877,3 +853,64 @@ struct A { #[serde(rename(serialize = "a", serialize = "b"))] x: u8 }
 struct A { #[serde(flatten)] b: B }
 #[derive(Serialize, Deserialize)]
 struct B { #[serde(alias = "y")] x: u8 }
+
+// 3: A.X.x: of an enum that is tagged adjacently, a parameter is covered in a variant of one value: hold a struct of them
+// 3: A.Y.1: of an enum that is tagged adjacently, a parameter is covered in a variant of one value: hold a struct of them
+// 3: A.W.x: of an enum that is tagged adjacently, a parameter is covered in a variant of one value: hold a struct of them
+#[derive(Deserialize)]
+#[serde(tag = "t", content = "c")]
+enum A<T> { X { x: T }, Y(u8, T), Z(T), W { x: Box<T>, y: u8 } }
+
+// 3: passed over: `mod rules`
+// 6: passed over: `fn small`
+// 2: A.z: its default is not covered: write in this file a function `any` that gives one value, such as `8080`, `"text".to_owned()`, `Vec::new()` or a variant of an enum of this file, or name one of another module from `crate` on
+// 2: A.x: `rules` is a module that is passed over (line 3): import the type by its path from `crate`
+// 2: A.y: `crate::types::small` is no function of another module: move it there, and name it from `crate` on
+#[derive(Serialize, Deserialize)]
+struct A { #[serde(default = "rules::one")] x: u8, #[serde(skip_serializing_if = "crate::types::small")] y: u8, #[serde(default = "any")] z: u8 }
+mod rules {
+    pub fn one() -> u8 { u8::MAX }
+}
+fn small(x: &u8) -> bool { *x < 5 }
+
+// 2: A.x: what is borrowed is covered where it is only sent: hold the value itself, as String for &str
+// 4: B.a: `A` has 0 lifetimes here, and is declared with 1
+// 6: C.c: a type that begins with `[` is not covered: write a Vec, or a tuple of up to four
+#[derive(Serialize, Deserialize)]
+struct A<'a> { x: &'a str }
+#[derive(Serialize)]
+struct B { a: A }
+#[derive(Serialize)]
+struct C<'a> { b: Option<&'a str>, c: &'a [u8] }
+
+// 2: A.b: what is borrowed is covered where it is only sent: hold the value itself, as String for &str
+// 5: B.Y: of an untagged enum no value by place is skipped: give the values names
+// 8: C.Y: of an enum that is tagged adjacently no value by place is skipped: give the values names
+#[derive(Serialize, Deserialize)]
+struct A<'a> { a: u8, #[serde(skip)] b: Option<&'a u8> }
+#[derive(Serialize, Deserialize)]
+#[serde(untagged)]
+enum B { X(u8), Y(String, #[serde(skip)] u8) }
+#[derive(Serialize, Deserialize)]
+#[serde(tag = "t", content = "c")]
+enum C { X(u8), Y(u8, #[serde(skip_deserializing)] u8), #[serde(skip)] Z(u8, #[serde(skip)] u8) }
+
+// 5: B.x: a set of `Vec<u8>` is not covered: hold a Vec, or put the item into a struct that derives Ord
+// 6: B.y: `A` does not derive Eq and Hash, as the items of a set do: derive them too
+// 7: B.z: a map with keys of type `()` is not covered: hold a Vec of pairs, or put the key into a struct that derives Hash
+// 8: B.w: `A` does not derive PartialOrd and Ord, as the items of a set do: derive them too
+#[derive(Serialize)]
+struct A(u8);
+#[derive(Serialize)]
+struct B {
+    x: BTreeSet<Vec<u8>>,
+    y: HashSet<A>,
+    z: HashMap<(), u8>,
+    w: BTreeSet<A>,
+}
+
+// 3: A.x: a set of `T` is not covered, as their equality is not known: hold a Vec
+#[derive(Serialize)]
+struct A<T> {
+    x: HashSet<T>,
+}

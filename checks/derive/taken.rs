@@ -119,6 +119,17 @@ struct A {
     some_name: u8,
 }
 
+// 1: left out: `derive(Queryable)`, as no rule of Rattle writes it
+// 1: left out: `derive(diesel::Identifiable)`, as no rule of Rattle writes it
+// 1: read as if its condition held: `#[cfg_attr]`
+// 2: left out: `#[diesel(table_name = a)]`
+// 2: read as if its condition held: `#[cfg_attr]`
+// + #[derive(Drop, Clone)]
+#[cfg_attr(feature = "full", derive(Queryable, Clone, diesel::Identifiable))]
+#[cfg_attr(feature = "full", diesel(table_name = a))]
+#[derive(Serialize)]
+struct A(u8);
+
 /// A tab	here, größe and 日本 and a zero-width space​ too.
 #[derive(Serialize)]
 struct A(u8); // ein Größter Kommentar 😀
@@ -564,6 +575,61 @@ fn low() -> Level { Level::Low }
 struct A { a: u8, b: String }
 impl Default for A { fn default() -> Self { Self { a: 7, b: String::new() } } }
 
+// 2: no RoundTrip is written for `A`: `x` is not sent
+// + (UnreadThen (λ (x : ℕ). x ≡ 0) z.x (RowThen (name "y")
+// + let x: u8 = Absent::absent(alloc); Ok(A { x, y, z })
+// + script = { λ p. struct_script (name "A") 1 (field_first (name "z")
+// - name "x"
+#[derive(PartialEq, Eq, Serialize, Deserialize)]
+struct A { #[serde(skip)] x: u8, #[serde(skip_serializing)] y: u8, z: u8 }
+
+// 2: no RoundTrip is written for `A`: variant `Y` is not sent
+// 5: no RoundTrip is written for `B`: variant `X` is read by another name than it is sent by
+// + unsent_script (codes "the enum variant A::Y cannot be serialized")
+// + A::Y(_) => { refuse_unsent(alloc, serializer, "the enum variant A::Y cannot be serialized") }
+// + ghost names = { name "X" ∷ [] };
+// + SendTag(FieldsOfBX, SentOfB, 0, row)
+// + &["y", "Z"]
+#[derive(PartialEq, Eq, Serialize, Deserialize)]
+enum A { X, #[serde(skip)] Y(u8) }
+#[derive(PartialEq, Eq, Serialize, Deserialize)]
+#[serde(tag = "t")]
+enum B { #[serde(rename(serialize = "y", deserialize = "x"))] X, #[serde(skip_deserializing)] Z }
+
+// 2: no RoundTrip is written for `A`: `0` is not sent
+// + let x1: String = Absent::absent(alloc); let x3: (u8, char) = (Absent::absent(alloc), '\0');
+// + (UnreadThen (λ (x : (ℕ × ℕ)). (x.0 ≡ 0) × (x.1 ≡ 0)) p.2
+// + deserialize_tuple_struct(alloc, name_a(), 1)?
+#[derive(PartialEq, Eq, Serialize, Deserialize)]
+struct A(#[serde(skip)] String, u8, #[serde(skip)] (u8, char));
+
+// + (UnreadThen (λ (x : _). ⟦<f64 as Default>⟧.is_default x) z.x
+// + (UnreadThen (λ (x : (Vec _ Global)). x.items ≡ []) z.z
+// + let x: f64 = Default::default();
+// + let _: OthersSkipped<FieldsOfB> = ReadFields::read(alloc, fields)?;
+// + | c.Y x1 ↦ ⊥
+// + first_of_two::<u8, (String, u8)>(alloc, from,
+#[derive(Serialize, Deserialize)]
+struct A { #[serde(skip)] x: f64, y: u8, #[serde(skip)] z: Vec<f32> }
+#[derive(Serialize, Deserialize)]
+struct B { #[serde(skip)] x: u8 }
+#[derive(Serialize, Deserialize)]
+#[serde(untagged)]
+enum C { X(u8), #[serde(skip_deserializing)] Y(String), #[serde(skip_serializing)] Z(String, u8) }
+
+// 7: passed over: `fn five`
+// + impl Absent for B
+// + let b: B = Absent::absent(alloc);
+// + let c: u8 = 5;
+// - Deserialize<'de> for B
+#[derive(Serialize, Deserialize)]
+struct A { a: u8, #[serde(skip)] b: B, #[serde(skip, default = "five")] c: u8 }
+#[derive(Default, Serialize)]
+struct B { x: u8, y: C }
+#[derive(Default, Serialize)]
+struct C(u8);
+fn five() -> u8 { 5 }
+
 // 2: no RoundTrip is written for `A`: `x` has an `alias`
 // + aliased_then (name "x") (name "x" ∷ name "y" ∷ name "z" ∷ []) (Some (missing_field (name "x")))
 // + type TagsOfB = OtherAt<Aliases<AliasesOfB, MeantOfB>, NamesOfB, 1>;
@@ -612,3 +678,152 @@ struct B<T,>(T) where T: Copy, for<'a> &'a T: Copy;
 enum C<T> { X(T), Y { x: Option<Box<T>>, y: i8 } }
 #[derive(PartialEq, Eq, Serialize, Deserialize)]
 struct D { x: Vec<B<u8>>, y: C<String> }
+
+// + struct EXContentVariant {
+// + let (x1, x2) = read_e_pair(alloc, fields)?;
+// + SendInside(FieldsOfEX, 1, row, SendEnd)
+// + impl<'de> RoundTrip<'de> for E
+// + let EXContentVariant { a, b } = read_e_x(alloc, fields)?;
+#[derive(PartialEq, Eq, Serialize, Deserialize)]
+#[serde(tag = "t", content = "c")]
+enum E { Unit, Pair(u8, String), X { a: u8, b: Option<u8> } }
+#[derive(Serialize, Deserialize)]
+struct EXContent { a: u8 }
+
+// 2: written as `Absent`: `derive(Default)` on `A`, whose value takes an allocator
+// 4: left out: `derive(Default)` on `B`, as a `Box<u8>` takes memory: write a `new(alloc)`
+// 6: left out: `derive(Default)` on `C`, as `B` has none: write a `new(alloc)`
+// + impl Absent for A
+// - impl Absent for B
+// - Default
+#[derive(Clone, Default, Serialize)]
+struct A { x: String, y: (u8, char), z: Option<Box<u8>>, d: (), e: crate::other::Thing }
+#[derive(Serialize, Default)]
+struct B { x: (u8, Box<u8>) }
+#[derive(Serialize, Default)]
+struct C { x: String, b: B }
+
+// 5: passed over: `impl Default for E`
+// 8: passed over: `impl Default for F`
+// 10: to be written by hand: the impl of `Absent` for `D`, as its impl of `Default` is more than one value
+// 11: passed over: `impl Default for D`
+// + elim x [ | the_e.X ↦ ⊥ | the_e.Y x1 ↦ x1.items ≡ [] ]
+// + ghost is_absent = { λ x. x.a ≡ 5 × string_bytes x.b ≡ [] };
+// - impl Absent for D
+#[derive(Deserialize)]
+struct A { #[serde(default)] e: E, #[serde(default)] s: F, #[serde(default)] d: D }
+#[derive(Deserialize)]
+enum E { X, Y(Vec<u8>) }
+impl Default for E { fn default() -> Self { Self::Y(Vec::new()) } }
+#[derive(Deserialize)]
+struct F { a: u8, b: String }
+impl Default for F { fn default() -> Self { Self { a: 5, b: String::new() } } }
+#[derive(Deserialize)]
+struct D { a: u8 }
+impl Default for D { fn default() -> Self { made() } }
+
+// 4: called: `rules::is_small`, which needs the contract `ensures { result ≡ is_small value.now }`, by the definition `Rattle.a.specs.Rules.is_small`
+// 5: called: `Level::is_low`, which needs the contract `ensures { result ≡ level_is_low value.now }`, by the definition `Rattle.a.specs.Types.level_is_low`
+// 5: called: `Level::usual()`, of whose value contracts know nothing
+// 6: called: `crate::rules::named(alloc)?`, of whose value contracts know nothing
+// + ghost use Rattle.a.specs.Rules as rules_said;
+// + use crate::rules;
+// + fn is_skipped(value: &u8) -> bool { rules::is_small(value) }
+// + fn is_skipped(value: &Level) -> bool { Level::is_low(value) }
+// + Ok(crate::rules::named(alloc)?)
+// + Ok(Level::usual())
+use crate::rules;
+#[derive(Serialize, Deserialize)]
+struct A {
+    #[serde(default, skip_serializing_if = "rules::is_small")] x: u8,
+    #[serde(default = "Level::usual", skip_serializing_if = "Level::is_low")] level: Level,
+    #[serde(default = "crate::rules::named")] name: String,
+}
+#[derive(Serialize, Deserialize)]
+enum Level { Low, High }
+
+// + is_skipped = { λ x. (⟦<Level as PartialEq>⟧.eq x level.Low) }
+// + *value == Level::Low
+// + RoundTrip
+// 5: passed over: `mod level`
+#[derive(PartialEq, Eq, Serialize, Deserialize)]
+struct A { #[serde(default = "level::usual", skip_serializing_if = "level::is_usual")] level: Level }
+#[derive(PartialEq, Eq, Serialize, Deserialize)]
+enum Level { Low, High }
+mod level {
+    pub fn usual() -> Level { Level::Low }
+    pub fn is_usual(level: &Level) -> bool { *level == Level::Low }
+}
+
+// + pub enum Found<'a> {
+// + impl<'a> Serialize for Found<'a>
+// + fn send_whole_found_part<'a, S: Serializer>(
+// + pub struct Part<'a>(&'a str, &'static str);
+#[derive(Serialize)]
+pub enum Found<'a> { Text(&'a str), Part { part: Part<'a>, more: Option<&'a Part<'a>>, last: Vec<&'a str> } }
+#[derive(Serialize)]
+pub struct Part<'a>(&'a str, &'static str);
+
+// + let ANContent { a, b, c } = read_a_n(alloc, fields)?;
+// + SendOpen(Call::Struct(name_n(), 1), row)
+// + SendTag(FieldsOfAN, NamesOfA, 1, row)
+// + | a.G x1 x2 ↦ unsent_script (codes "the enum variant A::G cannot be serialized")
+// + let b: f64 = Default::default(); let c: E = Absent::absent(alloc);
+// + elim x [ | the_e.X ↦ ⊥ | the_e.Y x1 ↦ x1 ≡ 4 ]
+// 9: passed over: `impl Default for E`
+#[derive(Serialize, Deserialize)]
+#[serde(tag = "t", content = "c")]
+enum A {
+    #[serde(skip_serializing)] G(u8, String),
+    N { a: u8, #[serde(skip)] b: f64, #[serde(skip)] c: E },
+}
+#[derive(Serialize)]
+enum E { X, Y(u8) }
+impl Default for E { fn default() -> Self { Self::Y(4) } }
+
+// 7: called: `crate::rules::pair()`, of whose value contracts know nothing
+// + let c: (u8, B) = crate::rules::pair();
+// + let d: (f32, C) = (Default::default(), Absent::absent(alloc));
+// - impl Absent for B
+// + impl Absent for C
+#[derive(Serialize, Deserialize)]
+struct A {
+    a: u8,
+    #[serde(skip)]
+    b: u8,
+    #[serde(skip, default = "crate::rules::pair")]
+    c: (u8, B),
+    #[serde(skip)]
+    d: (f32, C),
+}
+#[derive(Serialize)]
+struct B(u8);
+#[derive(Default, Serialize)]
+struct C(char, (u8, u8));
+
+// + struct A<'a> { a: &'a str, b: &'a f64, }
+// - name "b"
+// + | the_b.Y x1 x2 ↦ unsent_script (codes "the enum variant B::Y cannot be serialized")
+#[derive(Serialize)]
+struct A<'a> { a: &'a str, #[serde(skip)] b: &'a f64 }
+#[derive(Serialize)]
+#[serde(tag = "t", content = "c")]
+enum B<'a> { X(&'a str, u8), #[serde(skip)] Y(&'a str, u8), Z { a: &'a str, #[serde(skip)] b: &'a u8 } }
+
+// + pub struct A { pub x: BTreeSet<String>, pub y: HashMap<K, VecDeque<u8>>, pub z: PathBuf, pub w: Rc<BoxedStr>, pub v: Arc<HashSet<PathBuf>>, }
+// + use std::collections::{BTreeSet, HashMap, HashSet, VecDeque};
+// + use std::boxed::{BoxedStr};
+// + (hash_map_back k_eq.laws-law
+// + (set_back string_cmp_total
+#[derive(PartialEq, Eq, Hash, Serialize, Deserialize)]
+pub struct K(u8);
+#[derive(PartialEq, Eq, Serialize, Deserialize)]
+pub struct A {
+    pub x: std::collections::BTreeSet<String>,
+    #[serde(default, skip_serializing_if = "HashMap::is_empty")]
+    pub y: HashMap<K, VecDeque<u8>>,
+    #[serde(default)]
+    pub z: std::path::PathBuf,
+    pub w: std::rc::Rc<Box<str>>,
+    pub v: std::sync::Arc<HashSet<PathBuf>>,
+}

@@ -18,9 +18,9 @@ THERE = {**STUBS, "types": ["Place", "Step"]}
 
 
 def is_complete(source: str, path: str) -> bool:
-    """Whether the crate has what this module names: a type of another file is one of THERE, and no trait that
-    can be derived is given by an impl, which tools/derive passes over and leaves to another file. What names
-    its own module by another path may be refused."""
+    """Whether the crate has what this module names: a type of another file is one of THERE, no function of another
+    module is called, and no trait that can be derived is given by an impl, which tools/derive passes over and leaves to
+    another file. What names its own module by another path may be refused."""
     file = read(source)
     homes = Homes(CRATE, path, file, laws_of)
     try:
@@ -29,7 +29,8 @@ def is_complete(source: str, path: str) -> bool:
         return False
     there = {(homes.specs(CRATE, path.split("::")), name) for path, names in THERE.items() for name in names}
     foreign = {declared for declared in homes.declared.values() if declared[0] != homes.here}
-    return foreign <= there and not DERIVES & {trait for trait, _ in file.impls}
+    calls = any(field.maker or field.tester for item in file.items for field in item.fields())
+    return foreign <= there and not calls and not DERIVES & {trait for trait, _ in file.impls}
 
 
 def written(source: str, path: str) -> str:

@@ -92,13 +92,19 @@ class Maker:
         value has a content."""
         if variant.data.style == "Unit" and "content" in item.serde and chance() < 0.3:
             return item.wire, ((item.serde["content"], pick([UNIT, NONE, number("u8"), ("str", text())])),)
+        if not variant.read:
+            return item.wire, ()
+        if "content" in item.serde and variant.data.style != "Unit":
+            return item.wire, ((item.serde["content"], self.content(variant)),)
         if variant.data.style in ("Unit", "Struct"):
             return item.wire, self.fields(variant.data)
-        kind = variant.data.fields[0].type
-        if "content" in item.serde:
-            return item.wire, ((item.serde["content"], self.value(kind)),)
-        inner = self.shapes[own(kind)]
+        inner = self.shapes[own(variant.data.fields[0].type)]
         return inner.wire, self.fields(inner.data)
+
+    def content(self, variant):
+        """The content of a variant."""
+        sort, held = self.data(variant.data)
+        return held if sort == "NewType" else ("tuple", held) if sort == "Tuple" else ("struct", variant.wire, (sort, held))
 
     def data(self, data):
         """What a struct or a variant holds."""
@@ -107,7 +113,7 @@ class Maker:
         if data.style == "Newtype":
             return "NewType", self.value(data.fields[0].type)
         if data.style == "Tuple":
-            return "Tuple", tuple(self.value(field.type) for field in data.fields)
+            return "Tuple", tuple(self.value(field.type) for field in data.fields if field.read)
         return "Fields", self.fields(data)
 
     def fields(self, data):

@@ -19,9 +19,18 @@ class Enums(Structs):
             return self.struct(item, source)
         if "untagged" in item.serde:
             return self.untagged(item, source)
-        if "content" in item.serde:
-            return self.adjacent(item, source)
-        return self.internal(item, source) if "tag" in item.serde else self.external(item, source)
+        if "tag" not in item.serde:
+            return self.external(item, source)
+        value = self.adjacent(item, source) if "content" in item.serde else self.internal(item, source)
+        name = dict(value[2][1])[item.serde["tag"]][1]
+        self.check_sent(item, next(variant for variant in item.variants if variant.wire == name))
+        return value
+
+    @staticmethod
+    def check_sent(item, variant):
+        """Refuses a variant that isn't sent."""
+        if not variant.sent:
+            raise Refused(f"the enum variant {item.name}::{variant.name} cannot be serialized")
 
     def variant_of(self, item, source):
         """The variant that a tag names, with its index."""
@@ -41,8 +50,7 @@ class Enums(Structs):
         tag, data = self.opened(item, source)
         index, variant = self.variant_of(item, source.of(tag))
         held = self.data(item, variant, source, data)
-        if not variant.sent:
-            raise Refused(f"the enum variant {item.name}::{variant.name} cannot be serialized")
+        self.check_sent(item, variant)
         return "enum", item.wire, index, variant.wire, held
 
     def opened(self, item, source):
@@ -101,11 +109,9 @@ class Enums(Structs):
         items = self.held(source, data, "seq", "Tuple")
         if items is None:
             raise self.wrong_data(item, variant, source, data)
-        kinds = [field.type for field in variant.data.fields]
         expecting = f"tuple variant {item.name}::{variant.name}"
         self.check_empty(source, items, expecting)
-        return "Tuple", self.parts(kinds, source, items, f"{expecting} with {counted(len(kinds))}",
-                                   "fewer elements in array")
+        return "Tuple", self.values(variant.data.fields, source, items, expecting, "fewer elements in array")
 
     def check_empty(self, source, items, expecting):
         """Refuses an empty sequence of a variant's data in a buffer, in Serde's words."""
@@ -292,17 +298,40 @@ class Enums(Structs):
     def content(self, item, variant, source):
         """A variant by what its content is read from."""
         if variant.data.style != "Unit":
-            value = self.read(variant.data.fields[0].type, source)
+            readers = {"Newtype": self.one_content, "Tuple": self.tuple_content, "Struct": self.struct_content}
+            value = readers[variant.data.style](item, variant, source)
             return tagged(item.wire, variant, item.serde["tag"], (item.serde["content"], value))
         if UNIT_CONTENT not in self.on and seen(source.tree) not in (UNIT, NONE):
             raise Refused(f"invalid type: {visited(source.tree)}, expected unit variant {item.name}::{variant.name}")
         return tagged(item.wire, variant, item.serde["tag"])
+
+    def one_content(self, _, variant, source):
+        """The content of a variant around one value."""
+        return self.read(variant.data.fields[0].type, source)
+
+    def tuple_content(self, item, variant, source):
+        """The content of a variant of values by place."""
+        tree, kinds = self.seen(source), [field.type for field in variant.data.fields]
+        expecting = f"tuple variant {item.name}::{variant.name}"
+        if tree[0] not in ("seq", "tuple"):
+            raise self.wrong(source, f"a tuple with {len(kinds)} elements", expecting)
+        return "tuple", self.parts(kinds, source, tree[1], f"{expecting} with {counted(len(kinds))}")
+
+    def struct_content(self, item, variant, source):
+        """The content of a variant of values by name, which Serde reads as it is found."""
+        tree = seen(source.tree)
+        if tree[0] != "map" and TEXTS not in self.on:
+            raise Refused(f"invalid type: {visited(source.tree)}, expected struct variant {item.name}::{variant.name}")
+        entries = self.entries(variant, source, "")
+        return "struct", variant.wire, ("Fields", self.fields(variant.data.fields, source, entries, variant.data.closed))
 
     def no_content(self, item, variant):
         """A variant without content."""
         tag, content = item.serde["tag"], item.serde["content"]
         if variant.data.style == "Unit":
             return tagged(item.wire, variant, tag)
+        if variant.data.several:
+            raise Refused(f"missing field `{content}`")
         return tagged(item.wire, variant, tag, (content, self.missing(replace(variant.data.fields[0], wire=content, known=content))))
 
     # Untagged.

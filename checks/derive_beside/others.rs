@@ -165,6 +165,24 @@ pub enum Reply {
     Wide(u128),
     Nested(Command),
     Both((u8, char)),
+    Two(u8, Option<String>),
+    Four(i16, char, Vec<u8>, Kind),
+    Named {
+        row: u8,
+        maybe: Option<char>,
+        #[serde(default, skip_serializing_if = "String::is_empty")]
+        text: String,
+    },
+    Alone { whole: Plain },
+}
+
+/// The same with no other fields.
+#[derive(Serialize, Deserialize)]
+#[serde(tag = "t", content = "c", deny_unknown_fields)]
+pub enum Confined {
+    Empty,
+    Pair(bool, u16),
+    Named { x: u8, y: Option<i32> },
 }
 
 /// Flattened into `Middle`.
@@ -569,4 +587,114 @@ pub struct Beside {
     pub before: u8,
     #[serde(flatten)]
     pub twin: Twin<i16>,
+}
+
+fn five() -> u8 {
+    5
+}
+
+/// Fields that are sent alone, read alone, or neither.
+#[derive(Serialize, Deserialize)]
+pub struct Account {
+    pub id: u16,
+    #[serde(skip)]
+    pub cached: Vec<u8>,
+    #[serde(skip_serializing)]
+    pub secret: String,
+    #[serde(skip_deserializing)]
+    pub version: Option<u8>,
+    #[serde(skip_deserializing, default = "five")]
+    pub uses: u8,
+    #[serde(skip_serializing, default)]
+    pub level: Level,
+    #[serde(skip_deserializing)]
+    pub size: Size,
+}
+
+/// The same with no other fields, and names that stand twice but for what is skipped.
+#[derive(Serialize, Deserialize)]
+#[serde(deny_unknown_fields, rename_all = "camelCase")]
+pub struct Narrow {
+    #[serde(skip)]
+    pub row_key: u8,
+    #[serde(rename = "rowKey")]
+    pub other_key: u8,
+    #[serde(skip_serializing, rename = "both")]
+    pub read: i16,
+    #[serde(skip_deserializing, rename = "both")]
+    pub told: String,
+}
+
+/// The same among flattened fields.
+#[derive(Serialize, Deserialize)]
+pub struct Enclosing {
+    pub first: u8,
+    #[serde(flatten)]
+    pub account: Account,
+    #[serde(skip)]
+    pub last: String,
+}
+
+/// The same by place.
+#[derive(Serialize, Deserialize)]
+pub struct OneWay(pub u8, #[serde(skip_serializing)] pub String, pub i16);
+
+/// Variants that are sent alone, read alone, or neither, and such fields in variants.
+#[derive(Serialize, Deserialize)]
+pub enum Notice {
+    Opened(u8),
+    #[serde(skip)]
+    Line(String),
+    #[serde(skip_serializing)]
+    Old {
+        id: u8,
+    },
+    #[serde(skip_deserializing)]
+    Closed,
+    Held {
+        x: u8,
+        #[serde(skip)]
+        y: String,
+        #[serde(skip_serializing)]
+        z: i16,
+        #[serde(skip_deserializing, default = "five")]
+        w: u8,
+    },
+    Pair(u8, #[serde(skip_serializing)] String),
+}
+
+/// The same next to a tag.
+#[derive(Serialize, Deserialize)]
+#[serde(tag = "type", rename_all = "snake_case")]
+pub enum Alert {
+    Opened {
+        x: u8,
+        #[serde(skip_deserializing)]
+        y: i16,
+        #[serde(skip)]
+        z: Vec<u8>,
+    },
+    #[serde(skip)]
+    Line(String),
+    #[serde(skip_serializing)]
+    Old,
+    #[serde(skip_deserializing)]
+    Closed {
+        id: u8,
+    },
+    Whole(Account),
+}
+
+/// The same next to a value.
+#[derive(Serialize, Deserialize)]
+#[serde(tag = "type", content = "value")]
+pub enum Remark {
+    #[serde(skip_deserializing)]
+    Closed(u8),
+    Opened(u8),
+    #[serde(skip_serializing)]
+    Old(String),
+    #[serde(skip)]
+    Line(u8, u8),
+    Nothing,
 }

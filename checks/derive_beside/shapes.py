@@ -22,7 +22,8 @@ def shapes_of(files):
     for file in files:
         declared = read(Path(file).read_text(encoding="utf-8"))
         for item in declared.items:
-            declared.functions.units[item.name] = [variant.name for variant in item.variants if variant.data.style == "Unit"]
+            declared.functions.variants[item.name] = {
+                variant.name: [field.type for field in variant.data.fields] for variant in item.variants}
         for item in declared.items:
             its_own = [field for field in item.fields() if "default" in field.serde]
             for refused in name_item(item, declared.functions):

@@ -40,13 +40,19 @@ class Structs(Leaves):
 
     def tuple_struct(self, item, source):
         """A struct of values by place."""
-        tree, kinds = self.seen(source), [field.type for field in item.data.fields]
+        tree = self.seen(source)
         if tree[0] == "struct" and tree[2][0] == "Tuple":
             tree = seen(tree)
         if tree[0] != "seq":
             raise self.wrong(source, f"a tuple struct named {item.wire}", f"tuple struct {item.name}")
-        expecting = f"tuple struct {item.name} with {counted(len(kinds))}"
-        return "Tuple", self.parts(kinds, source, tree[1], expecting)
+        return "Tuple", self.values(item.data.fields, source, tree[1], f"tuple struct {item.name}")
+
+    def values(self, fields, source, items, expecting, too_many=None):
+        """Those of the values of fields by place that are sent again; a field that isn't read has its default."""
+        kinds = [field.type for field in fields if field.read]
+        read = iter(self.parts(kinds, source, items, f"{expecting} with {counted(len(kinds))}", too_many))
+        values = [next(read) if field.read else self.default_of(field) for field in fields]
+        return tuple(value for field, value in zip(fields, values) if field.sent)
 
     def named(self, item, data, source, expecting):
         """The fields of a struct by name, each with its value."""
@@ -92,7 +98,7 @@ class Structs(Leaves):
                 raise Refused(f"duplicate field `{name}`")
             if name is not None:
                 values[name] = self.read(kind_of(fields, name), source.of(tree))
-        return sent(fields, [(field.known, values[field.known] if field.known in values else self.missing(field))
+        return sent(fields, [(field.known, values[field.known] if field.read and field.known in values else self.missing(field))
                              for field in fields])
 
     def field_name(self, fields, source, closed, before):
@@ -261,20 +267,20 @@ class Structs(Leaves):
         if source.buffer and key[0] == "num" and key[1] in ("u8", "u64"):
             return None
         name = self.name(source, [], "field")
-        return name if name in [field.wire for field in its_own] else None
+        return name if name in [field.wire for field in its_own if field.read] else None
 
     def with_flat(self, item, source, values, left):
         """All fields in order, those of others out of what is left."""
         every = []
         for field in item.data.fields:
             if "flatten" not in field.serde:
-                every.append((field.wire, values[field.wire]))
+                every += sent([field], [(field.wire, values[field.wire])])
                 continue
             inner = self.shapes[own(field.type)]
             if inner.flattens():
                 every += self.collected(inner, source.buffered("kept"), left)
                 continue
-            names = [leaf.wire for leaf in inner.data.fields]
+            names = [leaf.wire for leaf in inner.data.fields if leaf.read]
             taken = [entry for entry in left if self.text_of(entry[0]) in names]
             left = [entry for entry in left if entry not in taken]
             every += self.fields(inner.data.fields, source.buffered("moved"), taken, inner.data.closed)
@@ -291,7 +297,7 @@ class Structs(Leaves):
 
 def kind_of(fields, name):
     """The type of the field of this name."""
-    return next(field.type for field in fields if field.known == name)
+    return next(field.type for field in fields if field.read and field.known == name)
 
 
 def place_of(entries, name):

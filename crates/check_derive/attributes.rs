@@ -106,7 +106,7 @@ fn first() -> u8 {
     1
 }
 
-/// A task, of which some fields have further names.
+/// A task, of which some fields have further names, and others are sent alone, read alone, or neither.
 #[derive(PartialEq, Eq, Serialize, Deserialize)]
 pub struct Task {
     /// What is done first.
@@ -118,8 +118,15 @@ pub struct Task {
     /// How often it is done.
     #[serde(alias = "count", default = "first")]
     pub times: u8,
-    /// Whether it is done at all.
-    pub wanted: Option<bool>,
+    /// What it says inside.
+    #[serde(skip)]
+    pub notes: Vec<u8>,
+    /// Who may see it.
+    #[serde(skip_serializing)]
+    pub secret: String,
+    /// How often it was done.
+    #[serde(skip_deserializing, default = "first")]
+    pub done: u8,
 }
 
 /// A label, which is sent by other names than it is read by.
@@ -144,4 +151,7 @@ pub enum Way {
     Up,
     /// Downwards, so far.
     Down(u8),
+    /// Nowhere, which is neither sent nor read.
+    #[serde(skip)]
+    Lost(u8),
 }

@@ -1,7 +1,7 @@
 //! Types of every sort and size.
 
 use serde::{Deserialize, Serialize};
-use std::collections::BTreeMap;
+use std::collections::BTreeSet;
 
 #[derive(PartialEq, Eq, Serialize, Deserialize)]
 pub struct Own { pub a: u8, pub b: String }
@@ -20,7 +20,7 @@ pub struct StructByte9 { pub f0: u8, pub f1: u8, pub f2: u8, pub f3: u8, pub f4:
 
 #[derive(Serialize, Deserialize)]
 #[serde(deny_unknown_fields)]
-pub struct SkippedClosed6 { #[serde(skip_serializing_if = "Option::is_none")] pub f0: Option<String>, #[serde(default, skip_serializing_if = "Vec::is_empty")] pub f1: Vec<u8>, #[serde(default, skip_serializing_if = "String::is_empty")] pub f2: String, #[serde(default, skip_serializing_if = "BTreeMap::is_empty")] pub f3: BTreeMap<String, u8>, pub f4: i32, pub f5: u8 }
+pub struct SkippedClosed6 { #[serde(skip_serializing_if = "Option::is_none")] pub f0: Option<String>, #[serde(default, skip_serializing_if = "Vec::is_empty")] pub f1: Vec<u8>, #[serde(default, skip_serializing_if = "String::is_empty")] pub f2: String, #[serde(default, skip_serializing_if = "BTreeSet::is_empty")] pub f3: BTreeSet<String>, pub f4: i32, pub f5: u8 }
 
 #[derive(Serialize)]
 pub struct Sent20 { pub f0: String, pub f1: u8, pub f2: Option<u8>, pub f3: bool, pub f4: i32, pub f5: Vec<u8>, pub f6: char, pub f7: u64, pub f8: String, pub f9: u8, pub f10: Option<u8>, pub f11: bool, pub f12: i32, pub f13: Vec<u8>, pub f14: char, pub f15: u64, pub f16: String, pub f17: u8, pub f18: Option<u8>, pub f19: bool }
@@ -32,11 +32,8 @@ pub struct Read12 { pub f0: String, pub f1: u8, pub f2: Option<u8>, pub f3: bool
 pub struct PlaceMixed9(pub String, pub u8, pub Option<u8>, pub bool, pub i32, pub Vec<u8>, pub char, pub u64, pub String);
 
 #[derive(PartialEq, Eq, Serialize, Deserialize)]
-pub enum ExternalMixed4 { V0, V1(String), V2(u8, bool), V3 { f0: i32, f1: u8, f2: String } }
-
-#[derive(PartialEq, Eq, Serialize, Deserialize)]
-#[serde(tag = "kind")]
-pub enum InternalMixed2 { V0, V1 }
+#[serde(tag = "kind", content = "of")]
+pub enum AdjacentMixed4 { V0, V1(String), V2(u8, bool), V3 { f0: i32, f1: u8, f2: String } }
 
 #[derive(PartialEq, Eq, Serialize, Deserialize)]
 #[serde(untagged)]

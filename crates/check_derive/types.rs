@@ -1,7 +1,7 @@
 //! What a shop sends.
 
 use serde::{Deserialize, Serialize};
-use std::collections::BTreeMap;
+use std::collections::HashMap;
 
 /// Where a parcel goes.
 #[derive(Debug, PartialEq, Eq, Serialize, Deserialize)]
@@ -46,7 +46,7 @@ pub struct Order {
     #[serde(default)]
     pub steps: Vec<Step>,
     /// How many of what.
-    pub goods: BTreeMap<String, u32>,
+    pub goods: HashMap<String, u32>,
     /// Width, height and depth.
     pub size: (u16, u16, u16),
     /// A word to the driver.

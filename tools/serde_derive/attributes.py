@@ -7,18 +7,18 @@ from .cases import CASES
 from .declarations import NotRust, Refused
 from .tokens import Cursor, text_of
 
+SKIP = {"skip", "skip_serializing", "skip_deserializing"}
 COVERED = {
     "a container": {"rename", "rename_all", "rename_all_fields", "deny_unknown_fields", "untagged",
                     "tag", "content", "transparent", "default"},
-    "a variant": {"rename", "rename_all", "alias", "other"},
-    "a field": {"rename", "alias", "default", "flatten", "skip_serializing_if"},
+    "a variant": {"rename", "rename_all", "alias", "other", *SKIP},
+    "a field": {"rename", "alias", "default", "flatten", "skip_serializing_if", *SKIP},
 }
 # why others of Serde's attributes are not covered, and what to write instead
 NOT_COVERED = {
     **dict.fromkeys(["with", "serialize_with", "deserialize_with"], "a function of your own has no contract here: hold a"
                     " struct around the value, and write its impls by hand"),
     **dict.fromkeys(["from", "try_from", "into"], "a conversion has no contract here: write the impls by hand"),
-    **dict.fromkeys(["skip", "skip_serializing", "skip_deserializing"], "write the impls by hand"),
     **dict.fromkeys(["remote", "getter"], "only your own types are sent: declare one like it, and convert it by hand"),
     "bound": "each impl has the bounds that it needs: delete it",
     "borrow": "values are owned: delete it",
@@ -39,7 +39,7 @@ DROPPED = {"repr", "non_exhaustive", "must_use", "deprecated"}
 @dataclass
 class Head:
     """What stands before a declaration: the lines that are kept, derives, the names that these begin with, Serde's
-    attributes, what is refused where the declaration is covered otherwise, and notes."""
+    attributes, what is refused where the declaration is covered otherwise, and notes; under a condition it is `optional`."""
 
     lines: List[str] = field(default_factory=list)
     derives: List[str] = field(default_factory=list)
@@ -47,6 +47,7 @@ class Head:
     serde: Dict[str, str] = field(default_factory=dict)
     refused: List[Refused] = field(default_factory=list)
     notes: List[Tuple[int, str]] = field(default_factory=list)
+    optional: bool = False
 
 
 # signs that Rattle takes in no comment: controls, directions, separators of lines, and halves of signs
@@ -118,18 +119,24 @@ class Attributes(Cursor):
         head.derived.add(path[0])
         ours = len(path) == 1 or path[0] in CRATES
         name = path[-1] if ours else "::".join(path)
-        if name not in DERIVES:
+        if name not in DERIVES and head.optional:
+            head.notes.append((self.next.line, f"left out: `derive({name})`, as no rule of Rattle writes it"))
+        elif name not in DERIVES:
             head.refused.append(Refused(self.next.line, no_rule(name)))
         elif name not in head.derives:
             head.derives.append(name)
 
     def conditional(self, level: str, head: Head) -> None:
-        """Attributes under a condition, which is taken to hold."""
+        """Attributes under a condition, which is taken to hold; what no derive of Rattle reads is left out."""
         head.notes.append((self.next.line, "read as if its condition held: `#[cfg_attr]`"))
         self.expect("(")
         self.pass_to(",")
         self.expect(",")
-        self.listed(")", lambda: self.attribute(level, head))
+        before, head.optional = head.optional, True
+        try:
+            self.listed(")", lambda: self.attribute(level, head))
+        finally:
+            head.optional = before
 
     def documentation(self, lines: List[str]) -> None:
         """`#[doc = ".."]` as lines of documentation; `#[doc(..)]` is passed over."""
@@ -145,7 +152,7 @@ class Attributes(Cursor):
         if name == "cfg":
             raise Refused(line, f"`#[{shown}]` is not covered, as the module is written once for all: delete it,"
                           " or move what it is about to a file of its own")
-        if name in DROPPED:
+        if name in DROPPED or (head.optional and name not in PASSED):
             head.notes.append((line, f"left out: `#[{shown}]`"))
         elif name not in PASSED:
             raise Refused(line, f"the attribute `{name}` is not covered, as no derive of Rattle reads it: delete it")

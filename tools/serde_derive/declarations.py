@@ -68,6 +68,13 @@ class Test(NamedTuple):
     alike: str
 
 
+class Value(NamedTuple):
+    """A value that is made: what contracts say of it, as `x`, and the code that makes a Result of it."""
+
+    fact: str
+    code: str
+
+
 @dataclass
 class Named:
     """What has a name, with the lines that stand before it and Serde's attributes; `wire` is the
@@ -98,7 +105,8 @@ class Named:
 class Field(Named):
     """A field; one by place has its place as its name. Where it may be missing, `missing` is what
     contracts say of what is read then, and `made` the code that makes a Result of it, where it isn't that of its type.
-    It `skips` where it isn't sent if it is empty, or passes a `test` of the user's.
+    It `skips` where it isn't sent if it is empty, or passes a `test` of the user's. `maker` and `tester` are the paths of
+    functions of the user's that are called for the one and the other.
     Where it is flattened, `inside` is what its type holds. In a type with arguments the field was declared with the type
     `origin`, whose parameters are `given` types."""
 
@@ -108,6 +116,8 @@ class Field(Named):
     made: str = ""
     skips: bool = False
     test: Optional[Test] = None
+    maker: str = ""
+    tester: str = ""
     inside: Optional["Data"] = None
     origin: Optional[Type] = None
     given: Dict[str, Type] = field(default_factory=dict)
@@ -177,6 +187,11 @@ class Data:
     @property
     def named(self) -> bool:
         return self.style == "Struct"
+
+    @property
+    def several(self) -> bool:
+        """Whether it has values by name, or several by place."""
+        return self.style in ("Struct", "Tuple")
 
     def leaves(self) -> List[Field]:
         """The fields; in the place of one that is flattened those inside it, named by their path."""
@@ -257,11 +272,16 @@ class Data:
 @dataclass
 class Variant(Named):
     """A variant of an enum. Where it holds a struct whose fields stand beside the tag, `beside` is
-    that struct. Its functions are called after its `owner`."""
+    that struct. Its functions are called after its `owner`, and those of what is in its content after `content`."""
 
     data: Data = field(default_factory=Data)
     beside: Optional["Item"] = None
     owner: str = ""
+    content: str = ""
+
+    def skips_a_place(self) -> bool:
+        """Whether it is sent or read without one of several values by place."""
+        return (self.sent or self.read) and self.data.style == "Tuple" and not all(f.sent and f.read for f in self.data.fields)
 
     def signed(self) -> bool:
         return any(f.type.name in SIGNED for f in self.data.fields)
@@ -281,8 +301,9 @@ class Item(Named):
     """A struct or an enum, with the traits that it derives. Its functions are called after its
     `owner`, and contracts know an enum's variants by `cases`. `levels` is how deep what is flattened
     stands; what is not `covered` is not written. It `defaults` where its declaration derives Default,
-    and `absent` says that Absent is written, for a field that is read as that value where it is missing.
-    One with `parameters` may be `held_as` a type that has arguments in their place."""
+    and `absent` says that Absent is written, for a field that is read as that value where it is missing: this `absent_value`,
+    where it is given. It is `valued` where it has Absent, written here or by hand.
+    It borrows for its `lifetimes`. One with `parameters` may be `held_as` a type that has arguments in their place."""
 
     sort: str = "struct"
     visible: str = ""
@@ -295,12 +316,15 @@ class Item(Named):
     cases: str = ""
     defaults: bool = False
     absent: bool = False
+    absent_value: Optional[Value] = None
+    valued: bool = False
     parameters: List[str] = field(default_factory=list)
+    lifetimes: List[str] = field(default_factory=list)
     held_as: Optional[Type] = None
 
     def itself(self) -> Type:
         """Its type, of its parameters."""
-        return self.held_as or Type(self.name, tuple(map(parameter, self.parameters)))
+        return self.held_as or Type(self.name, tuple(map(parameter, self.parameters)), lifetimes=tuple(self.lifetimes))
 
     def at(self, t: Type) -> "Item":
         """The same with the arguments of this type."""
@@ -428,7 +452,7 @@ class Item(Named):
         kept = [d for d in self.derives if d not in ("Serialize", "Deserialize", "Drop")]
         derives = ", ".join(kept if "Copy" in kept else ["Drop"] + kept)
         lines = self.head + [f"#[derive({derives})]"]
-        start = f"{self.visible}{self.sort} {self.name}{angled(*self.parameters)}"
+        start = f"{self.visible}{self.sort} {self.name}{angled(*self.lifetimes, *self.parameters)}"
         if self.sort == "struct":
             return "\n".join(lines + [f"{start}{self.data.declared()}{'' if self.data.named else ';'}"])
         inside = [line for v in self.variants for line in v.head + [f"{v.name}{v.data.declared()},"]]

@@ -1,76 +1,48 @@
 """Which derives Rattle writes for what a type holds."""
-from typing import Dict, Iterator, List, Set
+from typing import Dict, Iterator
 
 from .attributes import CRATES, DEFAULT, SERDE, no_rule
 from .declarations import Item, Refused
+from .defaults import IN_MEMORY, by_type, lacking_absent
 from .files import File
 from .homes import placed
 from .tokens import ROOTS
-from .types import DEFAULTS, Type
+from .types import FLOATS, Type
 
 NEEDS = {"Copy": ["Clone"], "Eq": ["PartialEq"], "PartialOrd": ["PartialEq"], "Ord": ["Eq", "PartialOrd"], "Hash": ["Eq"]}
-IN_MEMORY = {"String", "Vec", "Box", "BTreeMap"}
+# derives that ask nothing of what a type holds
+NOT_INSIDE = {("Default", "Option"), ("Clone", "Rc"), ("Clone", "Arc")}
 PASSED = {"Drop", *SERDE}
 WHY = {
     "Copy": "which has memory of its own: delete Copy",
-    "Default": "which takes an allocator: delete Default, and write a `new(alloc)`",
 }
 
 
 def lacking(t: Type, trait: str, items: Dict[str, Item], file: File) -> Iterator[str]:
     """The types in a field's type that have no such trait."""
     mine = items.get(t.name)
-    replaced = trait == "Default" and mine and mine.defaults and trait not in mine.derives
-    if (t.name in IN_MEMORY and trait in WHY) or replaced:
+    if t.name in IN_MEMORY and trait in WHY:
         yield f"`derive({trait})` is not covered beside `{t.rust()}`, {WHY[trait]}"
     elif mine:
         if trait not in mine.derives and (trait, t.name) not in file.impls:
             yield f"`{t.name}` does not derive {trait}, as what holds it does: derive it there too"
         for argument in t.arguments:
             yield from lacking(argument, trait, items, file)
-    elif trait != "Default" or t.name != "Option":
+    elif (trait, t.name) not in NOT_INSIDE:
         for argument in t.arguments:
             yield from lacking(argument, trait, items, file)
 
 
-def takes_memory(t: Type, holding: Set[str]) -> bool:
-    """Whether the value of its Default takes an allocator; of this file's types those that hold such values do."""
-    return t.name in IN_MEMORY | holding or (t.name != "Option" and any(takes_memory(a, holding) for a in t.arguments))
-
-
-def settle_defaults(ordered: List[Item], items: Dict[str, Item], file: File) -> None:
-    """Settles of each item, after those that it holds, whether Absent is written, and whether in place of a Default that
-    would take an allocator. Where its fields are read as their defaults, a type of another file has to have Absent."""
-    valued, holding = set(DEFAULTS), set()
-    for item in ordered:
-        types = [f.type for f in item.data.fields]
-        elsewhere = {t.name for t in types if t.home and t.name not in items and "default" in item.serde}
-        if any(takes_memory(t, holding) for t in types):
-            holding.add(item.name)
-        if item.defaults and not item.serde.get("default") and {t.name for t in types} <= valued | elsewhere:
-            valued.add(item.name)
-            settle_default(item, item.name in holding, file)
-
-
-def settle_default(item: Item, takes: bool, file: File) -> None:
-    """Settles the same of an item whose Default is known, and takes an allocator or not."""
-    item.absent = takes or "Deserialize" in item.derives
-    if takes:
-        item.derives.remove("Default")
-        file.notes.append((item.line, f"written as `Absent`: `derive(Default)` on `{item.name}`, whose value takes an allocator"))
-
-
 def check_missing(item: Item, items: Dict[str, Item]) -> Iterator[Refused]:
-    """Refuses a field that may be missing, and is read, where there is no value for it."""
+    """Refuses a field that may be missing, or isn't read, where there is no value for it."""
     for where, f in placed(item) if "Deserialize" in item.derives else ():
-        mine = items.get(f.type.name)
-        if "default" not in f.serde or f.type.name in DEFAULTS or f.made:
-            continue
-        if not f.type.home:
-            yield Refused(f.line, "its default is not covered: hold a number, bool, String, Option, Vec, BTreeMap or a type"
-                          " of your own that derives Default", where)
-        elif mine and mine.covered and not mine.absent:
-            yield Refused(f.line, f"its default is not covered: `{f.type.name}` derives no Default, or holds what has none"
+        without = lacking_absent(f.type, items) if by_type(f) else ()
+        lacks = next((t for t in without if f.read or t.name not in FLOATS), None)
+        if lacks and not lacks.home:
+            yield Refused(f.line, "its default is not covered: hold a number, bool, char, String, PathBuf, Option, Vec, map, set,"
+                          " a tuple of these or a type of your own that derives Default", where)
+        elif lacks and items[lacks.name].covered:
+            yield Refused(f.line, f"its default is not covered: `{lacks.name}` derives no Default, or holds what has none"
                           " here: hold an Option", where)
 
 

@@ -6,6 +6,7 @@ from .cases import pascal
 from .declarations import Data, Item, Variant
 from .holder import Holder
 from .literals import ROWS_OPENED, list_impl, list_term, name_method, name_term, opened
+from .structs import made_absent
 from .text import ABSENT, DESERIALIZE, KNOWN, REFUSED_NULL, SERIALIZE, all_hold, arm, bare, bracketed, clause
 from .text import codes, elim, facts, function, ghost, together
 from .types import READ, Type, angled, bounded, in_term
@@ -91,7 +92,7 @@ class EnumWriter:
         places = v.data.places()
         given = "".join(f", {p}: &{f.type.rust()}" for p, f in zip(places, v.data.fields))
         value = " ".join([f"{self.cases}.{in_term(v.name)}"] + [f"{in_term(p)}.now" for p in places])
-        bounds = angled("S: Serializer", *bounded(self.item.parameters, "Serialize"))
+        bounds = angled(*self.item.lifetimes, "S: Serializer", *bounded(self.item.parameters, "Serialize"))
         return [f"/// Sends that variant.\nfn {self.whole_name(v)}{bounds}(alloc: Global, serializer: &mut S,"
                 f" whole: &{self.whole}{given}) -> Result<()>\n"
                 + clause("requires", f"whole.now ≡ {value}")
@@ -125,14 +126,16 @@ class EnumWriter:
         places, held = holder.data.places(), v.beside
         if held:
             made = held.data.made(held.name, places)
-            making = f"{holder.maker_name()}(row)" if holder.big else made
+            making = f"{holder.maker_name()}({', '.join(holder.read_places())})" if holder.big else made
             whole = v.data.fields[0].type
             return holder.maker(whole, made, held.data.term) + holder.read_function(
                 making, whole, [f"z.{in_term(f.name)}" for f in holder.fields])
         types = tuple(f.type for f in v.data.fields)
         values = [f"z.{i}" for i in range(len(types))] if len(types) > 1 else ["z"]
         result = Type("tuple", types) if len(types) != 1 else types[0]
-        return holder.read_function(together(places), result, values) * (not holder.big)
+        if holder.big:
+            return holder.apart_reader() if holder.unread() else []
+        return holder.read_function(together(places), result, values)
 
     def maker(self, v: Variant, holder: Holder) -> List[str]:
         """The function that makes a variant of signed numbers, or of more values than a row has room for."""
@@ -156,22 +159,30 @@ class EnumWriter:
 
     def absent(self) -> List[str]:
         """What is read where a field of this type is missing."""
+        if self.item.absent_value:
+            return made_absent(self.item)
         marked = next(v for v in self.item.variants if DEFAULT in v.head)
         return [ghost("is_absent", f"λ x. x ≡ {self.cases}.{in_term(marked.name)}"),
                 function(ABSENT.format(self.whole), f"{self.item.name}::{marked.name}")]
 
     def serialize(self) -> List[str]:
-        sent = [arm(self.made(v, v.data.places()), self.send_variant(v, h)) if v.sent else
-                arm(self.made(v, ["_"] * len(v.data.fields)), [f'Err(Error::custom(alloc, "{self.unsent(v)}"))'])
+        sent = [arm(self.made(v, v.data.places()), self.send_variant(v, h)) if v.sent else self.refusing(v)
                 for v, h in self.variants]
-        return [ghost("script", self.each(lambda v, holder, x: holder.script(x) if v.sent else
-                                          f"unsent_script {codes(self.unsent(v))}")),
+        return [ghost("script", self.each(lambda v, holder, x: holder.script(x) if v.sent else self.unsent_script(v))),
                 ghost("lawful", self.lawful()),
                 function(SERIALIZE, *self.match(sent))]
 
     def lawful(self) -> str:
         """The law that each value's script is lawful."""
         return self.each(lambda v, holder, x: "λ readable. " + (holder.lawful(x) if v.sent else "unsent_lawful _"))
+
+    def refusing(self, v: Variant) -> str:
+        """The arm that refuses a variant that isn't sent."""
+        return arm(self.made(v, ["_"] * len(v.data.fields)), [f'refuse_unsent(alloc, serializer, "{self.unsent(v)}")'])
+
+    def unsent_script(self, v: Variant) -> str:
+        """What it is sent as: a stop."""
+        return f"unsent_script {codes(self.unsent(v))}"
 
     def unsent(self, v: Variant) -> str:
         """What a variant that isn't sent is refused with."""
@@ -218,7 +229,7 @@ class EnumWriter:
 
     def looking(self) -> str:
         """What lets the proof of reading a variant look into rows: where one of signed numbers may lack a field."""
-        return f"{ROWS_OPENED}\n" * any(v.signed() and any(f.missing for f in holder.fields) for v, holder in self.variants)
+        return f"{ROWS_OPENED}\n" * any(v.signed() and any(f.missing for f in holder.reading.fields) for v, holder in self.readable())
 
     variants_trait = "Variants<'de>"
 
@@ -243,10 +254,11 @@ class EnumWriter:
 
     def round_trip(self) -> List[str]:
         known = []
-        for v, holder in self.variants:
+        for v, _ in self.variants:
             places = [p if f in v.data.asked() else "_" for f, p in zip(v.data.fields, v.data.places())]
-            known.append(arm(self.made(v, places), [f"{leaf.lstrip('&')}.known();" for f, leaf in zip(
-                holder.fields, self.sent(v)) if f in holder.data.asked()]))
+            fields = v.beside.data.fields if v.beside else v.data.fields
+            known.append(arm(self.made(v, places), [f"{leaf.lstrip('&')}.known();" for f, leaf in zip(fields, self.sent(v))
+                                                    if not f.plain]))
         looks = self.item.asked()
         return [ghost("exists", self.each(lambda v, holder, x: holder.exists(x)))] * looks + [
             function(KNOWN, *self.match(known) * looks),

@@ -2,26 +2,20 @@
 value, and which value one tests for."""
 import re
 from dataclasses import dataclass, field
-from typing import Dict, Iterator, List, NamedTuple, Optional, Tuple
+from typing import Dict, Iterator, List, Optional, Tuple
 
-from .declarations import Test
+from .declarations import Test, Value, absent_of
 from .literals import name_call, name_term
 from .tokens import Token, text_of
-from .types import DEFAULTS, NUMBERS, SIGNED, Type
+from .types import DEFAULTS, FLOATS, NUMBERS, SIGNED, Type
 
 # what makes the value that `Absent` gives, of any type, and of one that is named
 EMPTIES = r"(?:(?:std|core)::default::)?Default::default\(\)|(?:\w+::)*{}::default\(\)"
-MADE_EMPTY = {"Option": r"|None", "Vec": r"|vec!\[\]|Vec::new\(\)", "String": r"|String::new\(\)", "BTreeMap": r"|BTreeMap::new\(\)"}
+MADE_EMPTY = {"Option": r"|None", "Vec": r"|vec!\[\]|Vec::new\(\)", **{name: rf"|{name}::new\(\)" for name in (
+    "String", "PathBuf", "BTreeMap", "BTreeSet", "HashMap", "HashSet", "VecDeque")}}
 MOST_NAMED = 16  # how often a constant may name another
 NOT = re.compile(r"(?:(?:std|core)::ops::)?Not::not|bool::not")
 CASES = "\x04{}\x05"  # stands for what contracts call the cases of an enum, which are named later
-
-
-class Value(NamedTuple):
-    """A value that is made: what contracts say of it, as `x`, and the code that makes a Result of it."""
-
-    fact: str
-    code: str
 
 
 # the values that `Absent` gives
@@ -39,11 +33,11 @@ class Function:
 
 @dataclass
 class Functions:
-    """The functions and constants of a file by their paths, and the enums' variants without values."""
+    """The functions and constants of a file by their paths, and the types of the values by place of the enums' variants."""
 
     named: Dict[str, Function] = field(default_factory=dict)
     constants: Dict[str, List[Token]] = field(default_factory=dict)
-    units: Dict[str, List[str]] = field(default_factory=dict)
+    variants: Dict[str, Dict[str, List[Type]]] = field(default_factory=dict)
 
     def collect(self, tokens: List[Token], pairs: Dict[int, int], place: int, end: int, owner: str = "") -> None:
         """Takes in what stands between two places."""
@@ -76,7 +70,7 @@ class Functions:
         opened = self.to(tokens, pairs, place, body, "(")
         if opened < body and tokens[body].text == "{":
             parameters = [token.text for token, after in zip(tokens[opened:pairs[opened]], tokens[opened + 1:pairs[opened] + 1])
-                          if after.text == ":" and token.sort == "name"]
+                          if token.sort == "name" and (after.text == ":" or (token.text == "self" and after.text in ",)"))]
             path = owner + tokens[place + 1].text
             twice = path in self.named
             self.named[path] = Function(owner[:-2], parameters, tokens[body + 1:pairs[body]] * (not twice))
@@ -94,6 +88,20 @@ class Functions:
         if t.name in DEFAULTS and re.fullmatch(EMPTIES.format(t.name) + MADE_EMPTY.get(t.name, ""), text):
             return EMPTY[t.name]
         return None
+
+    @classmethod
+    def initial(cls, t: Type) -> Optional[Value]:
+        """The value of its Default, where that is no memory, and none that `Absent` gives."""
+        if t.name in FLOATS:
+            return Value(f"{t.member('Default', 'is_default')} x", "Ok(Default::default())")
+        if t.name != "tuple":
+            return {"char": Value("x ≡ 0", "Ok('\\0')"), "()": Value("x ≡ tt", "Ok(())")}.get(t.name)
+        facts, codes = [], []
+        for place, one in enumerate(t.arguments):
+            value = cls.initial(one) or Value(absent_of(one), "Ok(Absent::absent(alloc))")
+            facts.append(f"({said_of(value.fact, f'x.{place}')})")
+            codes.append(value.code[3:-1])
+        return Value(" × ".join(facts), f"Ok(({', '.join(codes)}{',' * (len(codes) == 1)}))")
 
     def fields_given(self, path: str) -> Dict[str, Tuple[List[Token], str]]:
         """By name what a function gives for the fields of a struct, where its body is one, each with the owner."""
@@ -124,7 +132,7 @@ class Functions:
             inner = self.value(tokens[2:-1], t.arguments[0], owner)
             told = inner and inner.fact.startswith("x ≡ ") and inner.code.startswith("Ok(")
             return Value(f"x ≡ Some ({inner.fact[4:]})", f"Ok(Some{inner.code[2:]})") if told else None
-        return self.variant(text, t, owner)
+        return self.variant(tokens, t, owner)
 
     def number(self, tokens: List[Token], t: Type) -> Optional[Value]:
         """A number, or a product of numbers, that fits the type."""
@@ -158,12 +166,22 @@ class Functions:
             return None
         return Value(f"string_bytes x ≡ {name_term(text)}", f"default_text(alloc, {name_call(text)})")
 
-    def variant(self, text: str, t: Type, owner: str) -> Optional[Value]:
-        """A variant without values of an enum of the file."""
-        of, _, name = text.rpartition("::")
-        if not t.arguments and name in self.units.get(t.name, ()) and (of == t.name or (of == "Self" and owner == t.name)):
-            return Value(f"x ≡ {CASES.format(t.name)}.{name}", f"Ok({t.name}::{name})")
-        return None
+    def variant(self, tokens: List[Token], t: Type, owner: str) -> Optional[Value]:
+        """A variant of an enum of the file, without values or with values by place that take no memory."""
+        found = re.fullmatch(r"(\w+)::(\w+)(\(.*\))?", "".join(token.text for token in tokens), re.S)
+        known, cases = self.variants.get(t.name, {}), CASES.format(t.name)
+        if t.arguments or not found or found[2] not in known or not (found[1] == t.name or (found[1] == "Self" and owner == t.name)):
+            return None
+        name, types, given = found[2], known[found[2]], list(divided(tokens[4:-1]))
+        if not types and not found[3]:
+            return Value(f"x ≡ {cases}.{name}", f"Ok({t.name}::{name})")
+        values = [self.value(part, one, owner) for part, one in zip(given, types)]
+        if not types or len(given) != len(types) or not all(value and value.code.startswith("Ok(") for value in values):
+            return None
+        facts = " × ".join(said_of(value.fact, f"x{place}") for place, value in enumerate(values, 1))
+        patterns = {one: " ".join([f"{cases}.{one}", *(f"x{i + 1}" for i in range(len(held)))]) for one, held in known.items()}
+        arms = " ".join(f"| {pattern} ↦ {facts if one == name else '⊥'}" for one, pattern in patterns.items())
+        return Value(f"elim x [ {arms} ]", f"Ok({t.name}::{name}({', '.join(value.code[3:-1] for value in values)}))")
 
     def tested(self, path: str, t: Type) -> Optional[Test]:
         """What a function tests, where its body compares its parameter with one value."""
@@ -177,9 +195,9 @@ class Functions:
             return bool_test(False)
         if t.name == "bool" and body == f"*{name}":
             return bool_test(True)
-        for start in ([name, "=", "="], ["*", name, "=", "="]):
+        for start, end in (([name, "=", "="], 0), (["*", name, "=", "="], 0), (["matches", "!", "(", name, ","], 1)):
             if [token.text for token in found.body[:len(start)]] == start:
-                rest = found.body[len(start):]
+                rest = found.body[len(start):len(found.body) - end]
                 return self.compared(rest[rest[0].text == "&":] if rest else rest, t, found.owner)
         return None
 
@@ -203,7 +221,15 @@ class Functions:
             text = value.fact[len("string_bytes x ≡ "):]
             return Test(f"(bytes_eq (string_bytes {{x}}) {text})", f"value.as_str() == {value.code[len('default_text(alloc, '):-1]}",
                         value.fact, f"text_alike {{x}} {text} e y a")
+        if t.name in self.variants and value.fact.startswith("x ≡ "):
+            eq, one = f"⟦<{t.name} as PartialEq>⟧.eq", value.fact[4:]
+            return Test(f"({eq} {{x}} {one})", f"*value == {value.code[3:-1]}", value.fact, f"equal_alike ({eq}) {{x}} {one} e y a")
         return None
+
+
+def said_of(fact: str, value: str) -> str:
+    """What contracts say of `x`, said of this value."""
+    return re.sub(r'"[^"]*"|\bx\b', lambda found: found[0] if found[0][0] == '"' else value, fact)
 
 
 def number_term(number: int, t: Type) -> str:

@@ -1,11 +1,14 @@
 """What is written of what a struct or a variant holds."""
+from copy import copy
+from dataclasses import replace
+from functools import cached_property
 from typing import Callable, Dict, List, NamedTuple, Optional, Tuple
 
 from .cases import pascal
 from .declarations import Data, Field
 from .literals import ROWS_OPENED, list_impl, list_term, name_call, name_method, name_term
 from .text import bare, clause, fields_reader, function, ghost, together
-from .types import ALIKE, LT_A, LT_DE, READ, TRIP, Type, angled, bounded, nest, snake
+from .types import ALIKE, LT_DE, LT_SENT, READ, STATIC, TRIP, Type, angled, bounded, in_term, nest, parameter, snake
 
 
 LONGEST_ROW = 8  # types of longer rows take the checker's memory
@@ -21,6 +24,11 @@ def row_of(values: List[str], last: str = "SendEnd") -> List[str]:
 def sending(opens: str, values: List[str], last: str = "SendEnd") -> List[str]:
     """The statements that send a compound: what opens it, its values, and what follows them."""
     return [*row_of(values, last), f"let row = SendOpen({opens}, row);", "send_row(alloc, serializer, &row)"]
+
+
+def plain(made: str) -> str:
+    """The code of a value, out of that of a Result of it."""
+    return made[3:-1] if made.startswith("Ok(") else f"{made}?" * bool(made)
 
 
 class Row(NamedTuple):
@@ -73,29 +81,57 @@ class Holder:
     most = 2  # as many values are sent without a function of their own
     read_by = "ReadStruct"
     by_key = BY_NAME
+    by_place = BY_PLACE
 
     def __init__(self, sort: str, names: list, data: Data, owner: str):
-        self.data, self.fields, self.count = data, data.fields, len(data.fields)
-        self.many = data.style in ("Struct", "Tuple")
+        self.of_variant, self.all = sort == "Variant", data.fields
+        self.hold(data, data.places())
         self.camel = "Struct" if data.named and sort == "Struct" else data.style + sort
         self.word = snake(self.camel)
         self.names = " ".join(str(n) if isinstance(n, int) else name_term(n) for n in names)
         written = [str(n) if isinstance(n, int) else name_call(n) for n in names + [self.sent_count()] * self.many]
         self.call = f"Call::{self.camel}({', '.join(written)})"
-        self.of_variant, self.wire = sort == "Variant", names[0] if names else ""
+        self.wire = names[0] if names else ""
         self.reader, self.owner = f"read_{owner}", pascal(owner)
         self.list = f"FieldsOf{self.owner}"
         self.names_known = [f.known for f in data.fields if f.read]
         self.names_sent = self.names_known
-        if any(f.sent and (f.wire != f.known or not f.read) for f in data.fields):
+        if data.named and any(f.sent and (f.wire != f.known or not f.read) for f in data.fields):
             self.names_sent = [f.wire for f in data.fields if f.sent]
         self.sent_list = self.list if self.names_sent is self.names_known else f"SentOf{self.owner}"
         self.before: List[str] = []
-        self.steps = data.steps() if self.many else 0
-        self.big = self.many and self.count > self.room()
         self.skips = any(f.skips for f in data.fields if f.sent)
         self.head = "" if self.of_variant else " " + self.names
         self.name = "" if self.of_variant else written[0]
+
+    def hold(self, data: Data, places: List[str]) -> None:
+        """Takes in the data, whose values code calls so."""
+        self.data, self.fields, self.count, self.places = data, data.fields, len(data.fields), places
+        self.many = data.several
+        self.steps = data.steps() if self.many else 0
+
+    @cached_property
+    def reading(self) -> "Holder":
+        """The same of the fields alone that are read."""
+        return self.part([f for f in self.fields if f.read])
+
+    @property
+    def big(self) -> bool:
+        """Whether it is read as a struct of its values."""
+        return self.many and self.reading.count > self.room()
+
+    def part(self, fields: List[Field]) -> "Holder":
+        """The same of some of its fields alone."""
+        if len(fields) == self.count:
+            return self
+        part = copy(self)
+        part.hold(replace(self.data, fields=fields), [place for f, place in zip(self.fields, self.places) if f in fields])
+        part.__dict__["reading"] = part
+        return part
+
+    def unread(self) -> List[Tuple[Field, str]]:
+        """The fields that aren't read, each with what code calls its value."""
+        return [(f, place) for f, place in zip(self.fields, self.places) if not f.read]
 
     def room(self) -> int:
         """How many values are read with no struct of them all."""
@@ -116,7 +152,7 @@ class Holder:
 
     def names_list(self) -> List[str]:
         """The types that stand for the names of its fields: one more where fields are sent that aren't read."""
-        known = self.data.named and self.names_known
+        known = self.data.named and (self.names_known or self.fields)
         lists = [list_impl(self.list, "The names of its fields.", self.names_known)] if known else []
         if self.aliases():
             lists.append(list_impl(self.alias_list, "Further names of its fields.", self.aliases()))
@@ -149,13 +185,15 @@ class Holder:
 
     def row_types(self) -> List[str]:
         """The declarations of what its values are read as."""
+        if self.reading is not self:
+            return self.reading.row_types()
         if not self.many or not self.fields:
             return []
         parts = [f"ReadPart<{self.count}, {place}" if not self.data.named else
                  f"{self.sort(f)}<{', '.join(self.read_by_names(f, place))}" for place, f in enumerate(self.fields)]
         rows = "".join(f"type {self.row_type(place)} = {part}{', ' * (part[-1] != '<')}{f.type.rust()}, {self.after(place + 1)}>;\n"
                        for place, (part, f) in enumerate(zip(parts, self.fields)) if place >= self.steps)
-        defaults = [self.default_impl(place) for place, f in enumerate(self.fields) if f.made]
+        defaults = [self.default_impl(f) for f in self.fields if f.made]
         return (defaults + [rows] + [self.run_read(start) for start in self.starts()]
                 + [text for place in range(self.steps) for text in [self.one_read(place)] * self.data.named + [self.step(place)]])
 
@@ -208,14 +246,14 @@ class Holder:
 
     def read_by_names(self, f: Field, place: int) -> List[str]:
         """The arguments of what a field is read as, but its type and what follows it."""
-        arguments = [self.list, str(self.index(f))] if f.read else []
+        arguments = [self.list, str(self.index(f))]
         if f.aliases():
             names = "NoName"
             for alias in reversed(f.aliases()):
                 names = f"NameAt<{self.alias_list}, {self.aliases().index(alias)}, {names}>"
             arguments.append(f"NameAt<{self.list}, {self.index(f)}, {names}>")
         if f.made:
-            arguments.append(self.default_of(place))
+            arguments.append(self.default_of(f))
         elif f.aliases() and f.missing:
             arguments.append("OfType")
         return arguments
@@ -225,30 +263,29 @@ class Holder:
         """What a field is read as."""
         if f.aliases():
             return "ReadAliasedElse" if f.missing else "ReadAliased"
-        if not f.read:
-            return "ReadMade" if f.made else "ReadAbsent"
         return "ReadFieldElse" if f.made else f"ReadField{'Or' * bool(f.missing)}"
 
-    def default_of(self, place: int) -> str:
-        """The type that stands for what is read where the field at a place is missing."""
-        return f"Default{place + 1}Of{self.owner}"
+    def default_of(self, f: Field) -> str:
+        """The type that stands for what is read where a field is missing."""
+        return f"Default{self.all.index(f) + 1}Of{self.owner}"
 
-    def default_impl(self, place: int) -> str:
+    def default_impl(self, f: Field) -> str:
         """That type, which makes such a value."""
-        f, owner = self.fields[place], self.default_of(place)
+        owner = self.default_of(f)
         make = function(f"fn make(alloc: Global) -> Result<{f.type.rust()}>", f.made)
         return (f"/// What is read where the field `{f.known}` is missing.\n#[derive(Drop)]\nstruct {owner};\n\n"
                 f"impl DefaultOf<{f.type.rust()}> for {owner} {{\n{ghost('is_default', f'λ x. {f.missing}')}\n\n{make}\n}}\n")
 
     def test_of(self, f: Field) -> str:
         """The type that stands for the test by which a field is left out."""
-        return f"Unless{self.fields.index(f) + 1}Of{self.owner}"
+        return f"Unless{self.all.index(f) + 1}Of{self.owner}"
 
     def test_impl(self, f: Field) -> str:
         """That type, which tests a value."""
         owner, t = self.test_of(f), f.type.rust()
+        given = angled(*(one for one in f.type.borrows() if one != STATIC))
         return (f"/// When the field `{f.wire}` is left out.\n#[derive(Drop)]\nstruct {owner};\n\n"
-                f"impl SkipIf<{t}> for {owner} {{\n{ghost('is_skipped', f'λ x. {f.skipped(chr(120))}')}\n\n"
+                f"impl{given} SkipIf<{t}> for {owner} {{\n{ghost('is_skipped', f'λ x. {f.skipped(chr(120))}')}\n\n"
                 f"{function(f'fn is_skipped(value: &{t}) -> bool', f.test.code)}\n}}\n")
 
     def run_read(self, start: int) -> str:
@@ -257,7 +294,7 @@ class Holder:
         trait, source = self.trait(), "fields: FieldsByName" if self.data.named else "parts: serde_content::de::Seq"
         end = min(start + LONGEST_ROW, self.count)
         more, whole, given = end < self.count, self.run(start), bounded(self.data.arguments(start), READ)
-        types, made = [f.type.rust() for f in self.fields[start:end]], self.data.places()[start:end]
+        types, made = [f.type.rust() for f in self.fields[start:end]], self.places[start:end]
         values = [f"z.{place - start}" for place in range(self.count)]
         last = f"({self.run_member(end, 'gives')} {values[end]})" if more else self.end("gives")
         taken = self.taken(trait, source.split(":")[0], made, start)
@@ -295,7 +332,8 @@ class Holder:
     def taken(self, trait: str, source: str, places: List[str], start: int = 0) -> List[str]:
         """The statements that read the values from a place on as a row, and take it apart into these, and what
         follows them."""
-        return [f"let row: {self.row_type(start)} = {trait}::read(alloc, {source})?;", *self.apart(places, start)]
+        row = "row" if places else "_"
+        return [f"let {row}: {self.row_type(start)} = {trait}::read(alloc, {source})?;", *self.apart(places, start)]
 
     def apart(self, places: List[str], start: int) -> List[str]:
         """The statements that take a row apart into the values from a place on, and what follows them."""
@@ -303,15 +341,17 @@ class Holder:
         for at, value in enumerate(places, start):
             sort = self.sort(self.fields[at]) if self.data.named else "ReadPart"
             rest = "_" if at + 1 == self.count else "row"
-            marked = self.data.named and sort != "ReadAbsent"
-            lines.append(f"let {sort}({value}, {rest}{', _' * marked}) = row;")
+            lines.append(f"let {sort}({value}, {rest}{', _' * self.data.named}) = row;")
         return lines
 
     def all_taken(self, trait: str, source: str) -> List[str]:
-        """The statements that read all values, as `read_places` call them."""
+        """The statements that read or make all values, as `read_places` call them."""
+        if self.reading is not self:
+            return self.reading.all_taken(trait, source) + [
+                f"let {place}: {f.type.rust()} = {plain(f.made) or 'Absent::absent(alloc)'};" for f, place in self.unread()]
         if self.big:
             return [f"let row: {self.run(0)} = {trait}::read(alloc, {source})?;"]
-        places = self.data.places()
+        places = self.places
         if self.steps:
             pattern = "row" if self.steps < self.count else "_"
             for place in reversed(places[:self.steps]):
@@ -320,33 +360,35 @@ class Holder:
         return self.taken(trait, source, places)
 
     def read_places(self) -> List[str]:
-        """What code calls the values that were read: the struct of them all, where there is one."""
-        return ["row"] if self.big else self.data.places()
+        """What code calls the values that were read or made: the struct of those that were read, where there is one."""
+        return ["row"] + [place for _, place in self.unread()] if self.big else self.places
 
     def maker_name(self) -> str:
         return self.reader.replace("read_", "make_", 1)
 
     def maker(self, result: Type, made: str, term: Callable[[List[str]], str]) -> List[str]:
-        """The function that makes a value of the struct of all values that were read: its contract spares proofs
-        a look into that."""
+        """The function that makes a value of the struct of all values that were read, and of the others: its contract
+        spares proofs a look into that."""
         if not self.big:
             return []
-        places = self.data.places()
+        reading, places = self.reading, self.reading.places
         apart = [f"let {self.run_name(start)}({', '.join(places[start:start + LONGEST_ROW] + ['row'] * more)}) = row;"
-                 for start in self.starts() for more in [start + LONGEST_ROW < self.count]]
-        seen = [f"row{f'.{LONGEST_ROW}' * (place // LONGEST_ROW)}.{place % LONGEST_ROW}" for place in range(self.count)]
+                 for start in reading.starts() for more in [start + LONGEST_ROW < reading.count]]
+        read = (f"row{f'.{LONGEST_ROW}' * (place // LONGEST_ROW)}.{place % LONGEST_ROW}" for place in range(reading.count))
+        seen = [next(read) if f.read else in_term(place) for f, place in zip(self.fields, self.places)]
+        given = "".join(f", {place}: {f.type.rust()}" for f, place in self.unread())
         body = "\n".join(apart + [made])
         return ["/// Its contract tells proofs what is made of the values.\n"
-                f"fn {self.maker_name()}{angled(*result.parameters())}(row: {self.run(0)}) -> {result.rust()}\n"
+                f"fn {self.maker_name()}{angled(*result.parameters())}(row: {reading.run(0)}{given}) -> {result.rust()}\n"
                 + clause("ensures", f"result ≡ {term(seen)}") + f"{{\n{body}\n}}\n"]
 
     def words(self, member: str) -> Tuple[str, str]:
         """What stands for one of its values in a member of the impls, and for the end."""
-        return getattr(BY_PLACE if not self.data.named else KEYED if self.skips else self.by_key, member)
+        return getattr(self.by_place if not self.data.named else KEYED if self.skips else self.by_key, member)
 
     def parts(self, member: str, inners: List[str], sees: Optional[List[str]] = None,
               values: Optional[List[str]] = None) -> List[str]:
-        """What stands for each of its values in a member of the impls; for one that isn't sent or read perhaps nothing."""
+        """What stands for each of its values in a member of the impls, which is nothing for one that isn't sent there."""
         return [self.word_of(f, member).format(
             inner=inner, see=see, place=place, count=self.count, name=name_term(f.wire if member in ("script", "lawful") else f.known),
             or_="_or" * bool(f.missing), Or="Or" * bool(f.missing), missing=f.absent(),
@@ -355,10 +397,8 @@ class Holder:
 
     def word_of(self, f: Field, member: str) -> str:
         """What stands for such a value, with places."""
-        if not (f.sent if member in ("script", "lawful") else f.read or member == "gives"):
+        if member in ("script", "lawful") and not f.sent:
             return ""
-        if not f.read and member == "gives":
-            return "UnreadThen{missing} {inner}"
         if f.aliases() and member in ("refusal", "gives"):
             names, first = list_term([f.known, *f.aliases()]), name_term(f.known)
             if member == "gives":
@@ -412,7 +452,7 @@ class Holder:
 
     def laws(self, values: List[str]) -> List[str]:
         """That the calls of each value spell one tree."""
-        return [f"({f.type.lawful(value)})" for f, value in zip(self.fields, values)]
+        return [f"({f.type.lawful(value)})" if f.sent else "" for f, value in zip(self.fields, values)]
 
     def script(self, values: List[str]) -> str:
         """The calls that are made."""
@@ -457,9 +497,10 @@ class Holder:
                         " -> serde_content::ser::Sent",
                         *row_of(self.sent_row(values, start), self.sent_last(values, start)),
                         "serde_content::derive_support::SendRow::send(&row, alloc, serializer, error)")
-        types = ", ".join(f"&'a {f.type.rust()}" for f in self.fields[start:])
+        types = ", ".join(f"&{LT_SENT} {f.type.rust()}" for f in self.fields[start:])
         parameters = self.data.arguments(start)
-        whole, given = f"{whole}{angled(LT_A, *parameters)}", angled(LT_A, *bounded(parameters, "Serialize"))
+        borrows = [LT_SENT, *dict.fromkeys(one for f in self.fields[start:] for one in f.type.borrows() if one != STATIC)]
+        whole, given = f"{whole}{angled(*borrows, *parameters)}", angled(*borrows, *bounded(parameters, "Serialize"))
         return (f"/// The values from place {start + 1} on, as they are sent.\n#[derive(Drop)]\nstruct {whole}({types});\n\n"
                 f"impl{given} serde_content::derive_support::SendRow for {whole} {{\n"
                 f"{ghost('script', f'λ row. {bare(script)}')}\n\n{send}\n}}\n")
@@ -473,6 +514,8 @@ class Holder:
         return f"SendField{unless}({self.announced(f)}, {value}, row)" if self.data.named else f"SendPart({value}, row)"
 
     def refusal_row(self) -> str:
+        if self.reading is not self:
+            return self.reading.refusal_row()
         if self.big:
             return f"\n({self.run_member(0, 'refusal')})"
         return self.row("refusal", self.refusals())
@@ -487,12 +530,19 @@ class Holder:
 
     def given(self, values: List[str]) -> List[str]:
         """What each of them may give."""
-        return [f"({f.type.member(READ, 'gives')}) {v}" if f.read else v for f, v in zip(self.fields, values)]
+        return [f"({f.type.member(READ, 'gives')}) {v}" for f, v in zip(self.fields, values)]
 
     def gives_row(self, values: List[str]) -> str:
+        if self.reading is not self:
+            read = self.reading.gives_row([value for f, value in zip(self.fields, values) if f.read])
+            return self.with_unread([value for f, value in zip(self.fields, values) if not f.read], read.lstrip())
         if self.big:
             return f"\n({self.run_member(0, 'gives')}\n{self.run_term(values)})"
         return self.row("gives", self.given(values))
+
+    def with_unread(self, values: List[str], read: str) -> str:
+        """That these values of the fields that aren't read are their defaults, and then what those may give that are."""
+        return nest([f"UnreadThen{f.absent()} {value}" for (f, _), value in zip(self.unread(), values)], read)
 
     def gives(self, values: List[str]) -> str:
         """What it may give."""
@@ -500,7 +550,7 @@ class Holder:
 
     def read(self, make: Callable[[List[str]], str]) -> List[str]:
         """The statements that read it and make a value of what came."""
-        more = {"Struct": f"{self.list}::names()", "Tuple": str(self.count)}.get(self.data.style)
+        more = {"Struct": f"{self.list}::names()", "Tuple": str(self.reading.count)}.get(self.data.style)
         arguments = ", ".join(filter(None, ["alloc", self.name, more]))
         start = f"{'variant.' if self.of_variant else 'from.deserialize_'}{self.word}({arguments})?"
         places = self.read_places()
@@ -511,24 +561,43 @@ class Holder:
         if self.data.named:
             return [f"let fields = {start}.by_name();", *self.variant_taken(places), f"Ok({make(places)})"]
         if self.many:
-            return [f"let parts = {start};", *self.all_taken("ReadParts", "parts"), f"Ok({make(places)})"]
+            taken = self.variant_taken(places) if self.of_variant else self.all_taken("ReadParts", "parts")
+            return [f"let parts = {start};", *taken, f"Ok({make(places)})"]
         if self.of_variant:
             return [f"Ok({make([start])})"]
         return [f"let inside = {start};", f"Ok({make(['inside.deserialize(alloc)?'])})"]
 
     def variant_taken(self, places: List[str]) -> List[str]:
-        """The statements that read a variant's fields."""
-        if self.big:
-            return self.all_taken("ReadFields", "fields")
-        return [f"let {together(places)} = {self.reader}(alloc, fields)?;"]
+        """The statements that read a variant's fields or values."""
+        if not self.unread() and (self.big or not self.data.named):
+            return self.every_taken()
+        return [f"let {together(places)} = {self.reader}(alloc, {self.source()})?;"]
+
+    def source(self) -> str:
+        """What they are read from."""
+        return "fields" if self.data.named else "parts"
+
+    def every_taken(self) -> List[str]:
+        """The statements that read or make all values, out of that."""
+        return self.all_taken(self.trait(), self.source())
+
+    def apart_reader(self) -> List[str]:
+        """The function that reads a struct of the values that are read, and makes the others: an enum's proof of reading
+        would look into these."""
+        run = Type(self.reading.run_name(0), tuple(map(parameter, self.reading.data.arguments(0))))
+        result = Type("tuple", (run, *(f.type for f, _ in self.unread())))
+        gives = self.with_unread([f"z.{place}" for place in range(1, len(result.arguments))],
+                                 f"({self.reading.run_member(0, 'gives')} z.0)")
+        lines = self.every_taken() + [f"Ok({together(self.read_places())})"]
+        return [fields_reader(self.reader, result, self.refusal_row(), gives, lines, self.data.named)]
 
     def read_function(self, made: str, result: Type, values: List[str]) -> List[str]:
-        """The function that reads fields by name, and makes a value of this type, of which contracts
-        see these values."""
-        if not self.data.named or not self.fields:
+        """The function that reads fields by name, or values by place of which some aren't read, and makes a value of this
+        type, of which contracts see these values."""
+        if not self.fields or not (self.data.named or self.unread()):
             return []
-        lines = self.all_taken("ReadFields", "fields") + [f"Ok({made})"]
-        return [fields_reader(self.reader, result, self.refusal_row(), self.gives_row(values), lines)]
+        lines = self.every_taken() + [f"Ok({made})"]
+        return [fields_reader(self.reader, result, self.refusal_row(), self.gives_row(values), lines, self.data.named)]
 
     def read_impl(self, made: str, whole: Type, values: List[str]) -> List[str]:
         """How the fields of this struct are read, wherever they are; contracts see these values of it."""

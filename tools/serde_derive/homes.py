@@ -4,21 +4,26 @@ from dataclasses import replace
 from typing import Callable, Dict, Iterable, Iterator, List, Optional, Set, Tuple
 
 from .attributes import SERDE
-from .declarations import Field, Item, Refused
+from .declarations import Field, Item, Named, Refused
 from .files import File
 from .parser import DEEPEST, MOST_FIELDS
-from .types import HOLDERS, LEAVES, NUMBERS, LawsOf, Type, snake
+from .types import (ARGUMENTS, ELSEWHERE, FLOATS, HASHED, HOLDERS, IN_ORDER, LEAVES, MOST_IN_TUPLE, NUMBERS, LawsOf, Type,
+                    snake)
 from .unique import fresh
 from .words import SEEN, TAKEN, WORDS
 
 STANDARD = {"std", "core", "alloc"}
 # where the standard library has the types that are covered
 MODULES = {**{name: ["primitive"] for name in LEAVES}, "String": ["string"], "Option": ["option"], "Vec": ["vec"],
-           "Box": ["boxed"], "BTreeMap": ["collections", "collections::btree_map"]}
+           "Box": ["boxed"], "Rc": ["rc"], "Arc": ["sync"], "BoxedStr": [], "PathBuf": ["path"],
+           **{name: ["collections", f"collections::{module}"] for name, module in (
+               ("BTreeMap", "btree_map"), ("BTreeSet", "btree_set"), ("HashMap", "hash_map"), ("HashSet", "hash_set"),
+               ("VecDeque", "vec_deque"))}}
 # types of which it is known what to write instead
 NOT_COVERED = {
-    **dict.fromkeys(["f32", "f64"], "floats are not covered: hold a whole number of a smaller unit, or a String"),
-    "HashMap": "a HashMap is not covered: hold a BTreeMap",
+    **dict.fromkeys(FLOATS, "floats are not covered: hold a whole number of a smaller unit, or a String"),
+    "LinkedList": "a LinkedList is not covered: hold a VecDeque",
+    "BinaryHeap": "a BinaryHeap is not covered: hold a Vec",
 }
 MOST_PARTS = 500
 MOST_WRITTEN_OUT = 200
@@ -45,7 +50,7 @@ def placed(item: Item) -> Iterator[Tuple[str, Field]]:
 def check_leaves(item: Item) -> Iterator[Refused]:
     """Refuses fields of one name beside each other where some are flattened, and too many of them."""
     leaves = item.data.leaves()
-    names = [Counter(names).items() for names in ([f.wire for f in leaves], [f.known for f in leaves])]
+    names = [Counter(names).items() for names in ([f.wire for f in leaves if f.sent], [f.known for f in leaves if f.read])]
     for name in dict.fromkeys(name for counts in names for name, count in counts if count > 1):
         yield Refused(item.line, f"two fields are called `{name}`: give one another name by `rename`", item.name)
     if len(leaves) > MOST_FIELDS:
@@ -61,6 +66,14 @@ def from_crate(path: List[str], here: List[str]) -> List[str]:
     return found
 
 
+def needed(item: Item, *around: Named) -> Set[str]:
+    """The traits that the type of a field has to derive for the impls of what holds it; the field and its variant are around
+    the type."""
+    ways = {"Serialize": all(one.sent for one in around), "Deserialize": all(one.read for one in around)}
+    equal = {"PartialEq", "Eq"} if item.derives_all() and all(ways.values()) else set()
+    return equal | {trait for trait, used in ways.items() if used and trait in item.derives}
+
+
 class Homes:
     """Finds where the own types of a file are declared, and refuses types that are not covered."""
 
@@ -70,6 +83,7 @@ class Homes:
         self.here = self.specs(crate, self.module)
         self.used: Set[str] = set()
         self.looked_up: Set[str] = set()
+        self.said: Dict[str, str] = {}  # what contracts call each module of definitions of the user's by
         self.aliases: Dict[str, Type] = {}
         self.opened: Set[str] = set()
         self.levels: Dict[str, int] = {}
@@ -115,6 +129,8 @@ class Homes:
         if name in self.file.aliases and not t.arguments:
             return self.alias(name, holder)
         whole = replace(t, name=name, arguments=tuple(self.resolved(a, holder) for a in t.arguments))
+        if whole == Type("Box", (Type("str"),)):
+            return Type("BoxedStr")
         parts, levels = extent(whole)
         if parts > MOST_PARTS or levels > DEEPEST:
             raise ValueError(f"a type of more than {DEEPEST} levels or {MOST_PARTS} parts is not covered:"
@@ -219,9 +235,13 @@ class Homes:
         known = {id(item) for item in ordered}
         twins = [item for item in self.file.items if id(item) not in known]
         for item in ordered + twins:
+            variants = {id(f): [v] for v in item.variants for f in v.data.fields}
             for where, f in placed(item):
                 try:
-                    f.type = self.settled(f.type, item)
+                    if f.type.borrows() and "Deserialize" in item.derives:
+                        raise ValueError("what is borrowed is covered where it is only sent: hold the value itself, as String for"
+                                         " &str")
+                    f.type = self.settled(f.type, needed(item, f, *variants.get(id(f), ())))
                 except ValueError as reason:
                     self.refuse(Refused(f.line, str(reason), where))
                     f.type = Type("()")
@@ -234,7 +254,7 @@ class Homes:
 
     def held(self, t: Type) -> int:
         """In how many levels a type holds others in itself; what is elsewhere in memory is not in it."""
-        if t.name in ("Vec", "Box", "BTreeMap"):
+        if t.name in ELSEWHERE:
             return 1
         return self.levels.get(t.name, 0) + bool(t.arguments) + max(map(self.held, t.arguments), default=0)
 
@@ -277,19 +297,19 @@ class Homes:
         self.refuse(Refused(f.line, f"{what} {reason}", where))
         return None
 
-    def settled(self, t: Type, holder: Item) -> Type:
-        """The type with its home; a ValueError says why it is not covered."""
-        arguments = tuple(self.settled(a, holder) for a in t.arguments)
+    def settled(self, t: Type, traits: Set[str]) -> Type:
+        """The type with its home, where it has to derive these; a ValueError says why it is not covered."""
+        arguments = tuple(self.settled(a, traits) for a in t.arguments)
         if t.parameter:
             return t
-        if t.name in LEAVES and not arguments:
-            return Type(t.name, plain=True)
-        if t.name == "tuple" and len(arguments) <= 4:
+        if not arguments and (t.name in LEAVES or (t.name in FLOATS and not traits)):
+            return Type(t.name, plain=True, lifetimes=t.lifetimes)
+        if t.name == "tuple" and len(arguments) <= MOST_IN_TUPLE:
             return Type(t.name, arguments)
-        if len(arguments) == {"Option": 1, "Vec": 1, "Box": 1, "BTreeMap": 2}.get(t.name):
-            if t.name == "BTreeMap":
-                self.check_key(arguments[0])
-            return Type(t.name, arguments)
+        if len(arguments) == ARGUMENTS.get(t.name):
+            if t.name in IN_ORDER | HASHED:
+                self.check_key(t.name, arguments[0])
+            return Type(t.name, arguments, lifetimes=t.lifetimes)
         of_std = t.name in (*HOLDERS, *LEAVES, *NOT_COVERED) or (arguments and self.path(t.name)[0] in STANDARD)
         if of_std or (arguments and t.name not in self.items and len(self.path(t.name)) < 2):
             raise ValueError(NOT_COVERED.get(t.name, f"the type `{t.rust()}` is not covered: the types that are stand"
@@ -300,7 +320,7 @@ class Homes:
                                  " a struct around it, and hold that")
             return self.own(t.name)
         item = self.items[t.name]
-        whole = replace(self.part(t, holder), arguments=arguments,
+        whole = replace(self.part(t, traits), arguments=arguments,
                         laws_of=(lambda one: self.laws_of(item, one)) if arguments else None)
         if self.size(whole) > MOST_WRITTEN_OUT:
             raise ValueError(f"a type with parameters that is made of more than {MOST_WRITTEN_OUT} types is not covered:"
@@ -314,14 +334,17 @@ class Homes:
             self.sizes[t] = 1 + sum(map(self.size, inside))
         return self.sizes[t]
 
-    def part(self, t: Type, holder: Item) -> Type:
+    def part(self, t: Type, traits: Set[str]) -> Type:
         """An own type of this file, but for its arguments; a ValueError says why what holds it is not covered."""
         name, part = t.name, self.items[t.name]
+        if len(t.lifetimes) != len(part.lifetimes):
+            raise ValueError(f"`{name}` has {len(t.lifetimes)} lifetimes here, and is declared with {len(part.lifetimes)}")
+        if any(a.borrows() for a in t.arguments):
+            raise ValueError(f"`{t.rust()}` is not covered: what is borrowed is no argument of a type of this file")
         if len(t.arguments) != len(part.parameters):
             raise ValueError(f"`{name}` has {len(t.arguments)} arguments here, and its parameters are:"
                              f" {', '.join(part.parameters) or 'none'}")
-        needed = SERDE & set(holder.derives)
-        lacking = (needed | ({"PartialEq", "Eq"} if holder.derives_all() else set())) - set(part.derives)
+        lacking = traits - set(part.derives)
         if not part.covered:
             return Type(name, home=self.here, declared=name, called=snake(name))
         astray = part.derives_all() and not part.comes_back()
@@ -331,7 +354,7 @@ class Homes:
         called = self.called(name, self.here, name)
         return Type(name, home=self.here, declared=name, called=called, plain=not part.asked(), astray=astray,
                     lost=not part.comes_back_from_cbor(), null=part.may_be_null(), nulls=part.places_of(part.null_by()),
-                    optional=part.places_of(part.optionals()), inside=part.places_of(part.sized_by()),
+                    optional=part.places_of(part.optionals()), inside=part.places_of(part.sized_by()), lifetimes=t.lifetimes,
                     record=law if part.data.named and not part.transparent() else None)
 
     def own(self, name: str) -> Type:
@@ -364,14 +387,18 @@ class Homes:
         self.declared[word] = own
         return word
 
-    def check_key(self, key: Type) -> None:
-        """Refuses a type that no key of a map has, as a ValueError."""
+    def check_key(self, holder: str, key: Type) -> None:
+        """Refuses a type that no key of this map or set has, as a ValueError."""
         mine = self.items.get(key.name)
+        hashed, pairs = holder in HASHED, ARGUMENTS[holder] == 2
+        what, instead = (f"a map with keys of type `{key.rust()}`", "Vec of pairs") if pairs else (f"a set of `{key.rust()}`", "Vec")
         if key.parameter or (key.home and key.arguments):
-            raise ValueError(f"a map with keys of type `{key.rust()}` is not covered, as their order is not known: hold a"
-                             " Vec of pairs")
-        if not (key.home or key.name in NUMBERS or key.name in ("String", "char")):
-            raise ValueError(f"a map with keys of type `{key.rust()}` is not covered: hold a Vec of pairs, or put the key into"
-                             " a struct that derives Ord")
-        if mine and mine.covered and not {"PartialOrd", "Ord"} <= set(mine.derives):
-            raise ValueError(f"`{key.name}` does not derive PartialOrd and Ord, as the keys of a map do: derive them too")
+            known = "equality" if hashed else "order"
+            raise ValueError(f"{what} is not covered, as their {known} is not known: hold a {instead}")
+        needed = {"Eq", "Hash"} if hashed else {"PartialOrd", "Ord"}
+        if not (key.home or key.name in NUMBERS or key.name in ("String", "char", "PathBuf")):
+            raise ValueError(f"{what} is not covered: hold a {instead}, or put the {'key' if pairs else 'item'} into"
+                             f" a struct that derives {'Hash' if hashed else 'Ord'}")
+        if mine and mine.covered and not needed <= set(mine.derives):
+            raise ValueError(f"`{key.name}` does not derive {' and '.join(sorted(needed, reverse=not hashed))}, as the"
+                             f" {'keys of a map' if pairs else 'items of a set'} do: derive them too")

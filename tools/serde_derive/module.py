@@ -2,10 +2,13 @@
 import re
 from typing import Callable, Dict, Iterable, Iterator, List, Optional, Set, Tuple, Union
 
+from .adjacent import AdjacentWriter
 from .attributes import doc_line
+from .calls import settle_calls
 from .checks import check, check_work
 from .declarations import Item, Refusals, Refused
-from .derives import check_derives, check_missing, settle_defaults
+from .defaults import settle_defaults
+from .derives import check_derives, check_missing
 from .enums import EnumWriter
 from .files import File, Reader
 from .functions import CASES
@@ -22,7 +25,7 @@ from .untagged import UntaggedWriter, check_untagged
 from .words import ALIASES, METHODS, SEEN, USES, WORDS, words_in, words_of
 
 Writer = Union[StructWriter, EnumWriter]
-TRAITS = dict(zip(KINDS, ("Serialize", "RoundTrip", "CborRoundTrip", "NotNull", "Ord")))
+TRAITS = dict(zip(KINDS, ("Serialize", "RoundTrip", "CborRoundTrip", "NotNull", "Ord", "Eq")))
 
 
 def names(text: str, word: str) -> bool:
@@ -54,8 +57,8 @@ def writer_of(item: Item) -> Writer:
     """What writes the impls of a covered item."""
     if not item.variants:
         return TransparentWriter(item) if item.transparent() else StructWriter(item)
-    sort = UntaggedWriter if "untagged" in item.serde else TaggedWriter if "tag" in item.serde else EnumWriter
-    return sort(item)
+    sorts = {"untagged": UntaggedWriter, "content": AdjacentWriter, "tag": TaggedWriter}
+    return next((sorts[key] for key in sorts if key in item.serde), EnumWriter)(item)
 
 
 def laws_of(item: Item, t: Type) -> Writer:
@@ -68,9 +71,9 @@ def impls(item: Item, writer: Writer, cbor: bool) -> Iterator[str]:
     yield from writer.functions()
     reading = [LT_DE, *bounded(item.parameters, READ)]
     if item.absent:
-        yield impl(item, "Absent", writer.absent(), *item.parameters)
+        yield impl(item, "Absent", writer.absent(), *item.lifetimes, *item.parameters)
     if "Serialize" in item.derives:
-        yield impl(item, "Serialize", writer.serialize(), *bounded(item.parameters, "Serialize"))
+        yield impl(item, "Serialize", writer.serialize(), *item.lifetimes, *bounded(item.parameters, "Serialize"))
     if "Deserialize" in item.derives:
         if item.variants and "untagged" not in item.serde:
             yield impl(item, writer.variants_trait, writer.variants_impl(), *reading)
@@ -112,9 +115,10 @@ def settled(file: File, homes: Homes) -> Dict[str, Writer]:
         homes.refuse(refused)
     homes.resolve()
     for item in file.items:
-        file.functions.units[item.name] = [v.name for v in item.variants if v.data.style == "Unit"]
+        file.functions.variants[item.name] = {v.name: [f.type for f in v.data.fields] for v in item.variants}
     keep(lambda item: name_item(item, file.functions))
     homes.settle()
+    homes.keep(settle_calls(homes, file))
     settle_defaults(list(homes.ordered()), homes.items, file)
     keep(lambda item: check_missing(item, homes.items))
     keep(check_variants)
@@ -128,7 +132,7 @@ def settled(file: File, homes: Homes) -> Dict[str, Writer]:
     if file.refused:
         raise Refusals(file.refused)
     name_functions(file.items)
-    name_cases(file.items, homes.declared)
+    name_cases(file.items, homes.declared, set(homes.said.values()))
     return {item.name: writer_of(item) for item in file.items}
 
 
@@ -153,6 +157,7 @@ def uses(file: File, homes: Homes, texts: List[str]) -> List[str]:
     ghosts += [f"ghost use {own.home.format('declared')}.{own.declared} as {own.module()};" for own in owns if own.module() in named]
     ghosts += [f"ghost use {homes.here.format('declared')}.{item.name}.TheVariants as {item.cases};"
                for item in file.items if item.variants]
+    ghosts += [f"ghost use {module} as {word};" for module, word in homes.said.items()]
     code = [f"use {path}::{{{', '.join(used)}}};" for path, names in USES.items()
             if (used := [name for name in names.split() if brought(words, name, texts)])]
     code += [f"use {'::'.join(path)}{'' if path[-1] == shown else f' as {shown}'};"

@@ -2,9 +2,10 @@
 import re
 from typing import Iterator, List, Optional, Sequence, Tuple
 
+from .calls import ANYTHING, is_path
 from .cases import CASES, same
-from .declarations import Data, Field, Item, Named, Refused, Variant, absent_of
-from .functions import EMPTY, Functions, Value
+from .declarations import Data, Field, Item, Named, Refused, Value, Variant, absent_of
+from .functions import EMPTY, Functions
 from .tokens import LONGEST
 from .types import SKIPS
 
@@ -33,7 +34,7 @@ def name_item(item: Item, functions: Functions) -> Iterator[Refused]:
 
 def check_aliases(fields: List[Tuple[str, Field]], named: bool) -> Iterator[Refused]:
     """Refuses aliases that are names too, or of what isn't read by name."""
-    taken = {f.known for _, f in fields}
+    taken = {f.known for _, f in fields if f.read}
     for where, f in fields:
         for alias in f.aliases():
             yield from check_sent(alias, f.line, where)
@@ -46,7 +47,7 @@ def check_aliases(fields: List[Tuple[str, Field]], named: bool) -> Iterator[Refu
 
 def check_tags(item: Item, variants: List[Tuple[str, Variant]]) -> Iterator[Refused]:
     """Refuses aliases that are names too, and a variant for other tags that holds something, or isn't alone."""
-    taken = {v.known for v in item.variants}
+    taken = {v.known for v in item.variants if v.read}
     for where, v in variants:
         for alias in v.aliases():
             yield from check_sent(alias, v.line, where)
@@ -78,9 +79,12 @@ def default_by(where: str, f: Field, value: Optional[Value], path: str) -> Itera
     """Gives a field the value that a function gives for it."""
     if value:
         f.missing, f.made = value.fact, value.code * (value != EMPTY.get(f.type.name))
+    elif is_path(f.serde["default"]):
+        f.missing, f.maker = ANYTHING, path
     else:
+        other = ", or name one of another module from `crate` on" * bool(f.serde["default"])
         yield Refused(f.line, f"its default is not covered: write in this file a function `{path}` that gives one value, such as"
-                      " `8080`, `\"text\".to_owned()`, `Vec::new()` or a variant of an enum of this file", where)
+                      f" `8080`, `\"text\".to_owned()`, `Vec::new()` or a variant of an enum of this file{other}", where)
 
 
 def name_fields(holder: str, data: Data, case: Optional[str], functions: Functions, derives: List[str]) -> Iterator[Refused]:
@@ -88,21 +92,22 @@ def name_fields(holder: str, data: Data, case: Optional[str], functions: Functio
     that derives this asks."""
     fields = [(f"{holder}.{f.name}", f) for f in data.fields]
     for where, f in fields:
-        if not (f.sent and f.read) and not data.named:
-            yield Refused(f.line, "serde's `skip` is covered in fields with names: give them names", where)
-        elif "default" in f.serde and not data.named:
+        if data.style == "Newtype" and not (f.sent and f.read):
+            yield Refused(f.line, "serde's `skip` is not covered on a value that stands alone: delete it, or what holds the"
+                          " value", where)
+        elif "default" in f.serde and f.read and not data.named:
             yield Refused(f.line, "serde's `default` is covered in fields with names: give them names", where)
         if not f.read:
             f.serde.setdefault("default", "")
-        if f.serde.get("default") and "Deserialize" in derives and data.named:
+        may_be_missing = data.named or not f.read
+        if f.serde.get("default") and "Deserialize" in derives and may_be_missing:
             yield from default_by(where, f, functions.given(f.serde["default"], f.type), f.serde["default"])
-        elif not f.missing and data.named and ("default" in f.serde or f.type.name == "Option"):
-            f.missing = absent_of(f.type)
+        elif not f.missing and may_be_missing and ("default" in f.serde or f.type.name == "Option"):
+            value = None if f.read else functions.initial(f.type)
+            f.missing, f.made = value or (absent_of(f.type), "")
         if "skip_serializing_if" in f.serde and "Serialize" in derives:
             yield from check_skipped(where, f, data, functions)
             f.skips = f.sent
-    if fields and not any(f.read for f in data.fields):
-        yield Refused(data.fields[0].line, "what has no fields that are read is not covered: write it without fields", holder)
     yield from name_each(fields if data.named else [], case, 0)
     yield from check_aliases(fields, data.named)
 
@@ -115,8 +120,12 @@ def check_skipped(where: str, f: Field, data: Data, functions: Functions) -> Ite
     if not data.named:
         yield Refused(f.line, "serde's `skip_serializing_if` is covered in fields with names: give them names", where)
     elif not f.test and (not known or (test != known and (test, f.type.name) != ("str::is_empty", "String"))):
-        yield Refused(f.line, f"serde's `skip_serializing_if` so is not covered: {', '.join(SKIPS.values())} are, each on a"
-                      " field of its type", where)
+        if is_path(test):
+            f.tester = test
+        else:
+            yield Refused(f.line, "serde's `skip_serializing_if` so is not covered: Option::is_none is, and `is_empty` of String,"
+                          " Vec, VecDeque, maps and sets, each on a field of its type, and a function of another module that is"
+                          " named from `crate` on", where)
 
 
 def check_sent(name: str, line: int, where: str) -> Iterator[Refused]:
@@ -143,8 +152,9 @@ def name_each(all_named: Sequence[Tuple[str, Named]], case: Optional[str], place
             name = directions(one.serde.get("rename"))[way] or by_case(one.raw or one.name)
             setattr(one, attribute, name)
             refused = list(check_sent(name, one.line, where))
-            if name in taken:
+            used = one.read if way else one.sent
+            if used and name in taken:
                 refused.append(Refused(one.line, f"two are called `{name}`: give one another name by `rename`", where))
-            taken.add(name)
+            taken |= {name} if used else set()
             yield from (why for why in refused if (where, why.reason) not in told)
             told |= {(where, why.reason) for why in refused}

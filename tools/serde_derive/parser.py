@@ -4,7 +4,7 @@ from typing import Callable, List, Optional, Tuple
 from .attributes import Attributes, Head
 from .declarations import Data, Field, Item, Named, NotRust, Refused, Variant
 from .tokens import KEYWORDS, ROOTS
-from .types import Type, parameter
+from .types import STATIC, Type, parameter
 
 DEEPEST = 48
 MOST_FIELDS, MOST_VARIANTS = 250, 500
@@ -26,6 +26,7 @@ class Parser(Attributes):
     def __init__(self, source: str):
         super().__init__(source)
         self.parameters: List[str] = []
+        self.lifetimes: List[str] = []
         self.refused: List[Refused] = []
         self.notes: List[Tuple[int, str]] = []
 
@@ -53,26 +54,43 @@ class Parser(Attributes):
             if len(arguments) == 1 and not comma:
                 return arguments[0]
             return Type("tuple", tuple(arguments)) if arguments else Type("()")
+        if self.next.text == "&" and self.after().sort == "lifetime":
+            return self.borrowed(depth)
         self.check_begins(line)
-        path = self.path()
+        path, lifetimes = self.path(), []
         if path[-1] in ROOTS - {"Self"}:
             raise NotRust(line, f"expected a type, found `{path[-1]}`")
         if path[0] == "Self" and len(path) > 1:
             raise Refused(line, "a type that begins with `Self::` is not covered: write the type itself")
         if self.eat("<") or (self.next.text == "::" and self.after().text == "<" and self.take() and self.take()):
-            self.listed(">", lambda: arguments.append(self.type(depth + 1)))
+            self.listed(">", lambda: lifetimes.append(self.lifetime()) if self.next.sort == "lifetime" else
+                        arguments.append(self.type(depth + 1)))
         if self.next.text in ("::", "!", "="):
             raise Refused(line, f"a type with `{self.next.text}` in it is not covered: write the type itself")
         name = "::".join(path)
         if name in self.parameters and arguments:
             raise NotRust(line, f"the parameter `{name}` takes no arguments")
-        return parameter(name) if name in self.parameters else Type(name, tuple(arguments))
+        return parameter(name) if name in self.parameters else Type(name, tuple(arguments), lifetimes=tuple(lifetimes))
+
+    def borrowed(self, depth: int) -> Type:
+        """A reference, from its sign on."""
+        self.take()
+        lifetime = self.lifetime()
+        if self.eat("str"):
+            return Type("&str", lifetimes=(lifetime,))
+        return Type("&", (self.type(depth + 1),), lifetimes=(lifetime,))
+
+    def lifetime(self) -> str:
+        """A lifetime of what is read, or that of the whole program."""
+        token = self.take()
+        if token.text not in (*self.lifetimes, STATIC):
+            raise Refused(token.line, f"the lifetime `{token.text}` is not declared here: hold the value itself, as String for"
+                          " &str")
+        return token.text
 
     def check_begins(self, line: int) -> None:
         """Refuses what begins a type that is not covered."""
         begins, sort = self.next.text, self.next.sort
-        if sort == "lifetime":
-            raise Refused(line, "lifetimes are not covered: hold the value itself, as String for &str")
         if begins in BEGINS:
             raise Refused(line, f"a type that begins with `{begins}` is not covered: {BEGINS[begins]}")
         if begins == "{" or sort in ("number", "text"):
@@ -163,9 +181,9 @@ class Parser(Attributes):
         line, sort = self.next.line, self.take().text
         item = Item(self.next.text, line, head.lines, head.serde, sort=sort, visible=visible, derives=head.derives,
                     defaults="Default" in head.derives)
-        start, self.parameters = self.place, item.parameters
+        start, self.parameters, self.lifetimes = self.place, item.parameters, item.lifetimes
         item.covered = self.guarded(item.name, head, lambda: self.body(item))
-        self.parameters = []
+        self.parameters, self.lifetimes = [], []
         if not item.covered:
             self.place = start
             self.pass_item()
@@ -197,7 +215,10 @@ class Parser(Attributes):
         """A type parameter; its bounds are left out, as each impl has those that it needs."""
         start, line = self.place, self.next.line
         if self.next.sort == "lifetime":
-            raise Refused(line, "lifetimes are not covered: hold the value itself, as String for &str")
+            item.lifetimes.append(self.take().text)
+            if self.eat(":"):
+                self.pass_to(",", ">")
+            return
         if self.next.text == "const":
             raise Refused(line, "a parameter that is a value is not covered: write a type for each that you use")
         name = self.name()

@@ -2,7 +2,7 @@
 from itertools import islice
 from typing import Iterator, List
 
-from .declarations import Field, Item, Refused
+from .declarations import Data, Field, Item, Refused
 from .holder import LONGEST_HELD, LONGEST_ROW
 
 
@@ -14,12 +14,14 @@ def check_sizes(item: Item) -> Iterator[Refused]:
         alone = not beside and "tag" not in item.serde and (data.style == "Newtype" or item.transparent())
         for f in data.fields:
             inside = f.inside.leaves() if f.inside else leaves if beside else [f]
-            reasons = (reason(item, leaves, leaf, alone) for leaf in inside)
+            reasons = (reason(item, data, leaves, leaf, alone) for leaf in inside)
             yield from (Refused(f.line, why, f"{where}.{f.name}") for why in islice(filter(None, reasons), 1))
 
 
-def reason(item: Item, leaves: List[Field], f: Field, alone: bool) -> str:
-    """Why a field whose size depends on a parameter is not covered among these, or nothing."""
+def reason(item: Item, data: Data, leaves: List[Field], f: Field, alone: bool) -> str:
+    """Why a field of this data whose size depends on a parameter is not covered among these, or nothing."""
+    if "content" in item.serde and data.several and f.type.parameters():
+        return ("of an enum that is tagged adjacently, a parameter is covered in a variant of one value: hold a struct of them")
     unsized, name = f.type.unsized(), f.type.rust()
     if unsized:
         of = unsized.sized_by()[0]
@@ -28,10 +30,13 @@ def reason(item: Item, leaves: List[Field], f: Field, alone: bool) -> str:
         return ""
     if "untagged" in item.serde:
         return f"of an untagged enum, a value of a parameter's type is covered alone in its variant: hold `Box<{name}>`"
-    if len(leaves) > (LONGEST_HELD if item.variants else LONGEST_ROW):
+    if not f.read:
+        return ""
+    read = [one for one in leaves if one.read]
+    if len(read) > (LONGEST_HELD if item.variants else LONGEST_ROW):
         return (f"a field of a parameter's type is covered among up to {LONGEST_ROW} of a struct and {LONGEST_HELD} of a variant:"
                 f" hold `Box<{name}>`")
-    if not all(one.is_plain() for one in leaves[:leaves.index(f) + 1]):
+    if not all(one.is_plain() for one in read[:read.index(f) + 1]):
         return ("a field of a parameter's type is covered before those that may be missing or have an alias: move it there, or"
                 f" hold `Box<{name}>`")
     return ""

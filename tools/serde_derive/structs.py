@@ -42,6 +42,12 @@ def same(data: Data, known: Iterator[str]) -> str:
     return all_hold([same(f.inside, known) if f.inside else next(known) for f in data.fields])
 
 
+def made_absent(item: Item) -> List[str]:
+    """What is read where a field is missing whose type has a Default by hand that is one value."""
+    return [ghost("is_absent", f"λ x. {item.absent_value.fact}"),
+            function(ABSENT.format(item.itself().rust()), item.absent_value.code[3:-1])]
+
+
 class StructWriter:
     """The impls of a struct."""
 
@@ -67,6 +73,8 @@ class StructWriter:
 
     def absent(self) -> List[str]:
         """What is read where a field of this type is missing."""
+        if self.item.absent_value:
+            return made_absent(self.item)
         facts_known = " × ".join(f"{f.type.member('Absent', 'is_absent')} {value}" for f, value in zip(self.fields, self.values))
         made = self.item.data.made(self.item.name, ["Absent::absent(alloc)"] * len(self.fields))
         return [ghost("is_absent", f"λ p. {facts_known or '⊤'}"), function(ABSENT.format(self.whole.rust()), made)]

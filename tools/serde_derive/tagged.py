@@ -1,7 +1,7 @@
 """What is written of a tagged enum: structs of which one field names the variant, and the others or
 one other hold its values."""
 import re
-from typing import Iterator, List
+from typing import Iterator, List, Tuple
 
 from .cases import pascal
 from .declarations import Data, Field, Item, Refused, Variant
@@ -9,7 +9,7 @@ from .enums import EnumWriter
 from .holder import LONGEST_HELD, Holder
 from .literals import list_impl, name_call, name_method, name_term, opened
 from .text import DESERIALIZE, bare, elim, function, ghost, together
-from .types import DEFAULTS, nest
+from .types import MOST_IN_TUPLE, nest
 
 
 def beside_tag(v: Variant) -> List[Field]:
@@ -17,27 +17,35 @@ def beside_tag(v: Variant) -> List[Field]:
     return v.beside.data.fields if v.beside else v.data.fields
 
 
+def sent_names(item: Item) -> Tuple[str, List[str]]:
+    """The type that stands for the names of an enum's variants as they are sent, and the names."""
+    known = [v.known for v in item.variants if v.read]
+    if all(v.wire == v.known and v.read for v in item.variants if v.sent):
+        return f"NamesOf{pascal(item.owner)}", known
+    return f"SentOf{pascal(item.owner)}", [v.wire for v in item.variants if v.sent]
+
+
 def check_tagged(item: Item) -> Iterator[Refused]:
     """Refuses variants that are not covered beside a tag, and names that are the tag's."""
     tag, content = item.serde["tag"], item.serde.get("content")
-    sort, held, instead = (("adjacently", "one value", "a tuple or a struct of them") if content else
-                           ("internally", "a struct, or values by name,", "a struct of them"))
     if tag == content:
         yield Refused(item.line, f"the tag and the content are both called `{tag}`: give one of them another name", item.name)
     for v in item.variants:
         where = f"{item.name}.{v.name}"
-        if v.aliases() or "other" in v.serde or (v.sent and not v.read):
+        if v.aliases() or "other" in v.serde:
             yield Refused(v.line, "`alias` and `other` are covered in enums that are tagged externally: delete them", where)
         elif not (v.sent or v.read):
             continue
-        elif v.data.style == "Tuple" or (v.data.named and content):
-            yield Refused(v.line, f"of an enum that is tagged {sort}, only variants with no values and with {held} are"
-                          f" covered: hold {instead}", where)
-        elif not content and any(tag in (f.wire, f.known, *f.aliases()) for f in beside_tag(v)):
+        elif content and v.skips_a_place():
+            yield Refused(v.line, "of an enum that is tagged adjacently no value by place is skipped: give the values names", where)
+        elif content and v.data.style == "Tuple" and len(v.data.fields) > MOST_IN_TUPLE:
+            yield Refused(v.line, "of an enum that is tagged adjacently, only variants with no values, with values by name, and"
+                          " with one to four by place, are covered: hold a struct of them", where)
+        elif not content and v.data.style == "Tuple":
+            yield Refused(v.line, "of an enum that is tagged internally, only variants with no values and with a struct, or"
+                          " values by name, are covered: hold a struct of them", where)
+        elif not content and any(tag in [f.wire] * f.sent + [f.known, *f.aliases()] * f.read for f in beside_tag(v)):
             yield Refused(v.line, f"a field is called as the tag, `{tag}`: give one of them another name", where)
-        elif v.wire != v.known or (not content and any(
-                f.sent and (f.wire != f.known or not f.read) for f in beside_tag(v))):
-            yield Refused(v.line, "names by direction are not covered beside a tag: delete them", where)
 
 
 class TaggedHolder(Holder):
@@ -48,11 +56,11 @@ class TaggedHolder(Holder):
     def __init__(self, item: Item, tag: str, v: Variant, fields: List[Field]):
         data, name = Data("Struct", fields, v.data.closed), (v.beside or item).wire
         super().__init__("Struct", [name], data, v.owner)
-        self.names_known = self.names_sent = [tag] + self.names_known
+        self.names_known = [tag] + self.names_known
+        self.names_sent = self.names_known if self.sent_list == self.list else [tag] + self.names_sent
         self.tag, self.variant = tag, v.wire
         self.call = f"Call::Struct({name_call(name)}, {self.sent_count() + 1})"
-        place = [one for one in item.variants if one.read].index(v) if v.read else 0
-        self.before = [f"SendTag({self.list}, NamesOf{pascal(item.owner)}, {place}, row)"]
+        self.before = [f"SendTag({self.sent_list}, {sent_names(item)[0]}, {sent_names(item)[1].index(v.wire) if v.sent else 0}, row)"]
 
     def room(self) -> int:
         return LONGEST_HELD
@@ -67,24 +75,23 @@ class TaggedHolder(Holder):
 
 
 class TaggedWriter(EnumWriter):
-    """The impls of an enum that is tagged internally, or adjacently where it has a `content`."""
+    """The impls of an enum that is tagged internally."""
+
+    buffered = "buffered"  # what the words say where the fields beside the tag are read out of a buffer
 
     def __init__(self, item: Item):
         super().__init__(item)
-        self.tag, self.content = item.serde["tag"], item.serde.get("content")
-        self.variants = [(v, TaggedHolder(item, self.tag, v, self.fields_of(v) if v.sent or v.read else []))
-                         for v in item.variants]
+        self.tag = item.serde["tag"]
+        self.variants = [(v, self.holder(v)) for v in item.variants]
 
-    def fields_of(self, v: Variant) -> List[Field]:
-        """The fields beside the tag: the variant's own, or the one that holds its value."""
-        if not self.content:
-            return beside_tag(v)
-        return [Field("x1", f.line, [], {}, self.content, self.content, type=f.type, origin=f.origin, given=f.given,
-                      missing=DEFAULTS["Option"] if f.type.name == "Option" else "")
-                for f in v.data.fields]
+    def holder(self, v: Variant) -> TaggedHolder:
+        """What stands beside the tag of a variant."""
+        return TaggedHolder(self.item, self.tag, v, beside_tag(v) if v.sent or v.read else [])
 
     def names_list(self) -> List[str]:
-        return [list_impl(self.list, "The names of its variants.", [v.wire for v, _ in self.readable()])]
+        known = [list_impl(self.list, "The names of its variants.", [v.known for v, _ in self.readable()])]
+        sent, names = sent_names(self.item)
+        return known + [list_impl(sent, "The names of the variants that are sent.", names)] * (self.sends and sent != self.list)
 
     def alone(self, v: Variant) -> bool:
         return False
@@ -105,11 +112,6 @@ class TaggedWriter(EnumWriter):
             places = holder.read_places()
             read = holder.variant_taken(places)
         return [*read, f"Ok({self.making(v, holder)(places)})"]
-
-    @property
-    def buffered(self) -> str:
-        """What the words say where the fields beside the tag are read out of a buffer."""
-        return "" if self.content else "buffered"
 
     variants_trait = "TaggedVariants<'de>"
 
@@ -146,10 +148,15 @@ class TaggedWriter(EnumWriter):
         return (f"λ real. tagged_kept {self.own}.refusal {self.own}.gives{row}\n(λ b. {inside}) ({opened('λ b fs. refl')})\n"
                 f"({opened('λ b fs only. ' + elim([self.read(v, w) for w in self.item.variants]))})")
 
+    @staticmethod
+    def term(holder: Holder, values: List[str]) -> str:
+        """What the fields beside the tag give, of these values."""
+        return together(values)
+
     def variant_keeps(self, v: Variant, holder: Holder, values: List[str]) -> str:
         return (f"λ p.\nlet q = (struct_keeps {name_term(self.item.wire)} (by_name_keeps\n"
                 f"({self.tag_keeps(v, holder)}))).of_origin o people"
-                f" {together(values)}\n(record {{ free = p.free; given = p.given }}) in\n"
+                f" {self.term(holder, values)}\n(record {{ free = p.free; given = p.given }}) in\n"
                 "record { free = q.free; given = q.given }")
 
     def tag_keeps(self, v: Variant, holder: Holder) -> str:

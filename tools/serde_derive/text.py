@@ -47,13 +47,15 @@ def function(signature: str, *lines: str) -> str:
     return f"{signature if 'alloc' in body else signature.replace('alloc', '_alloc')} {{\n{body}\n}}"
 
 
-def fields_reader(name: str, result: Type, refusal: str, gives: str, lines: List[str]) -> str:
-    """A function that reads fields by name, under a contract of what it refuses and may give."""
+def fields_reader(name: str, result: Type, refusal: str, gives: str, lines: List[str], by_name: bool = True) -> str:
+    """A function that reads fields by name or by place, under a contract of what it refuses and may give."""
+    about, source, of, left = (("the fields, in any order", "fields", "FieldsByName", "fields_left") if by_name else
+                               ("the values", "parts", "serde_content::de::Seq", "seq_view"))
     given = angled(LT_DE, f"'n: {LT_DE}", *bounded(result.parameters(), READ))
-    signature = f"fn {name}{given}(alloc: Global, fields: FieldsByName<'de, 'n>) -> Result<{result.rust()}>"
-    reads = clause("ensures", f"Reads ({refusal}\n(fields_left fields.entry))\n(λ z. {gives}\n(fields_left fields.entry)) result")
+    signature = f"fn {name}{given}(alloc: Global, {source}: {of}<'de, 'n>) -> Result<{result.rust()}>"
+    reads = clause("ensures", f"Reads ({refusal}\n({left} {source}.entry))\n(λ z. {gives}\n({left} {source}.entry)) result")
     body = "\n".join(lines)
-    return f"/// Reads the fields, in any order.\n{signature}\n{reads}{{\n{body}\n}}\n"
+    return f"/// Reads {about}.\n{signature}\n{reads}{{\n{body}\n}}\n"
 
 
 def arm(pattern: str, lines: List[str]) -> str:

@@ -40,48 +40,96 @@ LEAVES = {
     "()": leaf("unit_back", "(Unit {{0}})", heedless("unit_from", "unit_from o ≡ taken x", "Unit {{0}}")),
     "String": leaf("text_back", "(String Global)", heedless(
         "text_from", "IsTaken (text_from o) (HasContent (string_bytes x))", "String Global"), "text_kept", "text_not_null"),
+    "BoxedStr": leaf("boxed_text_back", "(BoxedStr Global)", heedless(
+        "text_from", "IsTaken (text_from o) (HasContent (boxed_str_bytes x))", "BoxedStr Global"), "boxed_text_kept", "text_not_null"),
+    "PathBuf": leaf("path_back", "(PathBuf Global)", heedless(
+        "text_from", "IsTaken (text_from o) (HasContent (path_buf_bytes x))", "PathBuf Global"), "path_kept", "text_not_null"),
+    "&str": leaf("", "", ""),  # what is borrowed is only sent
     **NUMBERS,
 }
+# covered where they are neither sent nor read; contracts find what they see
+FLOATS = dict.fromkeys(["f32", "f64"], leaf("", "_", ""))
+HASHER = "(BuildHasherDefault FoldHasher)"
+
+
+def pointer(name: str) -> Laws:
+    """The laws of what holds one value elsewhere in memory, and is sent and read as that."""
+    return Laws("{0}", "(seen_back (λ b. b.value) {0})", "(seen_keeps (λ b. b.value) {0})",
+                f"({name} {{0}} Global)", "(seen_kept (λ b. b.value) {0})", "{null}")
+
+
+def row(name: str, member: str) -> Laws:
+    """The laws of what holds a list of values under the name of this member."""
+    see = f"(λ v. v.{member})"
+    return Laws(f"seq_lawful {{0}} {{x}}.{member} {{h}}", f"(seen_back {see} (seq_back {{0}}))",
+                f"(seen_keeps {see} (seq_keeps {{0}}))", f"({name} {{0}} Global)",
+                f"(seen_kept {see} (seq_kept {{0}}))", "(seq_not_null ({refusals[0]}))")
+
+
 HOLDERS = {
     "Option": Laws("option_lawful {0} {x} {h}", "(option_back {0})", "(option_keeps {0})",
                    "(Option {0})", "(option_kept {null} {0})"),
-    "Vec": Laws("seq_lawful {0} {x}.items {h}", "(seen_back (λ v. v.items) (seq_back {0}))",
-                "(seen_keeps (λ v. v.items) (seq_keeps {0}))", "(Vec {0} Global)",
-                "(seen_kept (λ v. v.items) (seq_kept {0}))", "(seq_not_null ({refusals[0]}))"),
-    "Box": Laws("{0}", "(seen_back (λ b. b.value) {0})", "(seen_keeps (λ b. b.value) {0})",
-                "(Box {0} Global)", "(seen_kept (λ b. b.value) {0})", "{null}"),
+    "Vec": row("Vec", "items"),
+    "VecDeque": row("VecDeque", "items"),
+    "Box": pointer("Box"),
+    "Rc": pointer("Rc"),
+    "Arc": pointer("Arc"),
+    "&": Laws("{0}", "", "", ""),
     "BTreeMap": Laws("map_lawful {0} {1} {x}.entries {h}",
                      "(seen_back (λ m. m.entries) (map_back {total} {ties} {0} {1}))",
                      "(seen_keeps (λ m. m.entries) (map_keeps ({order}) {0} {1}))",
                      "(BTreeMap {0} {1} Global)",
                      "(seen_kept (λ m. m.entries) (map_kept {total} {ties} {0} {1}))",
                      "(map_not_null ({refusals[0]}) ({refusals[1]}))"),
+    "BTreeSet": Laws("seq_lawful {0} {x}.keys {h}", "(seen_back (λ s. s.keys) (set_back {total} {ties} {0}))",
+                     "(seen_keeps (λ s. s.keys) (set_keeps ({order}) {0}))", "(BTreeSet {0} Global)",
+                     "(seen_kept (λ s. s.keys) (set_kept {total} {ties} {0}))", "(seq_not_null ({refusals[0]}))"),
+    "HashMap": Laws("map_lawful {0} {1} {x}.entries {h}", "(hash_map_back {equal} {0} {1})",
+                    "(hash_map_keeps ({same}) {0} {1})", f"(HashMap {{0}} {{1}} {HASHER})",
+                    "(hash_map_kept {equal} {0} {1})", "(map_not_null ({refusals[0]}) ({refusals[1]}))"),
+    "HashSet": Laws("seq_lawful {0} {x}.keys {h}", "(hash_set_back {equal} {0})",
+                    "(hash_set_keeps ({same}) {0})", f"(HashSet {{0}} {HASHER})",
+                    "(hash_set_kept {equal} {0})", "(seq_not_null ({refusals[0]}))"),
 }
+# how many arguments each has; those that hold one value as itself; those that hold what they do elsewhere in memory
+ARGUMENTS = {name: 2 if name in ("BTreeMap", "HashMap") else 1 for name in HOLDERS}
+POINTERS = {"Box", "Rc", "Arc"}
+ELSEWHERE = set(HOLDERS) - {"Option"}
+# those whose first argument is in order in them, or is hashed
+IN_ORDER, HASHED = {"BTreeMap", "BTreeSet"}, {"HashMap", "HashSet"}
 # the class of trees that a type takes, and the law that it refuses all others
 CLASSES = {
     "()": ("units", "unit_takes"), "bool": ("booleans", "bool_takes"), "char": ("characters", "char_takes"),
     "String": ("texts", "text_takes"), "Vec": ("rows", "seq_takes"), "tuple": ("rows", "tuple_takes"),
-    "BTreeMap": ("records", "map_takes"),
+    "BTreeMap": ("records", "map_takes"), "HashMap": ("records", "map_takes"),
+    **dict.fromkeys(("BoxedStr", "PathBuf"), ("texts", "text_takes")),
+    **dict.fromkeys(("BTreeSet", "HashSet", "VecDeque"), ("rows", "seq_takes")),
     **{name: ("numbers", f"(number_takes kind.{name.replace('size', '64')})") for name in NUMBERS},
 }
 # what contracts say of the value that is read where a field is missing
 DEFAULTS = {
-    "bool": "x ≡ false", "String": "string_bytes x ≡ []", "Option": "x ≡ None", "Vec": "x.items ≡ []",
-    "BTreeMap": "x.entries ≡ []", **{name: "x ≡ pos 0" if name in SIGNED else "x ≡ 0" for name in NUMBERS},
+    "bool": "x ≡ false", "char": "x ≡ 0", "()": "⊤", "String": "string_bytes x ≡ []", "PathBuf": "path_buf_bytes x ≡ []",
+    "Option": "x ≡ None", "Vec": "x.items ≡ []", "VecDeque": "x.items ≡ []", "BTreeMap": "x.entries ≡ []",
+    "HashMap": "x.entries ≡ []", "BTreeSet": "x.keys ≡ []", "HashSet": "x.keys ≡ []",
+    **{name: "x ≡ pos 0" if name in SIGNED else "x ≡ 0" for name in NUMBERS},
 }
 # what `skip_serializing_if` may name, by the type of the field, and that what is read in place of an empty {x} equals it
-SKIPS = {"Option": "Option::is_none", "String": "String::is_empty", "Vec": "Vec::is_empty", "BTreeMap": "BTreeMap::is_empty"}
+SKIPS = {"Option": "Option::is_none", **{name: f"{name}::is_empty" for name in (
+    "String", "Vec", "BTreeMap", "BTreeSet", "HashMap", "HashSet", "VecDeque")}}
 ALIKE = {"Option": "none_alike _ {x} e y a", "String": "no_items_alike _ (string_bytes {x}) e (string_bytes y) a",
-         "Vec": "no_items_alike _ {x}.items e y.items a", "BTreeMap": "no_items_alike _ {x}.entries e y.entries a"}
+         **dict.fromkeys(("Vec", "VecDeque"), "no_items_alike _ {x}.items e y.items a"),
+         "BTreeMap": "no_items_alike _ {x}.entries e y.entries a", "BTreeSet": "no_items_alike _ {x}.keys e y.keys a",
+         "HashMap": "no_entries_alike _ _ {x} e y a", "HashSet": "no_keys_alike _ {x} e y a"}
 OWN = Laws("{own}_serialize.lawful-law {x} {h}", "{own}_round_trip.comes_back-law",
            "{own}_round_trip.keeps-law", "{declared}",
            "{own}_cbor_round_trip.kept-law", "{own}_not_null.refuses_null-law")
 PARAMETER = Laws("{own}.lawful {x} {h}", "{own}.comes_back", "{own}.keeps", "{declared}", "{own}.kept", "{own}.refuses_null")
 SENT_AND_READ = (("RoundTrip<'de>", "exists"), ("Serialize", "script"), ("Deserialize<'de>", "refusal"),
                  ("Deserialize<'de>", "gives"), ("PartialEq", "eq"))
+MOST_IN_TUPLE = 4  # values of a tuple that is sent and read
 RESERVED = set("data record deriving module where use mod pub package open as unfoldable abbrev axiom unfold unfolding"
                " ruleset mutual infix infixl infixr elim let in do Type coe fcoe tcoe hcom com".split())
-LT_A, LT_DE = "'a", "'de"
+LT_SENT, LT_DE, STATIC = "'sent", "'de", "'static"
 READ_ALONE = (("Deserialize<'de>", "refusal"), ("Deserialize<'de>", "gives"))
 READ, TRIP, CBOR, NOT_NULL = "Deserialize<'de>", "RoundTrip<'de>", "CborRoundTrip<'de>", "NotNull<'de>"
 
@@ -118,7 +166,7 @@ class Type:
     those at the places `nulls` decide whether it may be read of null, those at `optional` are in an Option in it, and those
     at `inside` are in itself, not elsewhere in memory.
 
-    A `parameter` is one of what holds it, whose bounds have the laws. Of one of the same file with arguments `laws_of` has
+    It is borrowed for its `lifetimes`. A `parameter` is one of what holds it, whose bounds have the laws. Of one of the same file with arguments `laws_of` has
     the laws, written out: the name of a law does not say for which arguments it is.
     """
 
@@ -136,16 +184,21 @@ class Type:
     optional: Tuple[int, ...] = ()
     inside: Tuple[int, ...] = ()
     parameter: bool = False
+    lifetimes: Tuple[str, ...] = ()
     laws_of: Optional[Callable[["Type"], "LawsOf"]] = field(default=None, compare=False, repr=False)
 
     @property
     def laws(self) -> Laws:
-        return PARAMETER if self.parameter else OWN if self.home else {**LEAVES, **HOLDERS}[self.name]
+        return PARAMETER if self.parameter else OWN if self.home else {**LEAVES, **HOLDERS, **FLOATS}[self.name]
 
     def parameters(self) -> List[str]:
         """The parameters in it, each once."""
         inside = [self.name] * self.parameter + [p for a in self.arguments for p in a.parameters()]
         return list(dict.fromkeys(inside))
+
+    def borrows(self) -> List[str]:
+        """The lifetimes in it, each once."""
+        return list(dict.fromkeys([*self.lifetimes, *(one for a in self.arguments for one in a.borrows())]))
 
     def at(self, given: Dict[str, "Type"]) -> "Type":
         """The same with types in the place of its parameters."""
@@ -155,7 +208,7 @@ class Type:
 
     def sized_by(self) -> List[str]:
         """The parameters on which its size depends: those of which it has values in itself."""
-        if self.name in ("Vec", "Box", "BTreeMap"):
+        if self.name in ELSEWHERE:
             return []
         places = self.inside if self.home else range(len(self.arguments))
         return [self.name] * self.parameter + [p for i in places for p in self.arguments[i].sized_by()]
@@ -168,7 +221,7 @@ class Type:
 
     def null_by(self) -> List[str]:
         """The parameters that decide whether it may be read of null."""
-        if self.name == "Box":
+        if self.name in POINTERS:
             return self.arguments[0].null_by()
         return [self.name] * self.parameter + [p for i in self.nulls for p in self.arguments[i].null_by()]
 
@@ -183,7 +236,11 @@ class Type:
 
     def rust(self) -> str:
         """The type as Rust writes it."""
-        inside = ", ".join(a.rust() for a in self.arguments)
+        inside = ", ".join([*self.lifetimes, *(a.rust() for a in self.arguments)])
+        if self.name == "&str":
+            return f"&{inside} str"
+        if self.name == "&":
+            return f"&{self.lifetimes[0]} {self.arguments[0].rust()}"
         if self.name == "tuple":
             return f"({inside}{',' * (len(self.arguments) == 1)})"
         return f"{self.name}<{inside}>" if inside else self.name
@@ -199,8 +256,8 @@ class Type:
         if self.name == "tuple":
             laws = [a.lawful(f"{x}.{i}", h) for i, a in enumerate(self.arguments)]
             return "tuple_lawful" + nest([f"element_fits ({law})" for law in laws], "end_fits")
-        if self.name == "Box":
-            return self.arguments[0].lawful(f"{x}.value", h)
+        if self.name in POINTERS | {"&"}:
+            return self.arguments[0].lawful(f"{x}.{'now' if self.name == '&' else 'value'}", h)
         inside = [f"(λ x h. {a.lawful('x', 'h')})" for a in self.arguments]
         return self.laws.lawful.format(*inside, x=x, h=h, own=self.called)
 
@@ -232,7 +289,7 @@ class Type:
         if self.name == "tuple":
             parts = nest([f"part_then {count} {i} ({refusal})" for i, refusal in enumerate(refusals)], f"(end_of_parts {count})")
             return f"(tuple_not_null {count}{parts})"
-        null = self.arguments[0].not_null() if self.name == "Box" else ""
+        null = self.arguments[0].not_null() if self.name in POINTERS else ""
         return self.laws.not_null.format(own=self.called, null=null, refusals=refusals)
 
     def comes_back_from_cbor(self) -> bool:
@@ -245,7 +302,7 @@ class Type:
 
     def may_be_null(self) -> bool:
         """Whether it may be read of null."""
-        if self.name == "Box":
+        if self.name in POINTERS:
             return self.arguments[0].may_be_null()
         if self.home:
             return self.null or any(self.arguments[i].may_be_null() for i in self.nulls)
@@ -300,7 +357,7 @@ class Type:
 
     def takes(self) -> Optional[Tuple[str, str]]:
         """The class of trees that it takes, where it takes one, and the law."""
-        return self.arguments[0].takes() if self.name == "Box" else self.record or CLASSES.get(self.name)
+        return self.arguments[0].takes() if self.name in POINTERS else self.record or CLASSES.get(self.name)
 
     def is_apart(self, other: "Type") -> bool:
         """Whether no tree is taken by both, where each takes trees of one class."""
@@ -309,7 +366,7 @@ class Type:
 
     def length(self) -> Optional[int]:
         """How many values the trees have that it takes, where all have as many."""
-        return self.arguments[0].length() if self.name == "Box" else len(self.arguments) if self.name == "tuple" else None
+        return self.arguments[0].length() if self.name in POINTERS else len(self.arguments) if self.name == "tuple" else None
 
     def counts(self) -> str:
         """The law that it takes trees of so many values."""
@@ -318,8 +375,11 @@ class Type:
         return f"(tuple_counts {parts}(parts_end_counts {count}){')' * (count + 1)}"
 
     def ordered(self) -> Dict[str, str]:
-        """Of a map, the order of its keys: that it is total, and that equal keys are its ties."""
-        if self.name != "BTreeMap":
+        """Of what has its keys in order, that order: that it is total, and that equal keys are its ties; of what hashes
+        them, their equality: that it is an equivalence."""
+        if self.name in HASHED:
+            return self.arguments[0].hashed()
+        if self.name not in IN_ORDER:
             return {}
         key = self.arguments[0]
         own = key.called
@@ -327,9 +387,18 @@ class Type:
             (f"{own}_ord.total-law", f"{own}_ord.matches_eq-law") if key.home else
             ("string_cmp_total", "(λ x y. texts_ties (string_bytes x) (string_bytes y))")
             if key.name == "String" else
+            ("(path_cmp_total path_buf_bytes)", "(λ x y. refl)") if key.name == "PathBuf" else
             ("int_cmp_total", "(λ x y. refl)") if key.name in SIGNED else
             ("nat_cmp_total", "unsigned_ties"))
         return {"total": total, "ties": ties, "order": key.member("Ord", "cmp")}
+
+    def hashed(self) -> Dict[str, str]:
+        """Of a hashed key, its equality: that it is an equivalence."""
+        equal = (f"{self.called}_eq.laws-law" if self.home else
+                 "string_eq_equiv" if self.name == "String" else
+                 "(eq_by_cmp_equiv (path_cmp_total path_buf_bytes))" if self.name == "PathBuf" else
+                 "int_eq_equiv" if self.name in SIGNED else "bool_eq_equiv" if self.name == "bool" else "nat_eq_equiv")
+        return {"equal": equal, "same": self.member("PartialEq", "eq")}
 
     def owns(self) -> Iterator["Type"]:
         """The own types in it."""

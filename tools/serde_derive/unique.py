@@ -11,7 +11,7 @@ from .words import USES, WORDS
 
 FUNCTIONS = {name for names in USES.values() for name in names.split() if name.islower()}
 ROW = re.compile(r"(?:fields|names|aliases|meant|tags|sent|(?:field|part|from|sent|default|unless)\d+)of(.+)")  # what is called after an owner
-KINDS = ("serialize", "round_trip", "cbor_round_trip", "not_null", "ord")
+KINDS = ("serialize", "round_trip", "cbor_round_trip", "not_null", "ord", "eq")
 
 
 def fresh(name: str, more: str, clashes: Callable[[str], bool]) -> str:
@@ -41,11 +41,16 @@ def name_functions(items: List[Item]) -> None:
             one.owner = fresh(snake(name), more, clashes)
             taken.add(one.owner)
             lists.add(pascal(one.owner).lower())
+    for v in [v for item in items for v in item.variants if "content" in item.serde and v.data.several]:
+        v.content = fresh(f"{v.owner}_content", "_variant", lambda name: clashes(name) or pascal(name).lower() in names)
+        taken.add(v.content)
+        lists.add(pascal(v.content).lower())
 
 
-def name_cases(items: List[Item], types: Dict[str, Tuple[str, str]]) -> None:
-    """Names what contracts call the cases of enums by, with the home and name of each own type by what it is called."""
-    taken = {item.name for item in items} | {declared for _, declared in types.values()}
+def name_cases(items: List[Item], types: Dict[str, Tuple[str, str]], modules: Set[str]) -> None:
+    """Names what contracts call the cases of enums by, with the home and name of each own type by what it is called, and what
+    they call modules by."""
+    taken = {item.name for item in items} | {declared for _, declared in types.values()} | modules
     taken |= {f"{word}_{kind}" for word in [*map(snake, taken), *types] for kind in (*KINDS, "as_seen")}
     for item in items:
         places = {place for v in item.variants if v.signed() or len(v.data.fields) > LONGEST_HELD for place in v.data.places()}

@@ -3,11 +3,11 @@ from typing import Iterator, List
 
 from .declarations import Item, Refused, Variant
 from .enums import EnumWriter
+from .held import HeldWriter
 from .holder import Holder, sending
-from .structs import StructWriter
 from .text import DESERIALIZE, SERIALIZE, all_hold, arm, codes, elim, facts, function, ghost
 from .text import together
-from .types import LT_DE, READ, angled, bounded, nest
+from .types import READ, nest
 from .words import CHOICES, PLACES
 
 
@@ -15,8 +15,10 @@ def check_untagged(item: Item) -> Iterator[Refused]:
     """Refuses variants that are not covered without a tag."""
     for v in item.variants:
         where, count = f"{item.name}.{v.name}", len(v.data.fields)
-        if v.aliases() or "other" in v.serde or not (v.sent and v.read):
-            yield Refused(v.line, "of an untagged enum no variant is skipped, or has another name: delete what says so", where)
+        if v.aliases() or "other" in v.serde:
+            yield Refused(v.line, "of an untagged enum no variant has another name: delete what says so", where)
+        elif v.skips_a_place():
+            yield Refused(v.line, "of an untagged enum no value by place is skipped: give the values names", where)
         elif count > 4 and not v.data.named:
             yield Refused(v.line, "of an untagged enum, only variants with no values, with values by name, and with one to four by"
                           " place, are covered: hold a struct of them", where)
@@ -28,26 +30,18 @@ class UntaggedWriter(EnumWriter):
     def __init__(self, item: Item):
         super().__init__(item)
         # a variant of values by name is sent and read as a struct is
-        self.structs = {v.name: StructWriter(Item(
-            v.held().name, v.line, [f"/// What the variant `{v.name}` holds."], {}, item.wire, item.known, derives=item.derives,
-            data=v.data, owner=v.owner, parameters=v.data.parameters())) for v in item.variants if v.data.named}
+        self.structs = {v.name: HeldWriter(item, v, v.owner, item.wire) for v in item.variants if v.data.named}
         self.holders = {v.name: holder for v, holder in self.variants}
         self.last = f"data did not match any variant of untagged enum {item.name}"
 
     def functions(self) -> List[str]:
         return [text for v, holder in self.variants
-                for text in self.struct(v) + self.maker(v, holder) * self.reads + self.whole_sender(v, holder) * self.sends]
+                for text in self.struct(v) * (v.sent or v.read) + self.maker(v, holder) * (self.reads and v.read)
+                + self.whole_sender(v, holder) * (self.sends and v.sent)]
 
     def struct(self, v: Variant) -> List[str]:
         """The struct that a variant of values by name is read as, and how."""
-        if not v.data.named:
-            return []
-        writer = self.structs[v.name]
-        name, members = writer.whole.rust(), "\n\n".join(writer.deserialize())
-        given = angled(LT_DE, *bounded(writer.item.parameters, READ))
-        read = ["\n".join(writer.item.head + [f"#[derive(Drop)]\nstruct {name}{v.data.declared()}\n"]),
-                f"impl{given} {READ} for {name} {{\n{members}\n}}\n"]
-        return read[:1] * self.reads + writer.functions() + read[1:] * self.reads
+        return self.structs[v.name].texts() if v.data.named else []
 
     def is_apart(self, v: Variant, holder: Holder) -> bool:
         return v.data.named or len(v.data.fields) > 1
@@ -58,10 +52,11 @@ class UntaggedWriter(EnumWriter):
         return sending(f"Call::Tuple({len(v.data.fields)})", [f"SendElement({p}, row)" for p in v.data.places()])
 
     def serialize(self) -> List[str]:
-        return [ghost("script", self.each(lambda v, holder, x: self.script(v, x))),
+        return [ghost("script", self.each(lambda v, holder, x: self.script(v, x) if v.sent else self.unsent_script(v))),
                 ghost("lawful", self.lawful()),
                 function(SERIALIZE, *self.match([
-                    arm(self.made(v, v.data.places()), [self.send(v)]) for v in self.item.variants]))]
+                    arm(self.made(v, v.data.places()), [self.send(v)]) if v.sent else self.refusing(v)
+                    for v in self.item.variants]))]
 
     def script(self, v: Variant, values: List[str]) -> str:
         if v.data.named:
@@ -77,7 +72,7 @@ class UntaggedWriter(EnumWriter):
         return f"tuple_script {len(parts)}" + nest([f"element_first ({part})" for part in parts], "end_script")
 
     def lawful(self) -> str:
-        return self.each(lambda v, holder, x: f"λ readable. {self.variant_lawful(v, x)}")
+        return self.each(lambda v, holder, x: f"λ readable. {self.variant_lawful(v, x) if v.sent else 'unsent_lawful _'}")
 
     def variant_lawful(self, v: Variant, values: List[str]) -> str:
         if v.data.named:
@@ -94,23 +89,25 @@ class UntaggedWriter(EnumWriter):
         return f"{self.whole_name(v)}(alloc, serializer, self, {', '.join(places)})"
 
     def deserialize(self) -> List[str]:
-        refusals = [f"({v.held().member(READ, 'refusal')} (in_buffer s))" for v in self.item.variants]
+        readable = [v for v, _ in self.readable()]
+        refusals = [f"({v.held().member(READ, 'refusal')} (in_buffer s))" for v in readable]
         gives = []
-        for place, v in enumerate(self.item.variants):
+        for place, v in enumerate(readable):
             values = f"({v.data.term(self.values(v.data))})" if v.data.named else together(self.values(v.data))
             before = "".join(f"IsSome {refusal} ×\n" for refusal in refusals[:place])
             gives.append(f"{before}IsTakenAs {refusals[place]} ({v.held().member(READ, 'gives')} (in_buffer s)) {values}")
         given = iter(gives)
         refused = nest([f"or_next {refusal}" for refusal in refusals], f"(Some (custom {codes(self.last)}))")
         return [ghost("refusal", f"λ s.{refused}"),
-                ghost("gives", "λ s. " + self.each(lambda v, holder, x: next(given))),
+                ghost("gives", "λ s. " + self.each(lambda v, holder, x: next(given) if v.read else "⊥")),
                 function(DESERIALIZE.format(self.whole), *self.tries())]
 
     def tries(self) -> List[str]:
         """The statements that try the variants: those before the last four one by one, and the
         others in one call, which takes the source."""
-        start = max(len(self.item.variants) - len(PLACES), 0) if len(self.item.variants) > 1 else 1
-        alone, rest = self.item.variants[:start], self.item.variants[start:]
+        readable = [v for v, _ in self.readable()]
+        start = max(len(readable) - len(PLACES), 0) if len(readable) > 1 else 1
+        alone, rest = readable[:start], readable[start:]
         lines = [line for v in alone for line in (
             f"if let Some({self.found(v)}) = attempt::<{v.held().rust()}>(alloc, &from)? {{",
             f"return {self.given(v)};", "}")]

@@ -17,13 +17,17 @@ def word_table(text: str) -> Dict[str, str]:
 
 STYLES = [f"{style}_{sort}" for style in ("unit", "newtype", "tuple", "struct") for sort in ("struct", "variant")]
 STYLES[STYLES.index("struct_struct")] = "struct"
+# leaves whose laws stand apart from those of the others
+TEXTS = {"BoxedStr", "PathBuf"}
 WORDS = word_table(f"""
 std.specs.Prelude ◌≡◌ ◌∷◌ [] ℕ ℤ Bool Option None Some IsSome true false pos negsuc not nat_eq codes string_bytes refl ⊤
 std.specs.Ordering int_eq
 std.specs.Str bytes_eq
-std.specs.Cmp nat_cmp_total int_cmp_total unsigned_ties
+std.specs.Cmp nat_cmp_total int_cmp_total unsigned_ties nat_eq_equiv int_eq_equiv bool_eq_equiv eq_by_cmp_equiv
+std.specs.Box boxed_str_bytes
+std.specs.Path path_buf_bytes path_cmp_total
 std.specs.Cmp.Lexicographic texts_ties
-std.specs.String string_cmp_total
+std.specs.String string_cmp_total string_eq_equiv
 content_tree.specs.Values.Text static_name
 content_tree.specs.Errors.Cause custom
 content_ser.specs.Scripts.Script IsLawful
@@ -55,9 +59,12 @@ serde_content.specs.Tags meant meant_among EnumGivesBy
 serde_content.specs.Variants index_among variants
 serde_content.specs.RoundTrip ComesBack CoercionKeeps
 serde_content.specs.Laws.Leaves heedless_keeps natural_keeps integer_keeps
-serde_content.specs.Laws.Leaves {' '.join(laws.back for laws in LEAVES.values())}
+serde_content.specs.Laws.Leaves {' '.join(laws.back for name, laws in LEAVES.items() if name not in TEXTS)}
+serde_content.specs.Laws.Texts path_back boxed_text_back
 serde_content.specs.Laws.Holders seen_back seen_keeps option_back option_keeps seq_back seq_keeps
 serde_content.specs.Laws.Maps map_back map_keeps
+serde_content.specs.Laws.Sets set_back set_keeps
+serde_content.specs.Laws.Hashed hash_set_back hash_set_keeps hash_map_back hash_map_keeps no_entries_alike no_keys_alike
 serde_content.specs.Laws.Spelled leaf_such
 serde_content.specs.Laws.Series both_hold element_back tuple_back tuple_field_back tuple_struct_back parts_end
 serde_content.specs.Laws.Series part_keeps tuple_keeps tuple_struct_keeps parts_end_keeps
@@ -71,7 +78,7 @@ serde_content.specs.Laws.OwnFunctions false_alike true_alike equal_alike text_al
 serde_content.specs.Laws.Flattened flattened_script flattened_first flattened_fits flattened_end_fits
 serde_content.specs.Laws.Flattened flattened_lawful flattened_refusal FlattenedGives flattened_end_back
 serde_content.specs.Laws.Flattened flattened_named_back flattened_named_or_back flattened_back flattened_keeps
-serde_content.specs.Laws.Tagged tagged_script tagged_back tag_keeps tag_keeps_buffered
+serde_content.specs.Laws.Tagged tagged_script tagged_back tag_keeps tag_keeps_buffered content_back content_keeps
 serde_content.specs.Laws.Untagged such_seen first_taken later_taken taken_by_one not_refused
 serde_content.specs.Laws.Untagged unit_takes bool_takes number_takes char_takes text_takes seq_takes tuple_takes
 serde_content.specs.Laws.Untagged map_takes struct_takes tuple_counts part_counts parts_end_counts
@@ -80,7 +87,10 @@ serde_content.specs.Laws.Variants {' '.join(f'{s}_back {s}_keeps' for s in STYLE
 content_cbor.specs.Decoded read_in flags_in
 content_cbor.specs.Form form
 content_cbor.specs.Typed.Kept FormComesBack RefusesNull
-content_cbor.specs.Typed.Leaves {' '.join(laws.kept for laws in LEAVES.values() if laws.kept)}
+content_cbor.specs.Typed.Leaves {' '.join(laws.kept for name, laws in LEAVES.items() if laws.kept and name not in TEXTS)}
+content_cbor.specs.Typed.Texts path_kept boxed_text_kept
+content_cbor.specs.Typed.Sets set_kept hash_set_kept
+content_cbor.specs.Typed.HashMaps hash_map_kept
 content_cbor.specs.Typed.Leaves number_not_null bool_not_null text_not_null
 content_cbor.specs.Typed.Holders seen_kept option_kept seq_kept seq_not_null
 content_cbor.specs.Typed.Maps map_kept map_not_null
@@ -88,7 +98,7 @@ content_cbor.specs.Typed.Series element_kept tuple_kept tuple_field_kept tuple_s
 content_cbor.specs.Typed.Series tuple_not_null
 content_cbor.specs.Typed.Records struct_kept newtype_struct_kept
 content_cbor.specs.Typed.ByName by_name_kept named_kept named_or_kept skipped_kept closed_kept
-content_cbor.specs.Typed.Tagged tagged_kept
+content_cbor.specs.Typed.Tagged tagged_kept content_kept
 content_cbor.specs.Typed.Flattened flattened_named_kept flattened_named_or_kept flattened_end_kept flattened_kept
 content_cbor.specs.Typed.Variants variant_comes_back given_as
 content_cbor.specs.Typed.Variants {' '.join(f'{s}_kept' for s in STYLES[1::2])}
@@ -100,6 +110,16 @@ std.specs.declared.string.String String
 std.specs.declared.vec.Vec Vec
 std.specs.declared.boxed.Box Box
 std.specs.declared.collections.BTreeMap BTreeMap
+std.specs.declared.collections.BTreeSet BTreeSet
+std.specs.declared.collections.VecDeque VecDeque
+std.specs.HashMap HashMap
+std.specs.HashSet HashSet
+std.specs.declared.hash.BuildHasherDefault BuildHasherDefault
+std.specs.declared.hash.FoldHasher FoldHasher
+std.specs.declared.boxed.BoxedStr BoxedStr
+std.specs.declared.path.PathBuf PathBuf
+std.specs.declared.rc.Rc Rc
+std.specs.declared.sync.Arc Arc
 """)
 PLACES = "First Second Third Fourth".split()
 CHOICES = [(f"first_of_{count}", f"OneOf{count.title()}") for count in ("two", "three", "four")]
@@ -109,16 +129,21 @@ USES = {
     "serde_content::de": "Deserialize FieldsByName VariantAccess attempt",
     "serde_content::derive_support":
         f"Absent Aliases DefaultOf NameAt Names NoName OfType OtherAt OwnNames {' '.join(sorted(one for _, one in CHOICES))}"
-        " OthersRefused OthersSkipped PartsEnd ReadAbsent ReadAliased ReadAliasedElse ReadField ReadFieldElse ReadFieldOr"
-        " ReadFields ReadMade ReadPart ReadParts ReadStruct SendElement SendEnd SendEntry SendField SendFieldIf SendFieldUnless"
-        " SendOpen SendPart SendTag Skip SkipIf TaggedVariants Variants"
+        " OthersRefused OthersSkipped PartsEnd ReadAliased ReadAliasedElse ReadField ReadFieldElse ReadFieldOr"
+        " ReadFields ReadPart ReadParts ReadStruct SendElement SendEnd SendEntry SendField SendFieldIf SendFieldUnless"
+        " SendInside SendOpen SendPart SendTag Skip SkipIf TaggedVariants Variants"
         f" {' '.join(sorted(first for first, _ in CHOICES))} count_if count_unless default_text no_such_variant read_adjacent"
-        " read_enum read_enum_by read_flattened read_struct read_tagged send_row variant_index",
+        " read_enum read_enum_by read_flattened read_struct read_tagged refuse_unsent send_row"
+        " variant_index",
     "serde_content::ser": "Call Parts Serialize Serializer",
     "std::alloc": "Global",
-    "std::collections": "BTreeMap",
+    "std::boxed": "BoxedStr",
+    "std::collections": "BTreeMap BTreeSet HashMap HashSet VecDeque",
+    "std::path": "PathBuf",
+    "std::rc": "Rc",
+    "std::sync": "Arc",
 }
-NO_PLACES = RESERVED | {"alloc", "fields", "serializer", "result", "row"} | {
+NO_PLACES = RESERVED | {"alloc", "fields", "serializer", "result", "row", "whole"} | {
     name for names in USES.values() for name in names.split() if name.islower()}
 IN_TEXT = {"[]": r"\[\]", "form": r"\(form t\)", "custom": r"\(custom ", "Some": r"(?:\(|≡ )Some \(", "None": r"(?:≡|\[\]\)) None",
            "true": r"(?:fits|λ b\.|≡) true", "false": "≡ false", "name": 'name "', "not": r"\(not ", "variants": r"variants \( \(name"}

@@ -3,7 +3,7 @@
 //! Written by `tools/derive` from `attributes.rs`: change that file, and write this one anew.
 
 ghost use Rattle.std.specs.Prelude.{◌≡◌, ◌∷◌, [], ℕ, ℤ, Bool, Option, None, Some, true, false};
-ghost use Rattle.std.specs.Prelude.{negsuc, not, nat_eq, string_bytes, refl};
+ghost use Rattle.std.specs.Prelude.{negsuc, not, nat_eq, codes, string_bytes, refl};
 ghost use Rattle.content_ser.specs.Scripts.Own.{field_first, end_script, unit_variant_script};
 ghost use Rattle.content_ser.specs.Scripts.Own.{newtype_variant_script, struct_script};
 ghost use Rattle.content_ser.specs.Scripts.Own.{struct_variant_script};
@@ -23,7 +23,7 @@ ghost use Rattle.content_de.specs.Reads.Own.{NewtypeVariantGives, struct_refusal
 ghost use Rattle.content_de.specs.Reads.Own.{struct_variant_refusal, StructVariantGives};
 ghost use Rattle.serde_content.specs.Literals.{name, row_then, row_or_then, RowThen, RowOrThen};
 ghost use Rattle.serde_content.specs.Literals.{others_left};
-ghost use Rattle.serde_content.specs.Skips.{fields_less, field_unless};
+ghost use Rattle.serde_content.specs.Skips.{fields_less, field_unless, UnreadThen, unsent_script};
 ghost use Rattle.serde_content.specs.Aliases.{aliased_then, AliasedThen};
 ghost use Rattle.serde_content.specs.Tags.{meant, meant_among, EnumGivesBy};
 ghost use Rattle.serde_content.specs.Variants.{index_among, variants};
@@ -37,7 +37,7 @@ ghost use Rattle.serde_content.specs.Laws.Records.{struct_back, struct_keeps};
 ghost use Rattle.serde_content.specs.Laws.ByName.{by_name_back, named_back, named_or_back};
 ghost use Rattle.serde_content.specs.Laws.ByName.{skipped_back, by_name_keeps, named_keeps};
 ghost use Rattle.serde_content.specs.Laws.ByName.{named_or_keeps, skipped_keeps};
-ghost use Rattle.serde_content.specs.Laws.Skips.{field_unless_fits, keyed_or_back};
+ghost use Rattle.serde_content.specs.Laws.Skips.{field_unless_fits, unsent_lawful, keyed_or_back};
 ghost use Rattle.serde_content.specs.Laws.Skips.{keyed_unless_back, keyed_skipped_back};
 ghost use Rattle.serde_content.specs.Laws.Skips.{keyed_named};
 ghost use Rattle.serde_content.specs.Laws.Tags.{meant_variant_kept};
@@ -62,10 +62,10 @@ ghost use Rattle.check_derive.specs.declared.attributes.Way.TheVariants as way;
 use content_cbor::{CborRoundTrip, NotNull};
 use serde_content::de::{Deserialize, FieldsByName, VariantAccess};
 use serde_content::derive_support::{
-    Aliases, DefaultOf, NameAt, Names, NoName, OfType, OtherAt, OthersSkipped, ReadAliased,
+    Absent, Aliases, DefaultOf, NameAt, Names, NoName, OfType, OtherAt, OthersSkipped, ReadAliased,
     ReadAliasedElse, ReadField, ReadFieldElse, ReadFieldOr, ReadFields, ReadStruct, SendEnd,
     SendField, SendFieldIf, SendOpen, SkipIf, Variants, count_if, default_text, no_such_variant,
-    read_enum, read_enum_by, read_struct, send_row, variant_index,
+    read_enum, read_enum_by, read_struct, refuse_unsent, send_row, variant_index,
 };
 use serde_content::ser::{Call, Parts, Serialize, Serializer};
 use serde_content::{Deserializer, Result, RoundTrip};
@@ -919,7 +919,7 @@ impl<'de> NotNull<'de> for Extent {
     ghost refuses_null = { record { of_null = λ b e. absurd (cc e) } };
 }
 
-/// A task, of which some fields have further names.
+/// A task, of which some fields have further names, and others are sent alone, read alone, or neither.
 #[derive(Drop, PartialEq, Eq)]
 pub struct Task {
     /// What is done first.
@@ -928,8 +928,12 @@ pub struct Task {
     pub tags: Vec<u8>,
     /// How often it is done.
     pub times: u8,
-    /// Whether it is done at all.
-    pub wanted: Option<bool>,
+    /// What it says inside.
+    pub notes: Vec<u8>,
+    /// Who may see it.
+    pub secret: String,
+    /// How often it was done.
+    pub done: u8,
 }
 
 /// The names of its fields.
@@ -937,11 +941,11 @@ pub struct Task {
 struct FieldsOfTask;
 
 impl Names for FieldsOfTask {
-    ghost names = { name "setup" ∷ name "tags" ∷ name "times" ∷ name "wanted" ∷ [] };
+    ghost names = { name "setup" ∷ name "tags" ∷ name "times" ∷ name "secret" ∷ [] };
 
     #[tactic(auto, unfolding(serde_content::specs::Literals::name))]
     fn names() -> &'static [&'static str] {
-        &["setup", "tags", "times", "wanted"]
+        &["setup", "tags", "times", "secret"]
     }
 }
 
@@ -955,6 +959,19 @@ impl Names for AliasesOfTask {
     #[tactic(auto, unfolding(serde_content::specs::Literals::name))]
     fn names() -> &'static [&'static str] {
         &["before-all", "before", "marks", "count"]
+    }
+}
+
+/// The names of the fields that are sent.
+#[derive(Drop)]
+struct SentOfTask;
+
+impl Names for SentOfTask {
+    ghost names = { name "setup" ∷ name "tags" ∷ name "times" ∷ name "done" ∷ [] };
+
+    #[tactic(auto, unfolding(serde_content::specs::Literals::name))]
+    fn names() -> &'static [&'static str] {
+        &["setup", "tags", "times", "done"]
     }
 }
 
@@ -996,7 +1013,7 @@ type Field3OfTask = ReadAliasedElse<
     Field4OfTask,
 >;
 
-type Field4OfTask = ReadFieldOr<FieldsOfTask, 3, Option<bool>, OthersSkipped<FieldsOfTask>>;
+type Field4OfTask = ReadField<FieldsOfTask, 3, String, OthersSkipped<FieldsOfTask>>;
 
 impl<'de> ReadStruct<'de> for Task {
     ghost name = { name "Task" };
@@ -1008,10 +1025,12 @@ impl<'de> ReadStruct<'de> for Task {
         (⟦<Vec<u8> as Deserialize<'de>>⟧.refusal)
         (aliased_then (name "times") (name "times" ∷ name "count" ∷ []) None
         (⟦<u8 as Deserialize<'de>>⟧.refusal)
-        (row_or_then (name "wanted") (⟦<Option<bool> as Deserialize<'de>>⟧.refusal)
-        (others_left (name "setup" ∷ name "tags" ∷ name "times" ∷ name "wanted" ∷ []))))) };
+        (row_then (name "secret") (⟦<String as Deserialize<'de>>⟧.refusal)
+        (others_left (name "setup" ∷ name "tags" ∷ name "times" ∷ name "secret" ∷ []))))) };
 
     ghost gives = { λ z.
+        (UnreadThen (λ (x : (Vec ℕ Global)). x.items ≡ []) z.notes
+        (UnreadThen (λ (x : ℕ). x ≡ 1) z.done
         (AliasedThen (name "setup" ∷ name "before-all" ∷ name "before" ∷ []) (λ b. ⊥)
         (⟦<String as Deserialize<'de>>⟧.gives) z.setup
         (AliasedThen (name "tags" ∷ name "marks" ∷ [])
@@ -1019,9 +1038,8 @@ impl<'de> ReadStruct<'de> for Task {
         z.tags
         (AliasedThen (name "times" ∷ name "count" ∷ []) (λ (x : ℕ). x ≡ 1)
         (⟦<u8 as Deserialize<'de>>⟧.gives) z.times
-        (RowOrThen (name "wanted") (λ (x : (Option Bool)). x ≡ None)
-        (⟦<Option<bool> as Deserialize<'de>>⟧.gives) z.wanted
-        NoOthers)))) };
+        (RowThen (name "secret") (⟦<String as Deserialize<'de>>⟧.gives) z.secret
+        NoOthers)))))) };
 
     #[tactic(auto, unfolding(serde_content::specs::Literals::name))]
     fn name() -> &'static str {
@@ -1033,12 +1051,16 @@ impl<'de> ReadStruct<'de> for Task {
         let ReadAliased(setup, row, _) = row;
         let ReadAliasedElse(tags, row, _) = row;
         let ReadAliasedElse(times, row, _) = row;
-        let ReadFieldOr(wanted, _, _) = row;
+        let ReadField(secret, _, _) = row;
+        let notes: Vec<u8> = Absent::absent(alloc);
+        let done: u8 = 1;
         Ok(Task {
             setup,
             tags,
             times,
-            wanted,
+            notes,
+            secret,
+            done,
         })
     }
 }
@@ -1048,22 +1070,22 @@ impl Serialize for Task {
         (field_first (name "setup") (⟦<String as Serialize>⟧.script p.setup)
         (field_first (name "tags") (⟦<Vec<u8> as Serialize>⟧.script p.tags)
         (field_first (name "times") (⟦<u8 as Serialize>⟧.script p.times)
-        (field_first (name "wanted") (⟦<Option<bool> as Serialize>⟧.script p.wanted)
+        (field_first (name "done") (⟦<u8 as Serialize>⟧.script p.done)
         end_script)))) };
 
     ghost lawful = { λ p readable. struct_lawful
         (field_fits (leaf_lawful refl)
         (field_fits (seq_lawful (λ x h. leaf_lawful refl) p.tags.items readable)
         (field_fits (leaf_lawful refl)
-        (field_fits (option_lawful (λ x h. leaf_lawful refl) p.wanted readable)
+        (field_fits (leaf_lawful refl)
         struct_end_fits)))) };
 
     fn serialize<S: Serializer>(&self, alloc: Global, serializer: &mut S) -> Result<()> {
         let row = SendEnd;
-        let row = SendField(FieldsOfTask, 3, &self.wanted, row);
-        let row = SendField(FieldsOfTask, 2, &self.times, row);
-        let row = SendField(FieldsOfTask, 1, &self.tags, row);
-        let row = SendField(FieldsOfTask, 0, &self.setup, row);
+        let row = SendField(SentOfTask, 3, &self.done, row);
+        let row = SendField(SentOfTask, 2, &self.times, row);
+        let row = SendField(SentOfTask, 1, &self.tags, row);
+        let row = SendField(SentOfTask, 0, &self.setup, row);
         let row = SendOpen(Call::Struct(name_task(), 4), row);
         send_row(alloc, serializer, &row)
     }
@@ -1077,10 +1099,12 @@ impl<'de> Deserialize<'de> for Task {
         (⟦<Vec<u8> as Deserialize<'de>>⟧.refusal)
         (aliased_then (name "times") (name "times" ∷ name "count" ∷ []) None
         (⟦<u8 as Deserialize<'de>>⟧.refusal)
-        (row_or_then (name "wanted") (⟦<Option<bool> as Deserialize<'de>>⟧.refusal)
-        (others_left (name "setup" ∷ name "tags" ∷ name "times" ∷ name "wanted" ∷ []))))))) };
+        (row_then (name "secret") (⟦<String as Deserialize<'de>>⟧.refusal)
+        (others_left (name "setup" ∷ name "tags" ∷ name "times" ∷ name "secret" ∷ []))))))) };
 
     ghost gives = { λ s p. StructGives (name "Task") (ReadByName
+        (UnreadThen (λ (x : (Vec ℕ Global)). x.items ≡ []) p.notes
+        (UnreadThen (λ (x : ℕ). x ≡ 1) p.done
         (AliasedThen (name "setup" ∷ name "before-all" ∷ name "before" ∷ []) (λ b. ⊥)
         (⟦<String as Deserialize<'de>>⟧.gives) p.setup
         (AliasedThen (name "tags" ∷ name "marks" ∷ [])
@@ -1088,9 +1112,8 @@ impl<'de> Deserialize<'de> for Task {
         p.tags
         (AliasedThen (name "times" ∷ name "count" ∷ []) (λ (x : ℕ). x ≡ 1)
         (⟦<u8 as Deserialize<'de>>⟧.gives) p.times
-        (RowOrThen (name "wanted") (λ (x : (Option Bool)). x ≡ None)
-        (⟦<Option<bool> as Deserialize<'de>>⟧.gives) p.wanted
-        NoOthers))))) s };
+        (RowThen (name "secret") (⟦<String as Deserialize<'de>>⟧.gives) p.secret
+        NoOthers))))))) s };
 
     fn deserialize<'n: 'de>(alloc: Global, from: Deserializer<'de, 'n>) -> Result<Task> {
         read_struct::<FieldsOfTask, Self>(alloc, from)
@@ -1223,6 +1246,8 @@ pub enum Way {
     Up,
     /// Downwards, so far.
     Down(u8),
+    /// Nowhere, which is neither sent nor read.
+    Lost(u8),
 }
 
 /// The names of its variants.
@@ -1243,11 +1268,14 @@ impl Serialize for Way {
       | way.Up ↦ unit_variant_script (name "Way") 0 (name "up")
       | way.Down x1 ↦ newtype_variant_script (name "Way") 1 (name "Down")
           (⟦<u8 as Serialize>⟧.script x1)
+      | way.Lost x1 ↦ unsent_script
+          (codes "the enum variant Way::Lost cannot be serialized")
     ] };
 
     ghost lawful = { elim [
       | way.Up ↦ λ readable. unit_variant_lawful
       | way.Down x1 ↦ λ readable. newtype_variant_lawful (leaf_lawful refl)
+      | way.Lost x1 ↦ λ readable. unsent_lawful _
     ] };
 
     fn serialize<S: Serializer>(&self, alloc: Global, serializer: &mut S) -> Result<()> {
@@ -1256,6 +1284,13 @@ impl Serialize for Way {
             Way::Down(x1) => Call::NewtypeVariant(name_way(), 1, name_down()).around(
                 x1, alloc, serializer,
             ),
+            Way::Lost(_) => {
+                refuse_unsent(
+                    alloc,
+                    serializer,
+                    "the enum variant Way::Lost cannot be serialized",
+                )
+            }
         }
     }
 }
@@ -1271,11 +1306,13 @@ impl<'de> Variants<'de> for Way {
     ghost named = { elim [
       | way.Up ↦ name "north"
       | way.Down x1 ↦ name "Down"
+      | way.Lost x1 ↦ name "Lost"
     ] };
 
     ghost held = { elim [
       | way.Up ↦ UnitVariantGives
       | way.Down x1 ↦ NewtypeVariantGives (⟦<u8 as Deserialize<'de>>⟧.gives) x1
+      | way.Lost x1 ↦ λ v. ⊥
     ] };
 
     #[tactic(auto, unfolding(serde_content::specs::Literals::name))]

@@ -12,8 +12,7 @@ ghost use Rattle.content_ser.specs.Scripts.Own.{unit_variant_script, newtype_var
 ghost use Rattle.content_ser.specs.Scripts.Own.{tuple_struct_script, tuple_variant_script};
 ghost use Rattle.content_ser.specs.Scripts.Own.{struct_script, struct_variant_script};
 ghost use Rattle.content_ser.specs.Laws.StandardScripts.{leaf_lawful, option_lawful, seq_lawful};
-ghost use Rattle.content_ser.specs.Laws.StandardScripts.{map_lawful, tuple_lawful, element_fits};
-ghost use Rattle.content_ser.specs.Laws.StandardScripts.{end_fits};
+ghost use Rattle.content_ser.specs.Laws.StandardScripts.{tuple_lawful, element_fits, end_fits};
 ghost use Rattle.content_ser.specs.Laws.OwnScripts.{field_fits, struct_end_fits, tuple_field_fits};
 ghost use Rattle.content_ser.specs.Laws.OwnScripts.{tuple_end_fits, unit_variant_lawful};
 ghost use Rattle.content_ser.specs.Laws.OwnScripts.{newtype_variant_lawful, tuple_struct_lawful};
@@ -28,7 +27,8 @@ ghost use Rattle.content_de.specs.Accesses.ByName.{fields_left};
 ghost use Rattle.content_de.specs.Reads.Read.{Reads};
 ghost use Rattle.content_de.specs.Reads.Attempts.{IsTakenAs, or_next};
 ghost use Rattle.content_de.specs.Reads.ByName.{read_by_name, no_others, ReadByName, NoOthers};
-ghost use Rattle.content_de.specs.Reads.Tagged.{tag_then_buffered, TagThenBuffered};
+ghost use Rattle.content_de.specs.Reads.Tagged.{tag_then, TagThen, tag_then_buffered};
+ghost use Rattle.content_de.specs.Reads.Tagged.{TagThenBuffered};
 ghost use Rattle.content_de.specs.Reads.Own.{enum_refusal, EnumGives, unit_variant_refusal};
 ghost use Rattle.content_de.specs.Reads.Own.{UnitVariantGives, newtype_variant_refusal};
 ghost use Rattle.content_de.specs.Reads.Own.{NewtypeVariantGives, tuple_struct_refusal};
@@ -45,8 +45,9 @@ ghost use Rattle.serde_content.specs.Laws.Leaves.{bool_back, char_back, text_bac
 ghost use Rattle.serde_content.specs.Laws.Leaves.{u64_back, i32_back, i64_back};
 ghost use Rattle.serde_content.specs.Laws.Holders.{seen_back, seen_keeps, option_back};
 ghost use Rattle.serde_content.specs.Laws.Holders.{option_keeps, seq_back, seq_keeps};
-ghost use Rattle.serde_content.specs.Laws.Series.{both_hold, tuple_field_back, tuple_struct_back};
-ghost use Rattle.serde_content.specs.Laws.Series.{parts_end, part_keeps, tuple_struct_keeps};
+ghost use Rattle.serde_content.specs.Laws.Series.{both_hold, element_back, tuple_back};
+ghost use Rattle.serde_content.specs.Laws.Series.{tuple_field_back, tuple_struct_back, parts_end};
+ghost use Rattle.serde_content.specs.Laws.Series.{part_keeps, tuple_keeps, tuple_struct_keeps};
 ghost use Rattle.serde_content.specs.Laws.Series.{parts_end_keeps};
 ghost use Rattle.serde_content.specs.Laws.Records.{struct_back, struct_keeps};
 ghost use Rattle.serde_content.specs.Laws.ByName.{by_name_back, named_back, named_or_back};
@@ -61,7 +62,8 @@ ghost use Rattle.serde_content.specs.Laws.Flattened.{flattened_lawful, flattened
 ghost use Rattle.serde_content.specs.Laws.Flattened.{FlattenedGives, flattened_end_back};
 ghost use Rattle.serde_content.specs.Laws.Flattened.{flattened_named_back, flattened_named_or_back};
 ghost use Rattle.serde_content.specs.Laws.Flattened.{flattened_back, flattened_keeps};
-ghost use Rattle.serde_content.specs.Laws.Tagged.{tagged_script, tagged_back, tag_keeps_buffered};
+ghost use Rattle.serde_content.specs.Laws.Tagged.{tagged_script, tagged_back, tag_keeps};
+ghost use Rattle.serde_content.specs.Laws.Tagged.{tag_keeps_buffered, content_back, content_keeps};
 ghost use Rattle.serde_content.specs.Laws.Untagged.{such_seen, first_taken, later_taken};
 ghost use Rattle.serde_content.specs.Laws.Untagged.{taken_by_one, not_refused, bool_takes};
 ghost use Rattle.serde_content.specs.Laws.Untagged.{number_takes, text_takes, seq_takes};
@@ -73,13 +75,12 @@ ghost use Rattle.serde_content.specs.Laws.Variants.{struct_variant_back, struct_
 ghost use Rattle.std.specs.declared.alloc.Global.{Global};
 ghost use Rattle.std.specs.declared.string.String.{String};
 ghost use Rattle.std.specs.declared.vec.Vec.{Vec};
-ghost use Rattle.std.specs.declared.collections.BTreeMap.{BTreeMap};
+ghost use Rattle.std.specs.declared.collections.BTreeSet.{BTreeSet};
 ghost use Rattle.content_tree.specs.Values.Ranges as kind;
 ghost use Rattle.check_derive.specs.declared.sample.Inside.{Inside};
 ghost use Rattle.check_derive.specs.declared.sample.Level.{Level};
 ghost use Rattle.check_derive.specs.declared.sample.Deeper.TheVariants as deeper;
-ghost use Rattle.check_derive.specs.declared.sample.ExternalMixed4.TheVariants as external_mixed4;
-ghost use Rattle.check_derive.specs.declared.sample.InternalMixed2.TheVariants as internal_mixed2;
+ghost use Rattle.check_derive.specs.declared.sample.AdjacentMixed4.TheVariants as adjacent_mixed4;
 ghost use Rattle.check_derive.specs.declared.sample.Untagged4.TheVariants as untagged4;
 ghost use Rattle.check_derive.specs.declared.sample.UntaggedPlaces.TheVariants as untagged_places;
 ghost use Rattle.check_derive.specs.declared.sample.SkippedInVariant2.TheVariants as skipped_in_variant2;
@@ -93,14 +94,14 @@ use serde_content::de::{Deserialize, FieldsByName, VariantAccess};
 use serde_content::derive_support::{
     Absent, Names, OneOfFour, OneOfThree, OthersRefused, OthersSkipped, PartsEnd, ReadField,
     ReadFieldOr, ReadFields, ReadPart, ReadParts, ReadStruct, SendElement, SendEnd, SendEntry,
-    SendField, SendFieldUnless, SendOpen, SendPart, SendTag, Skip, TaggedVariants, Variants,
-    count_unless, first_of_four, first_of_three, no_such_variant, read_enum, read_flattened,
-    read_struct, read_tagged, send_row, variant_index,
+    SendField, SendFieldUnless, SendInside, SendOpen, SendPart, SendTag, Skip, TaggedVariants,
+    Variants, count_unless, first_of_four, first_of_three, no_such_variant, read_adjacent,
+    read_enum, read_flattened, read_struct, read_tagged, send_row, variant_index,
 };
 use serde_content::ser::{Call, Parts, Serialize, Serializer};
 use serde_content::{Deserializer, Result, RoundTrip};
 use std::alloc::Global;
-use std::collections::BTreeMap;
+use std::collections::BTreeSet;
 
 #[derive(Drop, PartialEq, Eq)]
 pub struct Own {
@@ -1111,7 +1112,7 @@ pub struct SkippedClosed6 {
     pub f0: Option<String>,
     pub f1: Vec<u8>,
     pub f2: String,
-    pub f3: BTreeMap<String, u8>,
+    pub f3: BTreeSet<String>,
     pub f4: i32,
     pub f5: u8,
 }
@@ -1154,7 +1155,7 @@ type Field3OfSkippedClosed6 = ReadFieldOr<
 type Field4OfSkippedClosed6 = ReadFieldOr<
     FieldsOfSkippedClosed6,
     3,
-    BTreeMap<String, u8>,
+    BTreeSet<String>,
     Field5OfSkippedClosed6,
 >;
 
@@ -1174,7 +1175,7 @@ impl<'de> ReadStruct<'de> for SkippedClosed6 {
         (⟦<Option<String> as Deserialize<'de>>⟧.refusal)
         (row_or_then (name "f1") (⟦<Vec<u8> as Deserialize<'de>>⟧.refusal)
         (row_or_then (name "f2") (⟦<String as Deserialize<'de>>⟧.refusal)
-        (row_or_then (name "f3") (⟦<BTreeMap<String, u8> as Deserialize<'de>>⟧.refusal)
+        (row_or_then (name "f3") (⟦<BTreeSet<String> as Deserialize<'de>>⟧.refusal)
         (row_then (name "f4") (⟦<i32 as Deserialize<'de>>⟧.refusal)
         (row_then (name "f5") (⟦<u8 as Deserialize<'de>>⟧.refusal)
         (no_others (name "f0" ∷ name "f1" ∷ name "f2" ∷ name "f3" ∷ name "f4" ∷ name "f5" ∷
@@ -1187,8 +1188,8 @@ impl<'de> ReadStruct<'de> for SkippedClosed6 {
         (⟦<Vec<u8> as Deserialize<'de>>⟧.gives) z.f1
         (RowOrThen (name "f2") (λ (x : (String Global)). string_bytes x ≡ [])
         (⟦<String as Deserialize<'de>>⟧.gives) z.f2
-        (RowOrThen (name "f3") (λ (x : (BTreeMap (String Global) ℕ Global)). x.entries ≡ [])
-        (⟦<BTreeMap<String, u8> as Deserialize<'de>>⟧.gives) z.f3
+        (RowOrThen (name "f3") (λ (x : (BTreeSet (String Global) Global)). x.keys ≡ [])
+        (⟦<BTreeSet<String> as Deserialize<'de>>⟧.gives) z.f3
         (RowThen (name "f4") (⟦<i32 as Deserialize<'de>>⟧.gives) z.f4
         (RowThen (name "f5") (⟦<u8 as Deserialize<'de>>⟧.gives) z.f5
         NoOthers)))))) };
@@ -1219,7 +1220,7 @@ impl<'de> ReadStruct<'de> for SkippedClosed6 {
 
 impl Serialize for SkippedClosed6 {
     ghost script = { λ p. struct_script (name "SkippedClosed6")
-        (fields_less (⟦<BTreeMap<String, u8> as Skip>⟧.is_empty p.f3)
+        (fields_less (⟦<BTreeSet<String> as Skip>⟧.is_empty p.f3)
         (fields_less (⟦<String as Skip>⟧.is_empty p.f2)
         (fields_less (⟦<Vec<u8> as Skip>⟧.is_empty p.f1)
         (fields_less (⟦<Option<String> as Skip>⟧.is_empty p.f0) 6))))
@@ -1229,8 +1230,8 @@ impl Serialize for SkippedClosed6 {
         (⟦<Vec<u8> as Serialize>⟧.script p.f1)
         (field_unless (⟦<String as Skip>⟧.is_empty p.f2) (name "f2")
         (⟦<String as Serialize>⟧.script p.f2)
-        (field_unless (⟦<BTreeMap<String, u8> as Skip>⟧.is_empty p.f3) (name "f3")
-        (⟦<BTreeMap<String, u8> as Serialize>⟧.script p.f3)
+        (field_unless (⟦<BTreeSet<String> as Skip>⟧.is_empty p.f3) (name "f3")
+        (⟦<BTreeSet<String> as Serialize>⟧.script p.f3)
         (field_first (name "f4") (⟦<i32 as Serialize>⟧.script p.f4)
         (field_first (name "f5") (⟦<u8 as Serialize>⟧.script p.f5)
         end_script)))))) };
@@ -1241,9 +1242,8 @@ impl Serialize for SkippedClosed6 {
         (field_unless_fits _ _ _ _ (⟦<Vec<u8> as Skip>⟧.is_empty p.f1)
         (seq_lawful (λ x h. leaf_lawful refl) p.f1.items readable)
         (field_unless_fits _ _ _ _ (⟦<String as Skip>⟧.is_empty p.f2) (leaf_lawful refl)
-        (field_unless_fits _ _ _ _ (⟦<BTreeMap<String, u8> as Skip>⟧.is_empty p.f3)
-        (map_lawful (λ x h. leaf_lawful refl) (λ x h. leaf_lawful refl) p.f3.entries
-        readable)
+        (field_unless_fits _ _ _ _ (⟦<BTreeSet<String> as Skip>⟧.is_empty p.f3)
+        (seq_lawful (λ x h. leaf_lawful refl) p.f3.keys readable)
         (field_fits (leaf_lawful refl)
         (field_fits (leaf_lawful refl)
         struct_end_fits)))))) };
@@ -1275,7 +1275,7 @@ impl<'de> Deserialize<'de> for SkippedClosed6 {
         (row_or_then (name "f0") (⟦<Option<String> as Deserialize<'de>>⟧.refusal)
         (row_or_then (name "f1") (⟦<Vec<u8> as Deserialize<'de>>⟧.refusal)
         (row_or_then (name "f2") (⟦<String as Deserialize<'de>>⟧.refusal)
-        (row_or_then (name "f3") (⟦<BTreeMap<String, u8> as Deserialize<'de>>⟧.refusal)
+        (row_or_then (name "f3") (⟦<BTreeSet<String> as Deserialize<'de>>⟧.refusal)
         (row_then (name "f4") (⟦<i32 as Deserialize<'de>>⟧.refusal)
         (row_then (name "f5") (⟦<u8 as Deserialize<'de>>⟧.refusal)
         (no_others (name "f0" ∷ name "f1" ∷ name "f2" ∷ name "f3" ∷ name "f4" ∷ name "f5" ∷
@@ -1288,8 +1288,8 @@ impl<'de> Deserialize<'de> for SkippedClosed6 {
         (⟦<Vec<u8> as Deserialize<'de>>⟧.gives) p.f1
         (RowOrThen (name "f2") (λ (x : (String Global)). string_bytes x ≡ [])
         (⟦<String as Deserialize<'de>>⟧.gives) p.f2
-        (RowOrThen (name "f3") (λ (x : (BTreeMap (String Global) ℕ Global)). x.entries ≡ [])
-        (⟦<BTreeMap<String, u8> as Deserialize<'de>>⟧.gives) p.f3
+        (RowOrThen (name "f3") (λ (x : (BTreeSet (String Global) Global)). x.keys ≡ [])
+        (⟦<BTreeSet<String> as Deserialize<'de>>⟧.gives) p.f3
         (RowThen (name "f4") (⟦<i32 as Deserialize<'de>>⟧.gives) p.f4
         (RowThen (name "f5") (⟦<u8 as Deserialize<'de>>⟧.gives) p.f5
         NoOthers))))))) s };
@@ -1877,29 +1877,26 @@ impl<'de> RoundTrip<'de> for PlaceMixed9 {
 }
 
 #[derive(Drop, PartialEq, Eq)]
-pub enum ExternalMixed4 {
+pub enum AdjacentMixed4 {
     V0,
     V1(String),
     V2(u8, bool),
     V3 { f0: i32, f1: u8, f2: String },
 }
 
-type Part1OfExternalMixed4V2 = ReadPart<2, 0, u8, Part2OfExternalMixed4V2>;
-
-type Part2OfExternalMixed4V2 = ReadPart<2, 1, bool, PartsEnd<2>>;
-
-/// Its contract tells proofs what a variant of signed numbers holds.
-fn make_external_mixed4_v3(f0: i32, f1: u8, f2: String) -> ExternalMixed4
-    ensures { result ≡ external_mixed4.V3 f0 f1 f2 }
-{
-    ExternalMixed4::V3 { f0, f1, f2 }
+/// What the variant `V3` holds.
+#[derive(Drop)]
+struct AdjacentMixed4V3Content {
+    f0: i32,
+    f1: u8,
+    f2: String,
 }
 
 /// The names of its fields.
 #[derive(Drop)]
-struct FieldsOfExternalMixed4V3;
+struct FieldsOfAdjacentMixed4V3Content;
 
-impl Names for FieldsOfExternalMixed4V3 {
+impl Names for FieldsOfAdjacentMixed4V3Content {
     ghost names = { name "f0" ∷ name "f1" ∷ name "f2" ∷ [] };
 
     #[tactic(auto, unfolding(serde_content::specs::Literals::name))]
@@ -1908,82 +1905,269 @@ impl Names for FieldsOfExternalMixed4V3 {
     }
 }
 
+type Field1OfAdjacentMixed4V3Content = ReadField<
+    FieldsOfAdjacentMixed4V3Content,
+    0,
+    i32,
+    Field2OfAdjacentMixed4V3Content,
+>;
+
+type Field2OfAdjacentMixed4V3Content = ReadField<
+    FieldsOfAdjacentMixed4V3Content,
+    1,
+    u8,
+    Field3OfAdjacentMixed4V3Content,
+>;
+
+type Field3OfAdjacentMixed4V3Content = ReadField<
+    FieldsOfAdjacentMixed4V3Content,
+    2,
+    String,
+    OthersSkipped<FieldsOfAdjacentMixed4V3Content>,
+>;
+
+impl<'de> ReadStruct<'de> for AdjacentMixed4V3Content {
+    ghost name = { name "V3" };
+
+    ghost refusal = { row_then (name "f0") (⟦<i32 as Deserialize<'de>>⟧.refusal)
+        (row_then (name "f1") (⟦<u8 as Deserialize<'de>>⟧.refusal)
+        (row_then (name "f2") (⟦<String as Deserialize<'de>>⟧.refusal)
+        (others_left (name "f0" ∷ name "f1" ∷ name "f2" ∷ [])))) };
+
+    ghost gives = { λ z.
+        (RowThen (name "f0") (⟦<i32 as Deserialize<'de>>⟧.gives) z.f0
+        (RowThen (name "f1") (⟦<u8 as Deserialize<'de>>⟧.gives) z.f1
+        (RowThen (name "f2") (⟦<String as Deserialize<'de>>⟧.gives) z.f2
+        NoOthers))) };
+
+    #[tactic(auto, unfolding(serde_content::specs::Literals::name))]
+    fn name() -> &'static str {
+        "V3"
+    }
+
+    fn read<'n: 'de>(
+        alloc: Global,
+        fields: FieldsByName<'de, 'n>,
+    ) -> Result<AdjacentMixed4V3Content> {
+        let row: Field1OfAdjacentMixed4V3Content = ReadFields::read(alloc, fields)?;
+        let ReadField(f0, row, _) = row;
+        let ReadField(f1, row, _) = row;
+        let ReadField(f2, _, _) = row;
+        Ok(AdjacentMixed4V3Content { f0, f1, f2 })
+    }
+}
+
+impl<'de> Deserialize<'de> for AdjacentMixed4V3Content {
+    ghost refusal = { struct_refusal (name "V3") (read_by_name
+        (row_then (name "f0") (⟦<i32 as Deserialize<'de>>⟧.refusal)
+        (row_then (name "f1") (⟦<u8 as Deserialize<'de>>⟧.refusal)
+        (row_then (name "f2") (⟦<String as Deserialize<'de>>⟧.refusal)
+        (others_left (name "f0" ∷ name "f1" ∷ name "f2" ∷ [])))))) };
+
+    ghost gives = { λ s p. StructGives (name "V3") (ReadByName
+        (RowThen (name "f0") (⟦<i32 as Deserialize<'de>>⟧.gives) p.f0
+        (RowThen (name "f1") (⟦<u8 as Deserialize<'de>>⟧.gives) p.f1
+        (RowThen (name "f2") (⟦<String as Deserialize<'de>>⟧.gives) p.f2
+        NoOthers)))) s };
+
+    fn deserialize<'n: 'de>(
+        alloc: Global,
+        from: Deserializer<'de, 'n>,
+    ) -> Result<AdjacentMixed4V3Content> {
+        read_struct::<FieldsOfAdjacentMixed4V3Content, Self>(alloc, from)
+    }
+}
+
+/// The names of its fields.
+#[derive(Drop)]
+struct FieldsOfAdjacentMixed4V0;
+
+impl Names for FieldsOfAdjacentMixed4V0 {
+    ghost names = { name "kind" ∷ [] };
+
+    #[tactic(auto, unfolding(serde_content::specs::Literals::name))]
+    fn names() -> &'static [&'static str] {
+        &["kind"]
+    }
+}
+
+/// The names of its fields.
+#[derive(Drop)]
+struct FieldsOfAdjacentMixed4V1;
+
+impl Names for FieldsOfAdjacentMixed4V1 {
+    ghost names = { name "kind" ∷ name "of" ∷ [] };
+
+    #[tactic(auto, unfolding(serde_content::specs::Literals::name))]
+    fn names() -> &'static [&'static str] {
+        &["kind", "of"]
+    }
+}
+
+type Field1OfAdjacentMixed4V1 = ReadField<
+    FieldsOfAdjacentMixed4V1,
+    1,
+    String,
+    OthersSkipped<FieldsOfAdjacentMixed4V1>,
+>;
+
+/// Reads the fields, in any order.
+fn read_adjacent_mixed4_v1<'de, 'n: 'de>(
+    alloc: Global,
+    fields: FieldsByName<'de, 'n>,
+) -> Result<String>
+    ensures { Reads (
+        (row_then (name "of") (⟦<String as Deserialize<'de>>⟧.refusal)
+        (others_left (name "kind" ∷ name "of" ∷ [])))
+        (fields_left fields.entry))
+        (λ z.
+        (RowThen (name "of") (⟦<String as Deserialize<'de>>⟧.gives) z
+        NoOthers)
+        (fields_left fields.entry)) result }
+{
+    let row: Field1OfAdjacentMixed4V1 = ReadFields::read(alloc, fields)?;
+    let ReadField(x1, _, _) = row;
+    Ok(x1)
+}
+
+/// The names of its fields.
+#[derive(Drop)]
+struct FieldsOfAdjacentMixed4V2;
+
+impl Names for FieldsOfAdjacentMixed4V2 {
+    ghost names = { name "kind" ∷ name "of" ∷ [] };
+
+    #[tactic(auto, unfolding(serde_content::specs::Literals::name))]
+    fn names() -> &'static [&'static str] {
+        &["kind", "of"]
+    }
+}
+
 /// Sends that variant.
-fn send_whole_external_mixed4_v3<S: Serializer>(
+fn send_whole_adjacent_mixed4_v2<S: Serializer>(
     alloc: Global,
     serializer: &mut S,
-    whole: &ExternalMixed4,
+    whole: &AdjacentMixed4,
+    x1: &u8,
+    x2: &bool,
+) -> Result<()>
+    requires { whole.now ≡ adjacent_mixed4.V2 x1.now x2.now }
+    ensures { Sends S.step S.refuses (S.seen serializer.old)
+        (⟦<AdjacentMixed4 as Serialize>⟧.script whole.now)
+        result (S.seen serializer.new) }
+{
+    let row = SendEnd;
+    let row = SendElement(x2, row);
+    let row = SendElement(x1, row);
+    let row = SendOpen(Call::Tuple(2), row);
+    let row = SendInside(FieldsOfAdjacentMixed4V2, 1, row, SendEnd);
+    let row = SendTag(FieldsOfAdjacentMixed4V2, NamesOfAdjacentMixed4, 2, row);
+    let row = SendOpen(Call::Struct(name_adjacent_mixed4(), 2), row);
+    send_row(alloc, serializer, &row)
+}
+
+type Field1OfAdjacentMixed4V2 = ReadField<
+    FieldsOfAdjacentMixed4V2,
+    1,
+    (u8, bool),
+    OthersSkipped<FieldsOfAdjacentMixed4V2>,
+>;
+
+/// Reads the fields, in any order.
+fn read_adjacent_mixed4_v2<'de, 'n: 'de>(
+    alloc: Global,
+    fields: FieldsByName<'de, 'n>,
+) -> Result<(u8, bool)>
+    ensures { Reads (
+        (row_then (name "of") (⟦<(u8, bool) as Deserialize<'de>>⟧.refusal)
+        (others_left (name "kind" ∷ name "of" ∷ [])))
+        (fields_left fields.entry))
+        (λ z.
+        (RowThen (name "of") (⟦<(u8, bool) as Deserialize<'de>>⟧.gives) z
+        NoOthers)
+        (fields_left fields.entry)) result }
+{
+    let row: Field1OfAdjacentMixed4V2 = ReadFields::read(alloc, fields)?;
+    let ReadField(x1, _, _) = row;
+    Ok(x1)
+}
+
+/// Its contract tells proofs what a variant of signed numbers holds.
+fn make_adjacent_mixed4_v3(f0: i32, f1: u8, f2: String) -> AdjacentMixed4
+    ensures { result ≡ adjacent_mixed4.V3 f0 f1 f2 }
+{
+    AdjacentMixed4::V3 { f0, f1, f2 }
+}
+
+/// The names of its fields.
+#[derive(Drop)]
+struct FieldsOfAdjacentMixed4V3;
+
+impl Names for FieldsOfAdjacentMixed4V3 {
+    ghost names = { name "kind" ∷ name "of" ∷ [] };
+
+    #[tactic(auto, unfolding(serde_content::specs::Literals::name))]
+    fn names() -> &'static [&'static str] {
+        &["kind", "of"]
+    }
+}
+
+/// Sends that variant.
+fn send_whole_adjacent_mixed4_v3<S: Serializer>(
+    alloc: Global,
+    serializer: &mut S,
+    whole: &AdjacentMixed4,
     f0: &i32,
     f1: &u8,
     f2: &String,
 ) -> Result<()>
-    requires { whole.now ≡ external_mixed4.V3 f0.now f1.now f2.now }
+    requires { whole.now ≡ adjacent_mixed4.V3 f0.now f1.now f2.now }
     ensures { Sends S.step S.refuses (S.seen serializer.old)
-        (⟦<ExternalMixed4 as Serialize>⟧.script whole.now)
+        (⟦<AdjacentMixed4 as Serialize>⟧.script whole.now)
         result (S.seen serializer.new) }
 {
     let row = SendEnd;
-    let row = SendField(FieldsOfExternalMixed4V3, 2, f2, row);
-    let row = SendField(FieldsOfExternalMixed4V3, 1, f1, row);
-    let row = SendField(FieldsOfExternalMixed4V3, 0, f0, row);
-    let row = SendOpen(
-        Call::StructVariant(name_external_mixed4(), 3, name_v3(), 3),
-        row,
-    );
+    let row = SendField(FieldsOfAdjacentMixed4V3Content, 2, f2, row);
+    let row = SendField(FieldsOfAdjacentMixed4V3Content, 1, f1, row);
+    let row = SendField(FieldsOfAdjacentMixed4V3Content, 0, f0, row);
+    let row = SendOpen(Call::Struct(name_v3(), 3), row);
+    let row = SendInside(FieldsOfAdjacentMixed4V3, 1, row, SendEnd);
+    let row = SendTag(FieldsOfAdjacentMixed4V3, NamesOfAdjacentMixed4, 3, row);
+    let row = SendOpen(Call::Struct(name_adjacent_mixed4(), 2), row);
     send_row(alloc, serializer, &row)
 }
 
-type Field1OfExternalMixed4V3 = ReadField<
-    FieldsOfExternalMixed4V3,
-    0,
-    i32,
-    Field2OfExternalMixed4V3,
->;
-
-type Field2OfExternalMixed4V3 = ReadField<
-    FieldsOfExternalMixed4V3,
+type Field1OfAdjacentMixed4V3 = ReadField<
+    FieldsOfAdjacentMixed4V3,
     1,
-    u8,
-    Field3OfExternalMixed4V3,
->;
-
-type Field3OfExternalMixed4V3 = ReadField<
-    FieldsOfExternalMixed4V3,
-    2,
-    String,
-    OthersSkipped<FieldsOfExternalMixed4V3>,
+    AdjacentMixed4V3Content,
+    OthersSkipped<FieldsOfAdjacentMixed4V3>,
 >;
 
 /// Reads the fields, in any order.
-fn read_external_mixed4_v3<'de, 'n: 'de>(
+fn read_adjacent_mixed4_v3<'de, 'n: 'de>(
     alloc: Global,
     fields: FieldsByName<'de, 'n>,
-) -> Result<(i32, u8, String)>
+) -> Result<AdjacentMixed4V3Content>
     ensures { Reads (
-        (row_then (name "f0") (⟦<i32 as Deserialize<'de>>⟧.refusal)
-        (row_then (name "f1") (⟦<u8 as Deserialize<'de>>⟧.refusal)
-        (row_then (name "f2") (⟦<String as Deserialize<'de>>⟧.refusal)
-        (others_left (name "f0" ∷ name "f1" ∷ name "f2" ∷ [])))))
+        (row_then (name "of") (⟦<AdjacentMixed4V3Content as Deserialize<'de>>⟧.refusal)
+        (others_left (name "kind" ∷ name "of" ∷ [])))
         (fields_left fields.entry))
         (λ z.
-        (RowThen (name "f0") (⟦<i32 as Deserialize<'de>>⟧.gives) z.0
-        (RowThen (name "f1") (⟦<u8 as Deserialize<'de>>⟧.gives) z.1
-        (RowThen (name "f2") (⟦<String as Deserialize<'de>>⟧.gives) z.2
-        NoOthers)))
+        (RowThen (name "of") (⟦<AdjacentMixed4V3Content as Deserialize<'de>>⟧.gives) z
+        NoOthers)
         (fields_left fields.entry)) result }
 {
-    let row: Field1OfExternalMixed4V3 = ReadFields::read(alloc, fields)?;
-    let ReadField(f0, row, _) = row;
-    let ReadField(f1, row, _) = row;
-    let ReadField(f2, _, _) = row;
-    Ok((f0, f1, f2))
+    let row: Field1OfAdjacentMixed4V3 = ReadFields::read(alloc, fields)?;
+    let ReadField(x1, _, _) = row;
+    Ok(x1)
 }
 
 /// The names of its variants.
 #[derive(Drop)]
-struct NamesOfExternalMixed4;
+struct NamesOfAdjacentMixed4;
 
-impl Names for NamesOfExternalMixed4 {
+impl Names for NamesOfAdjacentMixed4 {
     ghost names = { name "V0" ∷ name "V1" ∷ name "V2" ∷ name "V3" ∷ [] };
 
     #[tactic(auto, unfolding(serde_content::specs::Literals::name))]
@@ -1992,374 +2176,135 @@ impl Names for NamesOfExternalMixed4 {
     }
 }
 
-impl Serialize for ExternalMixed4 {
+impl Serialize for AdjacentMixed4 {
     ghost script = { elim [
-      | external_mixed4.V0 ↦ unit_variant_script (name "ExternalMixed4") 0 (name "V0")
-      | external_mixed4.V1 x1 ↦ newtype_variant_script (name "ExternalMixed4") 1
-          (name "V1") (⟦<String as Serialize>⟧.script x1)
-      | external_mixed4.V2 x1 x2 ↦ tuple_variant_script (name "ExternalMixed4") 2
-          (name "V2") 2
-          (tuple_field_first (⟦<u8 as Serialize>⟧.script x1)
-          (tuple_field_first (⟦<bool as Serialize>⟧.script x2)
-          end_script))
-      | external_mixed4.V3 x1 x2 x3 ↦ struct_variant_script (name "ExternalMixed4") 3
-          (name "V3") 3
+      | adjacent_mixed4.V0 ↦ tagged_script (name "AdjacentMixed4") 1 (name "kind")
+          (name "V0")
+          end_script
+      | adjacent_mixed4.V1 x1 ↦ tagged_script (name "AdjacentMixed4") 2 (name "kind")
+          (name "V1")
+          (field_first (name "of") (⟦<String as Serialize>⟧.script x1)
+          end_script)
+      | adjacent_mixed4.V2 x1 x2 ↦ tagged_script (name "AdjacentMixed4") 2 (name "kind")
+          (name "V2")
+          (field_first (name "of") (tuple_script 2
+          (element_first (⟦<u8 as Serialize>⟧.script x1)
+          (element_first (⟦<bool as Serialize>⟧.script x2)
+          end_script)))
+          end_script)
+      | adjacent_mixed4.V3 x1 x2 x3 ↦ tagged_script (name "AdjacentMixed4") 2
+          (name "kind") (name "V3")
+          (field_first (name "of") (struct_script (name "V3") 3
           (field_first (name "f0") (⟦<i32 as Serialize>⟧.script x1)
           (field_first (name "f1") (⟦<u8 as Serialize>⟧.script x2)
           (field_first (name "f2") (⟦<String as Serialize>⟧.script x3)
-          end_script)))
+          end_script))))
+          end_script)
     ] };
 
     ghost lawful = { elim [
-      | external_mixed4.V0 ↦ λ readable. unit_variant_lawful
-      | external_mixed4.V1 x1 ↦ λ readable. newtype_variant_lawful (leaf_lawful refl)
-      | external_mixed4.V2 x1 x2 ↦ λ readable. tuple_variant_lawful
-          (tuple_field_fits (leaf_lawful refl)
-          (tuple_field_fits (leaf_lawful refl)
-          tuple_end_fits))
-      | external_mixed4.V3 x1 x2 x3 ↦ λ readable. struct_variant_lawful
+      | adjacent_mixed4.V0 ↦ λ readable. struct_lawful
+          (field_fits (leaf_lawful refl)
+          struct_end_fits)
+      | adjacent_mixed4.V1 x1 ↦ λ readable. struct_lawful
+          (field_fits (leaf_lawful refl)
+          (field_fits (leaf_lawful refl)
+          struct_end_fits))
+      | adjacent_mixed4.V2 x1 x2 ↦ λ readable. struct_lawful
+          (field_fits (leaf_lawful refl)
+          (field_fits (tuple_lawful
+          (element_fits (leaf_lawful refl)
+          (element_fits (leaf_lawful refl)
+          end_fits)))
+          struct_end_fits))
+      | adjacent_mixed4.V3 x1 x2 x3 ↦ λ readable. struct_lawful
+          (field_fits (leaf_lawful refl)
+          (field_fits (struct_lawful
           (field_fits (leaf_lawful refl)
           (field_fits (leaf_lawful refl)
           (field_fits (leaf_lawful refl)
-          struct_end_fits)))
+          struct_end_fits))))
+          struct_end_fits))
     ] };
 
     fn serialize<S: Serializer>(&self, alloc: Global, serializer: &mut S) -> Result<()> {
         match self {
-            ExternalMixed4::V0 => Call::UnitVariant(name_external_mixed4(), 0, name_v0()).send(
-                serializer,
-            ),
-            ExternalMixed4::V1(x1) => {
-                Call::NewtypeVariant(name_external_mixed4(), 1, name_v1()).around(
-                    x1, alloc, serializer,
-                )
-            }
-            ExternalMixed4::V2(x1, x2) => {
+            AdjacentMixed4::V0 => {
                 let row = SendEnd;
-                let row = SendPart(x2, row);
-                let row = SendPart(x1, row);
-                let row = SendOpen(
-                    Call::TupleVariant(name_external_mixed4(), 2, name_v2(), 2),
-                    row,
-                );
+                let row = SendTag(FieldsOfAdjacentMixed4V0, NamesOfAdjacentMixed4, 0, row);
+                let row = SendOpen(Call::Struct(name_adjacent_mixed4(), 1), row);
                 send_row(alloc, serializer, &row)
             }
-            ExternalMixed4::V3 { f0, f1, f2 } => {
-                send_whole_external_mixed4_v3(alloc, serializer, self, f0, f1, f2)
+            AdjacentMixed4::V1(x1) => {
+                let row = SendEnd;
+                let row = SendField(FieldsOfAdjacentMixed4V1, 1, x1, row);
+                let row = SendTag(FieldsOfAdjacentMixed4V1, NamesOfAdjacentMixed4, 1, row);
+                let row = SendOpen(Call::Struct(name_adjacent_mixed4(), 2), row);
+                send_row(alloc, serializer, &row)
+            }
+            AdjacentMixed4::V2(x1, x2) => {
+                send_whole_adjacent_mixed4_v2(alloc, serializer, self, x1, x2)
+            }
+            AdjacentMixed4::V3 { f0, f1, f2 } => {
+                send_whole_adjacent_mixed4_v3(alloc, serializer, self, f0, f1, f2)
             }
         }
     }
 }
 
-impl<'de> Variants<'de> for ExternalMixed4 {
-    ghost name = { name "ExternalMixed4" };
-
-    ghost refusal = { variants (
-        (name "V0", unit_variant_refusal)
-        ∷ (name "V1", newtype_variant_refusal (⟦<String as Deserialize<'de>>⟧.refusal))
-        ∷ (
-          name "V2",
-          tuple_variant_refusal
-              (part_then 2 0 (⟦<u8 as Deserialize<'de>>⟧.refusal)
-              (part_then 2 1 (⟦<bool as Deserialize<'de>>⟧.refusal)
-              (end_of_parts 2))),
-        )
-        ∷ (
-          name "V3",
-          struct_variant_refusal (read_by_name
-              (row_then (name "f0") (⟦<i32 as Deserialize<'de>>⟧.refusal)
-              (row_then (name "f1") (⟦<u8 as Deserialize<'de>>⟧.refusal)
-              (row_then (name "f2") (⟦<String as Deserialize<'de>>⟧.refusal)
-              (others_left (name "f0" ∷ name "f1" ∷ name "f2" ∷ [])))))),
-        )
-        ∷ []) };
-
-    ghost named = { elim [
-      | external_mixed4.V0 ↦ name "V0"
-      | external_mixed4.V1 x1 ↦ name "V1"
-      | external_mixed4.V2 x1 x2 ↦ name "V2"
-      | external_mixed4.V3 x1 x2 x3 ↦ name "V3"
-    ] };
-
-    ghost held = { elim [
-      | external_mixed4.V0 ↦ UnitVariantGives
-      | external_mixed4.V1 x1 ↦ NewtypeVariantGives (⟦<String as Deserialize<'de>>⟧.gives)
-          x1
-      | external_mixed4.V2 x1 x2 ↦ TupleVariantGives
-          (PartThen (⟦<u8 as Deserialize<'de>>⟧.gives) x1
-          (PartThen (⟦<bool as Deserialize<'de>>⟧.gives) x2
-          NoPart))
-      | external_mixed4.V3 x1 x2 x3 ↦ StructVariantGives (ReadByName
-          (RowThen (name "f0") (⟦<i32 as Deserialize<'de>>⟧.gives) x1
-          (RowThen (name "f1") (⟦<u8 as Deserialize<'de>>⟧.gives) x2
-          (RowThen (name "f2") (⟦<String as Deserialize<'de>>⟧.gives) x3
-          NoOthers))))
-    ] };
-
-    #[tactic(auto, unfolding(serde_content::specs::Literals::name))]
-    fn name() -> &'static str {
-        "ExternalMixed4"
-    }
-
-    fn names() -> &'static [&'static str] {
-        NamesOfExternalMixed4::names()
-    }
-
-    fn read_variant<'n: 'de>(
-        alloc: Global,
-        tag: &str,
-        variant: VariantAccess<'de, 'n>,
-    ) -> Result<ExternalMixed4> {
-        match variant_index(tag, &NamesOfExternalMixed4) {
-            Some(0) => {
-                variant.unit_variant(alloc)?;
-                Ok(ExternalMixed4::V0)
-            }
-            Some(1) => Ok(ExternalMixed4::V1(variant.newtype_variant(alloc)?)),
-            Some(2) => {
-                let parts = variant.tuple_variant(alloc, 2)?;
-                let row: Part1OfExternalMixed4V2 = ReadParts::read(alloc, parts)?;
-                let ReadPart(x1, row) = row;
-                let ReadPart(x2, _) = row;
-                Ok(ExternalMixed4::V2(x1, x2))
-            }
-            Some(3) => {
-                let fields = variant
-                    .struct_variant(alloc, FieldsOfExternalMixed4V3::names())?
-                    .by_name();
-                let (f0, f1, f2) = read_external_mixed4_v3(alloc, fields)?;
-                Ok(make_external_mixed4_v3(f0, f1, f2))
-            }
-            _ => Err(no_such_variant(alloc, tag, &NamesOfExternalMixed4)),
-        }
-    }
-}
-
-impl<'de> Deserialize<'de> for ExternalMixed4 {
-    ghost refusal = { enum_refusal (name "ExternalMixed4")
-        ⟦<ExternalMixed4 as Variants<'de>>⟧.refusal };
-
-    ghost gives = { λ s y. EnumGives (name "ExternalMixed4")
-        (⟦<ExternalMixed4 as Variants<'de>>⟧.named y)
-        (⟦<ExternalMixed4 as Variants<'de>>⟧.held y) s };
-
-    fn deserialize<'n: 'de>(alloc: Global, from: Deserializer<'de, 'n>) -> Result<ExternalMixed4> {
-        read_enum(alloc, from)
-    }
-}
-
-impl<'de> RoundTrip<'de> for ExternalMixed4 {
-    fn known(&self) {}
-
-    ghost comes_back = { record {
-      of_value = elim [
-        | external_mixed4.V0 ↦ λ real f. variant_back Self.refusal Self.gives
-            unit_variant_back
-            f (unfold name index_among in λ d. refl)
-            (unfold name index_among in λ d only. elim [
-              | external_mixed4.V0 ↦ λ it. refl
-              | external_mixed4.V1 y1 ↦ λ it. other_variant it.0 refl
-              | external_mixed4.V2 y1 y2 ↦ λ it. other_variant it.0 refl
-              | external_mixed4.V3 y1 y2 y3 ↦ λ it. other_variant it.0 refl
-            ])
-        | external_mixed4.V1 x1 ↦ λ real f. variant_back Self.refusal Self.gives
-            (newtype_variant_back text_back x1 tt)
-            f (unfold name index_among in λ d. refl)
-            (unfold name index_among in λ d only. elim [
-              | external_mixed4.V0 ↦ λ it. other_variant it.0 refl
-              | external_mixed4.V1 y1 ↦ λ it. only y1 it.1
-              | external_mixed4.V2 y1 y2 ↦ λ it. other_variant it.0 refl
-              | external_mixed4.V3 y1 y2 y3 ↦ λ it. other_variant it.0 refl
-            ])
-        | external_mixed4.V2 x1 x2 ↦ λ real f. variant_back Self.refusal Self.gives
-            (tuple_variant_back
-            (tuple_field_back u8_back x1 tt (λ (z : ℕ × Bool). z.0) 2 0
-            (tuple_field_back bool_back x2 tt (λ (z : ℕ × Bool). z.1) 2 1
-            (parts_end 2))))
-            f (unfold name index_among in λ d. refl)
-            (unfold name index_among in λ d only. elim [
-              | external_mixed4.V0 ↦ λ it. other_variant it.0 refl
-              | external_mixed4.V1 y1 ↦ λ it. other_variant it.0 refl
-              | external_mixed4.V2 y1 y2 ↦ λ it. let same = only (y1, y2) it.1 in both_hold same.0
-                  same.1.0
-              | external_mixed4.V3 y1 y2 y3 ↦ λ it. other_variant it.0 refl
-            ])
-        | external_mixed4.V3 x1 x2 x3 ↦ λ real f. variant_back Self.refusal Self.gives
-            (struct_variant_back (by_name_back
-            (named_back (name "f0") i32_back x1 tt (λ (z : ℤ × ℕ × (String Global)). z.0)
-            (named_back (name "f1") u8_back x2 tt (λ (z : ℤ × ℕ × (String Global)). z.1)
-            (named_back (name "f2") text_back x3 tt (λ (z : ℤ × ℕ × (String Global)). z.2)
-            (skipped_back (name "f0" ∷ name "f1" ∷ name "f2" ∷ [])))))))
-            f (unfold name index_among in λ d. refl)
-            (unfold name index_among in λ d only. elim [
-              | external_mixed4.V0 ↦ λ it. other_variant it.0 refl
-              | external_mixed4.V1 y1 ↦ λ it. other_variant it.0 refl
-              | external_mixed4.V2 y1 y2 ↦ λ it. other_variant it.0 refl
-              | external_mixed4.V3 y1 y2 y3 ↦ λ it. let same = only (y1, y2, y3) it.1 in both_hold
-                  same.0 (both_hold same.1.0 same.1.1.0)
-            ])
-      ];
-    } };
-
-    ghost keeps = { record {
-      of_origin = λ o people. elim [
-        | external_mixed4.V0 ↦ λ p.
-            let q = variant_kept {own = unit_variant_refusal} (name "ExternalMixed4")
-            (name "V0")
-            ⟦<ExternalMixed4 as Variants<'de>>⟧.refusal (unfold name index_among in λ v. refl)
-            unit_variant_keeps
-            o people tt p.free p.given in
-            record { free = q.0; given = q.1 }
-        | external_mixed4.V1 x1 ↦ λ p.
-            let q = variant_kept {own = (newtype_variant_refusal
-            (⟦<String as Deserialize<'de>>⟧.refusal))} (name "ExternalMixed4") (name "V1")
-            ⟦<ExternalMixed4 as Variants<'de>>⟧.refusal (unfold name index_among in λ v. refl)
-            (newtype_variant_keeps (heedless_keeps (λ o. refusal_of (text_from o))
-            (λ o (x : String Global). IsTaken (text_from o) (HasContent (string_bytes x)))))
-            o people x1 p.free p.given in
-            record { free = q.0; given = q.1 }
-        | external_mixed4.V2 x1 x2 ↦ λ p.
-            let q = variant_kept {own = (tuple_variant_refusal
-            (part_then 2 0 (⟦<u8 as Deserialize<'de>>⟧.refusal)
-            (part_then 2 1 (⟦<bool as Deserialize<'de>>⟧.refusal)
-            (end_of_parts 2))))} (name "ExternalMixed4") (name "V2")
-            ⟦<ExternalMixed4 as Variants<'de>>⟧.refusal (unfold name index_among in λ v. refl)
-            (tuple_variant_keeps
-            (part_keeps (λ (z : ℕ × Bool). z.0) 2 0 (natural_keeps kind.u8)
-            (part_keeps (λ (z : ℕ × Bool). z.1) 2 1
-            (heedless_keeps (λ o. refusal_of (bool_from o))
-            (λ o (x : Bool). bool_from o ≡ taken x))
-            (parts_end_keeps 2))))
-            o people (x1, x2) p.free p.given in
-            record { free = q.0; given = q.1 }
-        | external_mixed4.V3 x1 x2 x3 ↦ λ p.
-            let q = variant_kept {own = (struct_variant_refusal (read_by_name
-            (row_then (name "f0") (⟦<i32 as Deserialize<'de>>⟧.refusal)
-            (row_then (name "f1") (⟦<u8 as Deserialize<'de>>⟧.refusal)
-            (row_then (name "f2") (⟦<String as Deserialize<'de>>⟧.refusal)
-            (others_left (name "f0" ∷ name "f1" ∷ name "f2" ∷ [])))))))} (name "ExternalMixed4")
-            (name "V3")
-            ⟦<ExternalMixed4 as Variants<'de>>⟧.refusal (unfold name index_among in λ v. refl)
-            (struct_variant_keeps (by_name_keeps
-            (named_keeps (name "f0") (λ (z : ℤ × ℕ × (String Global)). z.0)
-            (integer_keeps kind.i32)
-            (named_keeps (name "f1") (λ (z : ℤ × ℕ × (String Global)). z.1)
-            (natural_keeps kind.u8)
-            (named_keeps (name "f2") (λ (z : ℤ × ℕ × (String Global)). z.2)
-            (heedless_keeps (λ o. refusal_of (text_from o))
-            (λ o (x : String Global). IsTaken (text_from o) (HasContent (string_bytes x))))
-            (skipped_keeps (name "f0" ∷ name "f1" ∷ name "f2" ∷ [])))))))
-            o people (x1, x2, x3) p.free p.given in
-            record { free = q.0; given = q.1 }
-      ];
-    } };
-}
-
-#[derive(Drop, PartialEq, Eq)]
-pub enum InternalMixed2 {
-    V0,
-    V1,
-}
-
-/// The names of its fields.
-#[derive(Drop)]
-struct FieldsOfInternalMixed2V0;
-
-impl Names for FieldsOfInternalMixed2V0 {
-    ghost names = { name "kind" ∷ [] };
-
-    #[tactic(auto, unfolding(serde_content::specs::Literals::name))]
-    fn names() -> &'static [&'static str] {
-        &["kind"]
-    }
-}
-
-/// The names of its fields.
-#[derive(Drop)]
-struct FieldsOfInternalMixed2V1;
-
-impl Names for FieldsOfInternalMixed2V1 {
-    ghost names = { name "kind" ∷ [] };
-
-    #[tactic(auto, unfolding(serde_content::specs::Literals::name))]
-    fn names() -> &'static [&'static str] {
-        &["kind"]
-    }
-}
-
-/// The names of its variants.
-#[derive(Drop)]
-struct NamesOfInternalMixed2;
-
-impl Names for NamesOfInternalMixed2 {
-    ghost names = { name "V0" ∷ name "V1" ∷ [] };
-
-    #[tactic(auto, unfolding(serde_content::specs::Literals::name))]
-    fn names() -> &'static [&'static str] {
-        &["V0", "V1"]
-    }
-}
-
-impl Serialize for InternalMixed2 {
-    ghost script = { elim [
-      | internal_mixed2.V0 ↦ tagged_script (name "InternalMixed2") 1 (name "kind")
-          (name "V0")
-          end_script
-      | internal_mixed2.V1 ↦ tagged_script (name "InternalMixed2") 1 (name "kind")
-          (name "V1")
-          end_script
-    ] };
-
-    ghost lawful = { elim [
-      | internal_mixed2.V0 ↦ λ readable. struct_lawful
-          (field_fits (leaf_lawful refl)
-          struct_end_fits)
-      | internal_mixed2.V1 ↦ λ readable. struct_lawful
-          (field_fits (leaf_lawful refl)
-          struct_end_fits)
-    ] };
-
-    fn serialize<S: Serializer>(&self, alloc: Global, serializer: &mut S) -> Result<()> {
-        match self {
-            InternalMixed2::V0 => {
-                let row = SendEnd;
-                let row = SendTag(FieldsOfInternalMixed2V0, NamesOfInternalMixed2, 0, row);
-                let row = SendOpen(Call::Struct(name_internal_mixed2(), 1), row);
-                send_row(alloc, serializer, &row)
-            }
-            InternalMixed2::V1 => {
-                let row = SendEnd;
-                let row = SendTag(FieldsOfInternalMixed2V1, NamesOfInternalMixed2, 1, row);
-                let row = SendOpen(Call::Struct(name_internal_mixed2(), 1), row);
-                send_row(alloc, serializer, &row)
-            }
-        }
-    }
-}
-
-impl<'de> TaggedVariants<'de> for InternalMixed2 {
-    ghost name = { name "InternalMixed2" };
+impl<'de> TaggedVariants<'de> for AdjacentMixed4 {
+    ghost name = { name "AdjacentMixed4" };
 
     ghost tag_name = { name "kind" };
 
     ghost refusal = { variants (
         (name "V0", (others_left (name "kind" ∷ [])))
-        ∷ (name "V1", (others_left (name "kind" ∷ [])))
+        ∷ (
+          name "V1",
+          (row_then (name "of") (⟦<String as Deserialize<'de>>⟧.refusal)
+              (others_left (name "kind" ∷ name "of" ∷ []))),
+        )
+        ∷ (
+          name "V2",
+          (row_then (name "of") (⟦<(u8, bool) as Deserialize<'de>>⟧.refusal)
+              (others_left (name "kind" ∷ name "of" ∷ []))),
+        )
+        ∷ (
+          name "V3",
+          (row_then (name "of")
+              (⟦<AdjacentMixed4V3Content as Deserialize<'de>>⟧.refusal)
+              (others_left (name "kind" ∷ name "of" ∷ []))),
+        )
         ∷ []) };
 
     ghost named = { elim [
-      | internal_mixed2.V0 ↦ name "V0"
-      | internal_mixed2.V1 ↦ name "V1"
+      | adjacent_mixed4.V0 ↦ name "V0"
+      | adjacent_mixed4.V1 x1 ↦ name "V1"
+      | adjacent_mixed4.V2 x1 x2 ↦ name "V2"
+      | adjacent_mixed4.V3 x1 x2 x3 ↦ name "V3"
     ] };
 
     ghost held = { elim [
-      | internal_mixed2.V0 ↦ NoOthers
-      | internal_mixed2.V1 ↦ NoOthers
+      | adjacent_mixed4.V0 ↦ NoOthers
+      | adjacent_mixed4.V1 x1 ↦ (RowThen (name "of")
+          (⟦<String as Deserialize<'de>>⟧.gives) x1
+          NoOthers)
+      | adjacent_mixed4.V2 x1 x2 ↦ (RowThen (name "of")
+          (⟦<(u8, bool) as Deserialize<'de>>⟧.gives) (x1, x2)
+          NoOthers)
+      | adjacent_mixed4.V3 x1 x2 x3 ↦
+          (RowThen (name "of") (⟦<AdjacentMixed4V3Content as Deserialize<'de>>⟧.gives)
+          (record {
+            f0 = x1;
+            f1 = x2;
+            f2 = x3;
+          })
+          NoOthers)
     ] };
 
     #[tactic(auto, unfolding(serde_content::specs::Literals::name))]
     fn name() -> &'static str {
-        "InternalMixed2"
+        "AdjacentMixed4"
     }
 
     #[tactic(auto, unfolding(serde_content::specs::Literals::name))]
@@ -2371,74 +2316,182 @@ impl<'de> TaggedVariants<'de> for InternalMixed2 {
         alloc: Global,
         tag: &str,
         fields: FieldsByName<'de, 'n>,
-    ) -> Result<InternalMixed2> {
-        match variant_index(tag, &NamesOfInternalMixed2) {
+    ) -> Result<AdjacentMixed4> {
+        match variant_index(tag, &NamesOfAdjacentMixed4) {
             Some(0) => {
-                let _: OthersSkipped<FieldsOfInternalMixed2V0> = ReadFields::read(alloc, fields)?;
-                Ok(InternalMixed2::V0)
+                let _: OthersSkipped<FieldsOfAdjacentMixed4V0> = ReadFields::read(alloc, fields)?;
+                Ok(AdjacentMixed4::V0)
             }
             Some(1) => {
-                let _: OthersSkipped<FieldsOfInternalMixed2V1> = ReadFields::read(alloc, fields)?;
-                Ok(InternalMixed2::V1)
+                let x1 = read_adjacent_mixed4_v1(alloc, fields)?;
+                Ok(AdjacentMixed4::V1(x1))
             }
-            _ => Err(no_such_variant(alloc, tag, &NamesOfInternalMixed2)),
+            Some(2) => {
+                let (x1, x2) = read_adjacent_mixed4_v2(alloc, fields)?;
+                Ok(AdjacentMixed4::V2(x1, x2))
+            }
+            Some(3) => {
+                let AdjacentMixed4V3Content { f0, f1, f2 } = read_adjacent_mixed4_v3(
+                    alloc, fields,
+                )?;
+                Ok(make_adjacent_mixed4_v3(f0, f1, f2))
+            }
+            _ => Err(no_such_variant(alloc, tag, &NamesOfAdjacentMixed4)),
         }
     }
 }
 
-impl<'de> Deserialize<'de> for InternalMixed2 {
-    ghost refusal = { struct_refusal (name "InternalMixed2")
-        (read_by_name (tag_then_buffered (name "kind")
-        ⟦<InternalMixed2 as TaggedVariants<'de>>⟧.refusal)) };
+impl<'de> Deserialize<'de> for AdjacentMixed4 {
+    ghost refusal = { struct_refusal (name "AdjacentMixed4")
+        (read_by_name (tag_then (name "kind")
+        ⟦<AdjacentMixed4 as TaggedVariants<'de>>⟧.refusal)) };
 
-    ghost gives = { λ s y. StructGives (name "InternalMixed2") (ReadByName
-        (TagThenBuffered (name "kind")
-        (⟦<InternalMixed2 as TaggedVariants<'de>>⟧.named y)
-        (⟦<InternalMixed2 as TaggedVariants<'de>>⟧.held y))) s };
+    ghost gives = { λ s y. StructGives (name "AdjacentMixed4") (ReadByName
+        (TagThen (name "kind")
+        (⟦<AdjacentMixed4 as TaggedVariants<'de>>⟧.named y)
+        (⟦<AdjacentMixed4 as TaggedVariants<'de>>⟧.held y))) s };
 
-    fn deserialize<'n: 'de>(alloc: Global, from: Deserializer<'de, 'n>) -> Result<InternalMixed2> {
-        read_tagged(alloc, from)
+    fn deserialize<'n: 'de>(alloc: Global, from: Deserializer<'de, 'n>) -> Result<AdjacentMixed4> {
+        read_adjacent(alloc, from)
     }
 }
 
-impl<'de> RoundTrip<'de> for InternalMixed2 {
+impl<'de> RoundTrip<'de> for AdjacentMixed4 {
     fn known(&self) {}
 
     ghost comes_back = { record {
       of_value = elim [
-        | internal_mixed2.V0 ↦ λ real f. tagged_back Self.refusal Self.gives
+        | adjacent_mixed4.V0 ↦ λ real f. tagged_back Self.refusal Self.gives
             (skipped_back {Y = Unit {0}} (name "kind" ∷ []))
-            f (buffering f) refl (unfold name index_among in λ fs. refl)
+            f f refl (unfold name index_among in λ fs. refl)
             (unfold name index_among in λ fs only. elim [
-              | internal_mixed2.V0 ↦ λ it. refl
-              | internal_mixed2.V1 ↦ λ it. other_variant it.0 refl
+              | adjacent_mixed4.V0 ↦ λ it. refl
+              | adjacent_mixed4.V1 y1 ↦ λ it. other_variant it.0 refl
+              | adjacent_mixed4.V2 y1 y2 ↦ λ it. other_variant it.0 refl
+              | adjacent_mixed4.V3 y1 y2 y3 ↦ λ it. other_variant it.0 refl
             ])
-        | internal_mixed2.V1 ↦ λ real f. tagged_back Self.refusal Self.gives
-            (skipped_back {Y = Unit {0}} (name "kind" ∷ []))
-            f (buffering f) refl (unfold name index_among in λ fs. refl)
+        | adjacent_mixed4.V1 x1 ↦ λ real f. tagged_back Self.refusal Self.gives
+            (named_back (name "of") text_back x1 tt (λ (z : (String Global)). z)
+            (skipped_back (name "kind" ∷ name "of" ∷ [])))
+            f f refl (unfold name index_among in λ fs. refl)
             (unfold name index_among in λ fs only. elim [
-              | internal_mixed2.V0 ↦ λ it. other_variant it.0 refl
-              | internal_mixed2.V1 ↦ λ it. refl
+              | adjacent_mixed4.V0 ↦ λ it. other_variant it.0 refl
+              | adjacent_mixed4.V1 y1 ↦ λ it. let same = only y1 it.1 in same.0
+              | adjacent_mixed4.V2 y1 y2 ↦ λ it. other_variant it.0 refl
+              | adjacent_mixed4.V3 y1 y2 y3 ↦ λ it. other_variant it.0 refl
+            ])
+        | adjacent_mixed4.V2 x1 x2 ↦ λ real f. tagged_back Self.refusal Self.gives
+            (content_back (name "of") (tuple_script 2
+            (element_first (⟦<u8 as Serialize>⟧.script x1)
+            (element_first (⟦<bool as Serialize>⟧.script x2)
+            end_script)))
+            (⟦<(u8, bool) as Deserialize<'de>>⟧.refusal)
+            (⟦<(u8, bool) as Deserialize<'de>>⟧.gives)
+            (λ g. tuple_back
+            (element_back u8_back x1 tt (λ q. q.0) 2 0
+            (element_back bool_back x2 tt (λ q. q.1) 2 1
+            (parts_end 2)))
+            g (λ q h. h))
+            (skipped_back (name "kind" ∷ name "of" ∷ [])))
+            f f refl (unfold name index_among in λ fs. refl)
+            (unfold name index_among in λ fs only. elim [
+              | adjacent_mixed4.V0 ↦ λ it. other_variant it.0 refl
+              | adjacent_mixed4.V1 y1 ↦ λ it. other_variant it.0 refl
+              | adjacent_mixed4.V2 y1 y2 ↦ λ it. let same = only (y1, y2) it.1 in both_hold
+                  same.0.0 same.0.1.0
+              | adjacent_mixed4.V3 y1 y2 y3 ↦ λ it. other_variant it.0 refl
+            ])
+        | adjacent_mixed4.V3 x1 x2 x3 ↦ λ real f. tagged_back Self.refusal Self.gives
+            (content_back (name "of") (struct_script (name "V3") 3
+            (field_first (name "f0") (⟦<i32 as Serialize>⟧.script x1)
+            (field_first (name "f1") (⟦<u8 as Serialize>⟧.script x2)
+            (field_first (name "f2") (⟦<String as Serialize>⟧.script x3)
+            end_script))))
+            (⟦<AdjacentMixed4V3Content as Deserialize<'de>>⟧.refusal)
+            (⟦<AdjacentMixed4V3Content as Deserialize<'de>>⟧.gives)
+            (λ g. struct_back (by_name_back
+            (named_back (name "f0") i32_back x1 tt (λ q. q.f0)
+            (named_back (name "f1") u8_back x2 tt (λ q. q.f1)
+            (named_back (name "f2") text_back x3 tt (λ q. q.f2)
+            (skipped_back (name "f0" ∷ name "f1" ∷ name "f2" ∷ []))))))
+            g (λ q h. h))
+            (skipped_back (name "kind" ∷ name "of" ∷ [])))
+            f f refl (unfold name index_among in λ fs. refl)
+            (unfold name index_among in λ fs only. elim [
+              | adjacent_mixed4.V0 ↦ λ it. other_variant it.0 refl
+              | adjacent_mixed4.V1 y1 ↦ λ it. other_variant it.0 refl
+              | adjacent_mixed4.V2 y1 y2 ↦ λ it. other_variant it.0 refl
+              | adjacent_mixed4.V3 y1 y2 y3 ↦ λ it. let same = only (record {
+                f0 = y1;
+                f1 = y2;
+                f2 = y3;
+              }) it.1 in both_hold same.0.0 (both_hold same.0.1.0 same.0.1.1.0)
             ])
       ];
     } };
 
     ghost keeps = { record {
       of_origin = λ o people. elim [
-        | internal_mixed2.V0 ↦ λ p.
-            let q = (struct_keeps (name "InternalMixed2") (by_name_keeps
-            (tag_keeps_buffered (name "kind") (name "V0")
-            ⟦<InternalMixed2 as TaggedVariants<'de>>⟧.refusal
-            (λ (z : Unit {0}).
-            NoOthers)))).of_origin o people tt
+        | adjacent_mixed4.V0 ↦ λ p.
+            let q = (struct_keeps (name "AdjacentMixed4") (by_name_keeps
+            (tag_keeps {own =
+            (others_left (name "kind" ∷ []))} (name "kind") (name "V0")
+            ⟦<AdjacentMixed4 as TaggedVariants<'de>>⟧.refusal
+            (unfold name index_among in λ f. refl)
+            (skipped_keeps {Y = Unit {0}} (name "kind" ∷ []))))).of_origin o people tt
             (record { free = p.free; given = p.given }) in
             record { free = q.free; given = q.given }
-        | internal_mixed2.V1 ↦ λ p.
-            let q = (struct_keeps (name "InternalMixed2") (by_name_keeps
-            (tag_keeps_buffered (name "kind") (name "V1")
-            ⟦<InternalMixed2 as TaggedVariants<'de>>⟧.refusal
-            (λ (z : Unit {0}).
-            NoOthers)))).of_origin o people tt
+        | adjacent_mixed4.V1 x1 ↦ λ p.
+            let q = (struct_keeps (name "AdjacentMixed4") (by_name_keeps
+            (tag_keeps {own =
+            (row_then (name "of") (⟦<String as Deserialize<'de>>⟧.refusal)
+            (others_left (name "kind" ∷ name "of" ∷ [])))} (name "kind") (name "V1")
+            ⟦<AdjacentMixed4 as TaggedVariants<'de>>⟧.refusal
+            (unfold name index_among in λ f. refl)
+            (named_keeps (name "of") (λ (z : (String Global)). z)
+            (heedless_keeps (λ o. refusal_of (text_from o))
+            (λ o (x : String Global). IsTaken (text_from o) (HasContent (string_bytes x))))
+            (skipped_keeps (name "kind" ∷ name "of" ∷ [])))))).of_origin o people x1
+            (record { free = p.free; given = p.given }) in
+            record { free = q.free; given = q.given }
+        | adjacent_mixed4.V2 x1 x2 ↦ λ p.
+            let q = (struct_keeps (name "AdjacentMixed4") (by_name_keeps
+            (tag_keeps {own =
+            (row_then (name "of") (⟦<(u8, bool) as Deserialize<'de>>⟧.refusal)
+            (others_left (name "kind" ∷ name "of" ∷ [])))} (name "kind") (name "V2")
+            ⟦<AdjacentMixed4 as TaggedVariants<'de>>⟧.refusal
+            (unfold name index_among in λ f. refl)
+            (content_keeps (name "of") (⟦<(u8, bool) as Deserialize<'de>>⟧.refusal)
+            (⟦<(u8, bool) as Deserialize<'de>>⟧.gives)
+            (tuple_keeps 2
+            (part_keeps (λ q. q.0) 2 0 (natural_keeps kind.u8)
+            (part_keeps (λ q. q.1) 2 1 (heedless_keeps (λ o. refusal_of (bool_from o))
+            (λ o (x : Bool). bool_from o ≡ taken x))
+            (parts_end_keeps 2))))
+            (skipped_keeps (name "kind" ∷ name "of" ∷ [])))))).of_origin o people (x1, x2)
+            (record { free = p.free; given = p.given }) in
+            record { free = q.free; given = q.given }
+        | adjacent_mixed4.V3 x1 x2 x3 ↦ λ p.
+            let q = (struct_keeps (name "AdjacentMixed4") (by_name_keeps
+            (tag_keeps {own =
+            (row_then (name "of") (⟦<AdjacentMixed4V3Content as Deserialize<'de>>⟧.refusal)
+            (others_left (name "kind" ∷ name "of" ∷ [])))} (name "kind") (name "V3")
+            ⟦<AdjacentMixed4 as TaggedVariants<'de>>⟧.refusal
+            (unfold name index_among in λ f. refl)
+            (content_keeps (name "of") (⟦<AdjacentMixed4V3Content as Deserialize<'de>>⟧.refusal)
+            (⟦<AdjacentMixed4V3Content as Deserialize<'de>>⟧.gives)
+            (struct_keeps (name "V3") (by_name_keeps
+            (named_keeps (name "f0") (λ q. q.f0) (integer_keeps kind.i32)
+            (named_keeps (name "f1") (λ q. q.f1) (natural_keeps kind.u8)
+            (named_keeps (name "f2") (λ q. q.f2)
+            (heedless_keeps (λ o. refusal_of (text_from o))
+            (λ o (x : String Global). IsTaken (text_from o) (HasContent (string_bytes x))))
+            (skipped_keeps (name "f0" ∷ name "f1" ∷ name "f2" ∷ [])))))))
+            (skipped_keeps (name "kind" ∷ name "of" ∷ [])))))).of_origin o people (record {
+              f0 = x1;
+              f1 = x2;
+              f2 = x3;
+            })
             (record { free = p.free; given = p.given }) in
             record { free = q.free; given = q.given }
       ];
@@ -5410,12 +5463,12 @@ fn name_place_mixed9() -> &'static str
     "PlaceMixed9"
 }
 
-/// The name `ExternalMixed4`.
+/// The name `AdjacentMixed4`.
 #[tactic(auto, unfolding(serde_content::specs::Literals::name))]
-fn name_external_mixed4() -> &'static str
-    ensures { result.now ≡ name "ExternalMixed4" }
+fn name_adjacent_mixed4() -> &'static str
+    ensures { result.now ≡ name "AdjacentMixed4" }
 {
-    "ExternalMixed4"
+    "AdjacentMixed4"
 }
 
 /// The name `V3`.
@@ -5424,38 +5477,6 @@ fn name_v3() -> &'static str
     ensures { result.now ≡ name "V3" }
 {
     "V3"
-}
-
-/// The name `V0`.
-#[tactic(auto, unfolding(serde_content::specs::Literals::name))]
-fn name_v0() -> &'static str
-    ensures { result.now ≡ name "V0" }
-{
-    "V0"
-}
-
-/// The name `V1`.
-#[tactic(auto, unfolding(serde_content::specs::Literals::name))]
-fn name_v1() -> &'static str
-    ensures { result.now ≡ name "V1" }
-{
-    "V1"
-}
-
-/// The name `V2`.
-#[tactic(auto, unfolding(serde_content::specs::Literals::name))]
-fn name_v2() -> &'static str
-    ensures { result.now ≡ name "V2" }
-{
-    "V2"
-}
-
-/// The name `InternalMixed2`.
-#[tactic(auto, unfolding(serde_content::specs::Literals::name))]
-fn name_internal_mixed2() -> &'static str
-    ensures { result.now ≡ name "InternalMixed2" }
-{
-    "InternalMixed2"
 }
 
 /// The name `SkippedInVariant2`.

@@ -3,8 +3,7 @@
 //! Written by `tools/derive` from `types.rs`: change that file, and write this one anew.
 
 ghost use Rattle.std.specs.Prelude.{◌≡◌, ◌∷◌, [], ℕ, ℤ, Option, None, string_bytes, refl, ⊤};
-ghost use Rattle.std.specs.Cmp.Lexicographic.{texts_ties};
-ghost use Rattle.std.specs.String.{string_cmp_total};
+ghost use Rattle.std.specs.String.{string_eq_equiv};
 ghost use Rattle.content_ser.specs.Scripts.Own.{field_first, tuple_field_first, end_script};
 ghost use Rattle.content_ser.specs.Scripts.Own.{unit_variant_script, newtype_variant_script};
 ghost use Rattle.content_ser.specs.Scripts.Own.{tuple_variant_script, struct_script};
@@ -37,7 +36,7 @@ ghost use Rattle.serde_content.specs.Laws.Leaves.{text_back, u8_back, u16_back, 
 ghost use Rattle.serde_content.specs.Laws.Leaves.{i32_back};
 ghost use Rattle.serde_content.specs.Laws.Holders.{seen_back, seen_keeps, option_back};
 ghost use Rattle.serde_content.specs.Laws.Holders.{option_keeps, seq_back, seq_keeps};
-ghost use Rattle.serde_content.specs.Laws.Maps.{map_back, map_keeps};
+ghost use Rattle.serde_content.specs.Laws.Hashed.{hash_map_back, hash_map_keeps};
 ghost use Rattle.serde_content.specs.Laws.Series.{both_hold, element_back, tuple_back};
 ghost use Rattle.serde_content.specs.Laws.Series.{tuple_field_back, parts_end, part_keeps};
 ghost use Rattle.serde_content.specs.Laws.Series.{tuple_keeps, parts_end_keeps};
@@ -54,8 +53,8 @@ ghost use Rattle.serde_content.specs.Laws.Variants.{struct_variant_back, struct_
 ghost use Rattle.content_cbor.specs.Typed.Kept.{FormComesBack};
 ghost use Rattle.content_cbor.specs.Typed.Leaves.{text_kept, u8_kept, u16_kept, u32_kept, u64_kept};
 ghost use Rattle.content_cbor.specs.Typed.Leaves.{i32_kept, number_not_null, text_not_null};
+ghost use Rattle.content_cbor.specs.Typed.HashMaps.{hash_map_kept};
 ghost use Rattle.content_cbor.specs.Typed.Holders.{seen_kept, option_kept, seq_kept};
-ghost use Rattle.content_cbor.specs.Typed.Maps.{map_kept};
 ghost use Rattle.content_cbor.specs.Typed.Series.{element_kept, tuple_kept, tuple_field_kept};
 ghost use Rattle.content_cbor.specs.Typed.Series.{parts_end_kept};
 ghost use Rattle.content_cbor.specs.Typed.Records.{struct_kept};
@@ -83,7 +82,7 @@ use serde_content::derive_support::{
 use serde_content::ser::{Call, Parts, Serialize, Serializer};
 use serde_content::{Deserializer, Result, RoundTrip};
 use std::alloc::Global;
-use std::collections::BTreeMap;
+use std::collections::HashMap;
 
 /// Where a parcel goes.
 #[derive(Drop, Debug, PartialEq, Eq)]
@@ -647,7 +646,7 @@ pub struct Order {
     /// What became of it.
     pub steps: Vec<Step>,
     /// How many of what.
-    pub goods: BTreeMap<String, u32>,
+    pub goods: HashMap<String, u32>,
     /// Width, height and depth.
     pub size: (u16, u16, u16),
     /// A word to the driver.
@@ -674,7 +673,7 @@ type Field2OfOrder = ReadField<FieldsOfOrder, 1, Place, Field3OfOrder>;
 
 type Field3OfOrder = ReadFieldOr<FieldsOfOrder, 2, Vec<Step>, Field4OfOrder>;
 
-type Field4OfOrder = ReadField<FieldsOfOrder, 3, BTreeMap<String, u32>, Field5OfOrder>;
+type Field4OfOrder = ReadField<FieldsOfOrder, 3, HashMap<String, u32>, Field5OfOrder>;
 
 type Field5OfOrder = ReadField<FieldsOfOrder, 4, (u16, u16, u16), Field6OfOrder>;
 
@@ -691,7 +690,7 @@ impl<'de> ReadStruct<'de> for Order {
     ghost refusal = { row_then (name "order-id") (⟦<u64 as Deserialize<'de>>⟧.refusal)
         (row_then (name "to") (⟦<Place as Deserialize<'de>>⟧.refusal)
         (row_or_then (name "steps") (⟦<Vec<Step> as Deserialize<'de>>⟧.refusal)
-        (row_then (name "goods") (⟦<BTreeMap<String, u32> as Deserialize<'de>>⟧.refusal)
+        (row_then (name "goods") (⟦<HashMap<String, u32> as Deserialize<'de>>⟧.refusal)
         (row_then (name "size") (⟦<(u16, u16, u16) as Deserialize<'de>>⟧.refusal)
         (row_or_then (name "note") (⟦<Option<Box<String>> as Deserialize<'de>>⟧.refusal)
         (others_left (name "order-id" ∷ name "to" ∷ name "steps" ∷ name "goods" ∷
@@ -702,8 +701,7 @@ impl<'de> ReadStruct<'de> for Order {
         (RowThen (name "to") (⟦<Place as Deserialize<'de>>⟧.gives) z.to
         (RowOrThen (name "steps") (λ (x : (Vec Step Global)). x.items ≡ [])
         (⟦<Vec<Step> as Deserialize<'de>>⟧.gives) z.steps
-        (RowThen (name "goods") (⟦<BTreeMap<String, u32> as Deserialize<'de>>⟧.gives)
-        z.goods
+        (RowThen (name "goods") (⟦<HashMap<String, u32> as Deserialize<'de>>⟧.gives) z.goods
         (RowThen (name "size") (⟦<(u16, u16, u16) as Deserialize<'de>>⟧.gives) z.size
         (RowOrThen (name "note") (λ (x : (Option (Box (String Global) Global))). x ≡ None)
         (⟦<Option<Box<String>> as Deserialize<'de>>⟧.gives) z.note
@@ -741,7 +739,7 @@ impl Serialize for Order {
         (field_first (name "order-id") (⟦<u64 as Serialize>⟧.script p.id)
         (field_first (name "to") (⟦<Place as Serialize>⟧.script p.to)
         (field_first (name "steps") (⟦<Vec<Step> as Serialize>⟧.script p.steps)
-        (field_first (name "goods") (⟦<BTreeMap<String, u32> as Serialize>⟧.script p.goods)
+        (field_first (name "goods") (⟦<HashMap<String, u32> as Serialize>⟧.script p.goods)
         (field_first (name "size") (⟦<(u16, u16, u16) as Serialize>⟧.script p.size)
         (field_first (name "note") (⟦<Option<Box<String>> as Serialize>⟧.script p.note)
         end_script)))))) };
@@ -779,7 +777,7 @@ impl<'de> Deserialize<'de> for Order {
         (row_then (name "order-id") (⟦<u64 as Deserialize<'de>>⟧.refusal)
         (row_then (name "to") (⟦<Place as Deserialize<'de>>⟧.refusal)
         (row_or_then (name "steps") (⟦<Vec<Step> as Deserialize<'de>>⟧.refusal)
-        (row_then (name "goods") (⟦<BTreeMap<String, u32> as Deserialize<'de>>⟧.refusal)
+        (row_then (name "goods") (⟦<HashMap<String, u32> as Deserialize<'de>>⟧.refusal)
         (row_then (name "size") (⟦<(u16, u16, u16) as Deserialize<'de>>⟧.refusal)
         (row_or_then (name "note") (⟦<Option<Box<String>> as Deserialize<'de>>⟧.refusal)
         (others_left (name "order-id" ∷ name "to" ∷ name "steps" ∷ name "goods" ∷
@@ -790,8 +788,7 @@ impl<'de> Deserialize<'de> for Order {
         (RowThen (name "to") (⟦<Place as Deserialize<'de>>⟧.gives) p.to
         (RowOrThen (name "steps") (λ (x : (Vec Step Global)). x.items ≡ [])
         (⟦<Vec<Step> as Deserialize<'de>>⟧.gives) p.steps
-        (RowThen (name "goods") (⟦<BTreeMap<String, u32> as Deserialize<'de>>⟧.gives)
-        p.goods
+        (RowThen (name "goods") (⟦<HashMap<String, u32> as Deserialize<'de>>⟧.gives) p.goods
         (RowThen (name "size") (⟦<(u16, u16, u16) as Deserialize<'de>>⟧.gives) p.size
         (RowOrThen (name "note") (λ (x : (Option (Box (String Global) Global))). x ≡ None)
         (⟦<Option<Box<String>> as Deserialize<'de>>⟧.gives) p.note
@@ -808,7 +805,7 @@ impl<'de> RoundTrip<'de> for Order {
 
     ghost exists = { λ p. ⟦<Place as RoundTrip<'de>>⟧.exists p.to ×
         ⟦<Vec<Step> as RoundTrip<'de>>⟧.exists p.steps ×
-        ⟦<BTreeMap<String, u32> as RoundTrip<'de>>⟧.exists p.goods ×
+        ⟦<HashMap<String, u32> as RoundTrip<'de>>⟧.exists p.goods ×
         ⟦<(u16, u16, u16) as RoundTrip<'de>>⟧.exists p.size ×
         ⟦<Option<Box<String>> as RoundTrip<'de>>⟧.exists p.note };
 
@@ -831,14 +828,13 @@ impl<'de> RoundTrip<'de> for Order {
           (seen_back (λ v. v.items) (seq_back step_round_trip.comes_back-law)) in law) p.steps
           real.1 (λ q. q.steps)
           (named_back (name "goods") (let law : ComesBack
-          (⟦<BTreeMap<String, u32> as RoundTrip<'de>>⟧.exists)
-          (⟦<BTreeMap<String, u32> as Serialize>⟧.script)
-          (⟦<BTreeMap<String, u32> as Deserialize<'de>>⟧.refusal)
-          (⟦<BTreeMap<String, u32> as Deserialize<'de>>⟧.gives)
-          (⟦<BTreeMap<String, u32> as PartialEq>⟧.eq) =
-          (seen_back (λ m. m.entries) (map_back string_cmp_total
-          (λ x y. texts_ties (string_bytes x) (string_bytes y)) text_back u32_back)) in law)
-          p.goods real.2 (λ q. q.goods)
+          (⟦<HashMap<String, u32> as RoundTrip<'de>>⟧.exists)
+          (⟦<HashMap<String, u32> as Serialize>⟧.script)
+          (⟦<HashMap<String, u32> as Deserialize<'de>>⟧.refusal)
+          (⟦<HashMap<String, u32> as Deserialize<'de>>⟧.gives)
+          (⟦<HashMap<String, u32> as PartialEq>⟧.eq) =
+          (hash_map_back string_eq_equiv text_back u32_back) in law) p.goods real.2
+          (λ q. q.goods)
           (named_back (name "size") (let law : ComesBack
           (⟦<(u16, u16, u16) as RoundTrip<'de>>⟧.exists)
           (⟦<(u16, u16, u16) as Serialize>⟧.script)
@@ -875,12 +871,12 @@ impl<'de> RoundTrip<'de> for Order {
         (⟦<Vec<Step> as Deserialize<'de>>⟧.gives) =
         (seen_keeps (λ v. v.items) (seq_keeps step_round_trip.keeps-law)) in law)
         (named_keeps (name "goods") (λ q. q.goods)
-        (let law : CoercionKeeps (⟦<BTreeMap<String, u32> as Deserialize<'de>>⟧.refusal)
-        (⟦<BTreeMap<String, u32> as Deserialize<'de>>⟧.gives) =
-        (seen_keeps (λ m. m.entries) (map_keeps (⟦<String as Ord>⟧.cmp)
+        (let law : CoercionKeeps (⟦<HashMap<String, u32> as Deserialize<'de>>⟧.refusal)
+        (⟦<HashMap<String, u32> as Deserialize<'de>>⟧.gives) =
+        (hash_map_keeps (⟦<String as PartialEq>⟧.eq)
         (heedless_keeps (λ o. refusal_of (text_from o))
         (λ o (x : String Global). IsTaken (text_from o) (HasContent (string_bytes x))))
-        (natural_keeps kind.u32))) in law)
+        (natural_keeps kind.u32)) in law)
         (named_keeps (name "size") (λ q. q.size)
         (let law : CoercionKeeps (⟦<(u16, u16, u16) as Deserialize<'de>>⟧.refusal)
         (⟦<(u16, u16, u16) as Deserialize<'de>>⟧.gives) = (tuple_keeps 3
@@ -915,14 +911,13 @@ impl<'de> CborRoundTrip<'de> for Order {
           (seen_kept (λ v. v.items) (seq_kept step_cbor_round_trip.kept-law)) in law) p.steps
           real.1 (λ q. q.steps)
           (named_kept (name "goods") (let law : FormComesBack
-          (⟦<BTreeMap<String, u32> as RoundTrip<'de>>⟧.exists)
-          (⟦<BTreeMap<String, u32> as Serialize>⟧.script)
-          (⟦<BTreeMap<String, u32> as Deserialize<'de>>⟧.refusal)
-          (⟦<BTreeMap<String, u32> as Deserialize<'de>>⟧.gives)
-          (⟦<BTreeMap<String, u32> as PartialEq>⟧.eq) =
-          (seen_kept (λ m. m.entries) (map_kept string_cmp_total
-          (λ x y. texts_ties (string_bytes x) (string_bytes y)) text_kept u32_kept)) in law)
-          p.goods real.2 (λ q. q.goods)
+          (⟦<HashMap<String, u32> as RoundTrip<'de>>⟧.exists)
+          (⟦<HashMap<String, u32> as Serialize>⟧.script)
+          (⟦<HashMap<String, u32> as Deserialize<'de>>⟧.refusal)
+          (⟦<HashMap<String, u32> as Deserialize<'de>>⟧.gives)
+          (⟦<HashMap<String, u32> as PartialEq>⟧.eq) =
+          (hash_map_kept string_eq_equiv text_kept u32_kept) in law) p.goods real.2
+          (λ q. q.goods)
           (named_kept (name "size") (let law : FormComesBack
           (⟦<(u16, u16, u16) as RoundTrip<'de>>⟧.exists)
           (⟦<(u16, u16, u16) as Serialize>⟧.script)

@@ -1,0 +1,144 @@
+"""What is written of an enum that is tagged adjacently: structs of a field that names the variant, and of one with its content,
+where it holds something."""
+from typing import List
+
+from .declarations import Data, Field, Item, Variant
+from .held import HeldWriter
+from .holder import BY_PLACE, Holder, row_of
+from .literals import name_term
+from .tagged import TaggedHolder, TaggedWriter
+from .text import all_hold, facts, fields_reader, together
+from .types import DEFAULTS, READ, Type, angled, in_term, nest
+
+ELEMENTS = BY_PLACE._replace(
+    script=("element_first {inner}", "end_script"),
+    lawful=("element_fits {inner}", "end_fits"),
+    back=("element_back {inner} {see} {count} {place}", "(parts_end {count})"),
+    kept=("element_kept {inner} {see} {count} {place}", "(parts_end_kept {count})"))
+
+
+class TupleHolder(Holder):
+    """Values by place, as a tuple of them has them."""
+
+    by_place = ELEMENTS
+
+    def __init__(self, data: Data, owner: str):
+        super().__init__("Struct", [], data, owner)
+        self.word, self.head, self.call = "tuple", f" {self.count}", f"Call::Tuple({self.count})"
+
+    def script(self, values: List[str]) -> str:
+        return f"tuple_script{self.head}{self.row('script', self.scripts(values))}"
+
+    def sent(self, f: Field, value: str) -> str:
+        return f"SendElement({value}, row)"
+
+
+class ContentHolder(TaggedHolder):
+    """What stands beside the tag of a variant of several values: its content, a struct or a tuple of them."""
+
+    def __init__(self, item: Item, v: Variant):
+        self.struct = HeldWriter(item, v, v.content, v.wire) if v.data.named else None
+        self.inside = self.struct.holder if self.struct else TupleHolder(v.data, v.content)
+        content = item.serde["content"]
+        self.held = Type("tuple", tuple(f.type for f in v.data.fields))
+        if self.struct:
+            self.held = Type(self.struct.item.name + angled(*v.data.arguments(0)))
+        self.sees = [f"(λ q. q.{in_term(f.name)})" for f in v.data.fields]
+        super().__init__(item, item.serde["tag"], v, [Field("x1", v.line, [], {}, content, content, type=self.held)])
+
+    def term(self, values: List[str]) -> str:
+        """The content as contracts make it."""
+        return f"({self.inside.data.term(values)})" if self.struct else together(values)
+
+    def pattern(self, places: List[str]) -> str:
+        """The content as code takes it apart."""
+        return self.inside.data.made(self.struct.item.name, places) if self.struct else together(places)
+
+    def scripts(self, values: List[str]) -> List[str]:
+        return [f"({self.inside.script(values)})"]
+
+    def laws(self, values: List[str]) -> List[str]:
+        return [f"({self.inside.lawful(values)})"]
+
+    def given(self, values: List[str]) -> List[str]:
+        return super().given([self.term(values)])
+
+    def exists(self, values: List[str]) -> str:
+        return self.inside.exists(values)
+
+    def send(self, values: List[str]) -> List[str]:
+        inside = self.inside
+        content = f"SendInside({self.announced(self.fields[0])}, row, SendEnd)"
+        rows = [f"SendOpen({inside.opening(values)}, row)", content, *reversed(self.before), f"SendOpen({self.call}, row)"]
+        return [*row_of(inside.sent_row(values, 0), inside.sent_last(values, 0)), *(f"let row = {row};" for row in rows),
+                "send_row(alloc, serializer, &row)"]
+
+    def field_reader(self) -> str:
+        """The function that reads the content."""
+        gives = self.row("gives", super().given(["z"]))
+        lines = [*self.all_taken("ReadFields", "fields"), "Ok(x1)"]
+        return fields_reader(self.reader, self.held, self.refusal_row(), gives, lines)
+
+    def content_row(self, member: str, law: str, *script: str) -> str:
+        """A law of the content, and that nothing else is beside the tag."""
+        known = "\n".join([*script, self.refusals()[0], f"({self.held.member(READ, 'gives')})"])
+        return nest([f"content_{member} {name_term(self.fields[0].wire)} {known}\n({law})"], self.end(member))
+
+    def back_row(self, values: List[str], sees: List[str]) -> str:
+        law = f"λ g. {self.inside.word}_back{self.inside.back(values, self.sees)}\ng (λ q h. h)"
+        return self.content_row("back", law, *self.scripts(values))
+
+    def kept_row(self, values: List[str], sees: List[str]) -> str:
+        law = f"{self.inside.word}_kept{self.inside.kept(values, self.sees)}\n(λ q h. h)"
+        return self.content_row("kept", law, *self.scripts(values))
+
+    def keeps_row(self, sees: List[str]) -> str:
+        return self.content_row("keeps", f"{self.inside.word}_keeps{self.inside.head}{self.inside.keeps(self.sees)}")
+
+
+class AdjacentWriter(TaggedWriter):
+    """The impls of an enum that is tagged adjacently."""
+
+    buffered = ""
+
+    def holder(self, v: Variant) -> TaggedHolder:
+        if not (v.sent or v.read):
+            return TaggedHolder(self.item, self.tag, v, [])
+        if v.data.several:
+            return ContentHolder(self.item, v)
+        content = self.item.serde["content"]
+        fields = [Field("x1", f.line, [], {}, content, content, type=f.type, origin=f.origin, given=f.given,
+                        missing=DEFAULTS["Option"] if f.type.name == "Option" else "") for f in v.data.fields]
+        return TaggedHolder(self.item, self.tag, v, fields)
+
+    def functions(self) -> List[str]:
+        held = [holder.struct for _, holder in self.variants if isinstance(holder, ContentHolder) and holder.struct]
+        return [text for struct in held for text in struct.texts()] + super().functions()
+
+    def is_apart(self, v: Variant, holder: Holder) -> bool:
+        return isinstance(holder, ContentHolder) or super().is_apart(v, holder)
+
+    def reader(self, v: Variant, holder: Holder) -> List[str]:
+        return [holder.field_reader()] if isinstance(holder, ContentHolder) else super().reader(v, holder)
+
+    def arm_lines(self, v: Variant, holder: Holder) -> List[str]:
+        if not isinstance(holder, ContentHolder):
+            return super().arm_lines(v, holder)
+        places = v.data.places()
+        return [f"let {holder.pattern(places)} = {holder.reader}(alloc, fields)?;", f"Ok({self.making(v, holder)(places)})"]
+
+    @staticmethod
+    def sees(holder: Holder) -> List[str]:
+        return holder.sees if isinstance(holder, ContentHolder) else TaggedWriter.sees(holder)
+
+    @staticmethod
+    def term(holder: Holder, values: List[str]) -> str:
+        return holder.term(values) if isinstance(holder, ContentHolder) else together(values)
+
+    def read(self, sent: Variant, read: Variant, named: str = "it.0", held: str = "it.1") -> str:
+        holder = next(holder for v, holder in self.variants if v is read)
+        if read is not sent or not isinstance(holder, ContentHolder):
+            return super().read(sent, read, named, held)
+        values = self.leaves(read, "y")
+        return (f"{self.case(read, 'y')} λ it. let same = only {holder.term(values)} {held} in"
+                f" {all_hold(facts(len(values), 'same.0'))}")
