@@ -12,7 +12,9 @@ parts=$top/checks/derive_beside
 crate=$(cd "$1" && pwd)
 mkdir -p "$2"
 room=$(cd "$2" && pwd)
-files=("$top"/crates/check_derive/{types,choices,sorts,inlined,attributes}.rs "$top/checks/serde_texts/more.rs" "$parts/others.rs")
+# in Rust a HashMap has another order in each run: here it is a BTreeMap
+sed 's/HashMap/BTreeMap/g' "$top/crates/check_derive/types.rs" > "$room/types.rs"
+files=("$room/types.rs" "$top"/crates/check_derive/{choices,sorts,inlined,attributes}.rs "$top/checks/serde_texts/more.rs" "$parts/others.rs")
 cases=("$room" "${3:-1}" 20000 "${files[@]}")
 
 # shellcheck source=bench/common.sh
