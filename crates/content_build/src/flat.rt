@@ -1,15 +1,14 @@
 //! Nodes that hold leaves alone: their values are made at once.
 
-ghost use Rattle.std.specs.Prelude.{◌≡◌, ◌<◌, ◌≤◌, ◌+◌, if◌then◌else◌, IfOk, MatchOption};
+ghost use Rattle.std.specs.Prelude.{◌≡◌, ◌<◌, ◌≤◌, ◌+◌, IfOk, MatchOption};
 ghost use Rattle.std.specs.Prelude.{drop, take, vec_len};
 ghost use Rattle.content_tree.specs.Values.Text.{static_name};
 ghost use Rattle.content_tree.specs.Values.Value.{tree_data_of};
 ghost use Rattle.content_build.specs.Inner.Cells as cells;
 ghost use Rattle.content_build.specs.Inner.Cells.{enclose};
-ghost use Rattle.content_build.specs.Inner.Forest.{read};
 ghost use Rattle.content_build.specs.Inner.Frames.{cells_of, sort_view};
 ghost use Rattle.content_build.specs.Inner.Leaves.{HoldsAs};
-ghost use Rattle.content_build.specs.Inner.Values.{grown_trees};
+ghost use Rattle.content_build.specs.Inner.Values.{MakesLast};
 
 use crate::frame::{Frame, Label, Sort};
 use crate::grow::{Grown, add};
@@ -65,10 +64,8 @@ fn flat_seq<'v, 'n>(
     requires inside { at < vec_len frames.old }
     requires last { drop at (cells_of frames.old.items)
         ≡ enclose cells.seq (drop (at + 1) (cells_of frames.old.items)) }
-    ensures { IfOk result (λ flat.
-        (frames.new.items ≡ (if flat then take at frames.old.items else frames.old.items))
-        × (read (cells_of frames.new.items) (grown_trees grown.new.items)
-        ≡ read (cells_of frames.old.items) (grown_trees grown.old.items))) }
+    ensures { IfOk result
+        (MakesLast at frames.old.items grown.old.items frames.new.items grown.new.items) }
 {
     if !are_leaves(frames, at + 1) {
         return Ok(false);
@@ -91,10 +88,8 @@ fn flat_tuple<'v, 'n>(
     requires inside { at < vec_len frames.old }
     requires last { drop at (cells_of frames.old.items)
         ≡ enclose cells.tuple (drop (at + 1) (cells_of frames.old.items)) }
-    ensures { IfOk result (λ flat.
-        (frames.new.items ≡ (if flat then take at frames.old.items else frames.old.items))
-        × (read (cells_of frames.new.items) (grown_trees grown.new.items)
-        ≡ read (cells_of frames.old.items) (grown_trees grown.old.items))) }
+    ensures { IfOk result
+        (MakesLast at frames.old.items grown.old.items frames.new.items grown.new.items) }
 {
     if !are_leaves(frames, at + 1) {
         return Ok(false);
@@ -117,10 +112,8 @@ fn flat_map<'v, 'n>(
     requires inside { at < vec_len frames.old }
     requires last { drop at (cells_of frames.old.items)
         ≡ enclose cells.map (drop (at + 1) (cells_of frames.old.items)) }
-    ensures { IfOk result (λ flat.
-        (frames.new.items ≡ (if flat then take at frames.old.items else frames.old.items))
-        × (read (cells_of frames.new.items) (grown_trees grown.new.items)
-        ≡ read (cells_of frames.old.items) (grown_trees grown.old.items))) }
+    ensures { IfOk result
+        (MakesLast at frames.old.items grown.old.items frames.new.items grown.new.items) }
 {
     if !are_leaves(frames, at + 1) {
         return Ok(false);
@@ -146,10 +139,8 @@ fn flat_struct<'v, 'n>(
     requires last { drop at (cells_of frames.old.items)
         ≡ enclose (cells.headed (sort_view sort) (cells.of_struct (static_name name.now)))
         (drop (at + 1) (cells_of frames.old.items)) }
-    ensures { IfOk result (λ flat.
-        (frames.new.items ≡ (if flat then take at frames.old.items else frames.old.items))
-        × (read (cells_of frames.new.items) (grown_trees grown.new.items)
-        ≡ read (cells_of frames.old.items) (grown_trees grown.old.items))) }
+    ensures { IfOk result
+        (MakesLast at frames.old.items grown.old.items frames.new.items grown.new.items) }
 {
     let size = frames.len() - at;
     match flat_data(alloc, frames, sort, at + 1)? {
@@ -180,10 +171,8 @@ fn flat_variant<'v, 'n>(
         ≡ enclose (cells.headed (sort_view sort)
         (cells.of_variant (static_name name.now) index (static_name variant.now)))
         (drop (at + 1) (cells_of frames.old.items)) }
-    ensures { IfOk result (λ flat.
-        (frames.new.items ≡ (if flat then take at frames.old.items else frames.old.items))
-        × (read (cells_of frames.new.items) (grown_trees grown.new.items)
-        ≡ read (cells_of frames.old.items) (grown_trees grown.old.items))) }
+    ensures { IfOk result
+        (MakesLast at frames.old.items grown.old.items frames.new.items grown.new.items) }
 {
     let size = frames.len() - at;
     match flat_data(alloc, frames, sort, at + 1)? {
@@ -207,10 +196,8 @@ pub(crate) fn flat_node<'v, 'n>(
     at: usize,
 ) -> Result<bool, AllocError>
     requires { at < vec_len frames.old }
-    ensures { IfOk result (λ flat.
-        (frames.new.items ≡ (if flat then take at frames.old.items else frames.old.items))
-        × (read (cells_of frames.new.items) (grown_trees grown.new.items)
-        ≡ read (cells_of frames.old.items) (grown_trees grown.old.items))) }
+    ensures { IfOk result
+        (MakesLast at frames.old.items grown.old.items frames.new.items grown.new.items) }
 {
     let frame = &frames[at];
     if frame.size != frames.len() - at {
