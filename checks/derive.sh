@@ -7,9 +7,10 @@
 set -eu
 top=$(cd "$(dirname "$0")/.." && pwd)
 cd "$top/crates/check_derive"
-for module in types choices sorts inlined attributes places; do
+for module in types choices sorts inlined attributes places spread nested; do
     "$top/tools/derive" --crate check_derive --module $module --cbor $module.rs --check src/$module.rt
 done
+"$top/tools/derive" --crate check_derive --module left_over left_over.rs --check src/left_over.rt
 "$top/tools/derive" --crate check_derive --module sample sample.rs --check src/sample.rt
 python3 "$top/checks/derive/matrix.py" --sample | diff sample.rs -
 "$top/tools/derive" --crate shapes --module types "$top/crates/shapes/types.rs" --check "$top/crates/shapes/src/types.rt"

@@ -14,13 +14,13 @@ mkdir -p "$2"
 room=$(cd "$2" && pwd)
 # in Rust a HashMap has another order in each run: here it is a BTreeMap
 sed 's/HashMap/BTreeMap/g' "$top/crates/check_derive/types.rs" > "$room/types.rs"
-files=("$room/types.rs" "$top"/crates/check_derive/{choices,sorts,inlined,attributes}.rs "$top/checks/serde_texts/more.rs" "$parts/others.rs")
+files=("$room/types.rs" "$top"/crates/check_derive/{choices,sorts,inlined,attributes,nested}.rs "$top/checks/serde_texts/more.rs" "$parts/others.rs")
 cases=("$room" "${3:-1}" 20000 "${files[@]}")
 
 # shellcheck source=bench/common.sh
 . "$top/bench/common.sh"
 
-place_ours derive_beside "$parts/here" 'derive_beside: content_de content_ser content_tree serde_content'
+place_ours derive_beside "$parts/here" 'derive_beside: content_de content_nested content_ser content_tree serde_content'
 here=$room/ours/crates/derive_beside
 for module in answer cursor failure flags named number order piece printable quoted run show tree unfold; do
     cp "$top/crates/check_rows/src/$module.rt" "$here/src/"

@@ -218,6 +218,10 @@ def own_rules() -> Dict[str, str]:
             islice(cycle([([], ""), (["u8"], "place"), (["i32", "u8"], "named")]), count)))
         made[f"aliases_{count}"] = f"{ALL}\npub enum Tried {{ {variants} }}"
         made[f"other_{count}"] = f"{ALL}\npub enum Tried {{ {variants}, #[serde(other)] Other }}"
+        for sort, tagged in (("adjacent", 'tag = "t", content = "c"'), ("internal", 'tag = "t"')):
+            kept = variants if sort == "adjacent" else variants.replace("(u8)", "")
+            made[f"aliases_{sort}_{count}"] = f"{ALL}\n#[serde({tagged})]\npub enum Tried {{ {kept} }}"
+            made[f"other_{sort}_{count}"] = f"{ALL}\n#[serde({tagged})]\npub enum Tried {{ {kept}, #[serde(other)] Other }}"
         fields = ", ".join(f'#[serde(alias = "a{i}", alias = "b{i}"{said})] pub f{i}: {one}' for i, (said, one) in enumerate(
             islice(cycle([("", "u8"), (", default", "String"), (', default = "five"', "i32"), ("", "Option<u8>")]), count)))
         made[f"aliased_{count}"] = f"{ALL}\npub struct Tried {{ {fields} }}{functions}"
@@ -236,6 +240,41 @@ def own_rules() -> Dict[str, str]:
     made["called_in_variant"] = (f'{ALL}\npub enum Tried {{ A {{ #[serde(default = "crate::rules::port", skip_serializing_if ='
                                  ' "crate::rules::is_port")] port: u16, x: i8 }, B }')
     made["raw"] = f"{ALL}\npub struct Tried {{ pub r#type: u8, pub r#match: i32 }}"
+    return made
+
+
+def flattened() -> Dict[str, str]:
+    """Structs with flattened values that aren't inlined, or beside which fields are left out."""
+    inside = f"{SENT}\npub struct Inside {{ #[serde(skip_serializing_if = \"Option::is_none\")] pub a: Option<u8>, pub b: String }}\n\n"
+    left_out = f"{ALL}\npub struct Inside {{ #[serde(skip_serializing_if = \"Option::is_none\")] pub a: Option<u8>, pub b: String }}\n\n"
+    made = {"flat_left_out": (f'{left_out}{ALL}\npub struct Tried {{ #[serde(flatten)] pub inside: Inside, #[serde(default, skip_serializing_if ='
+                              ' "Vec::is_empty")] pub x: Vec<u8>, #[serde(default, skip_serializing_if = "is_zero")] pub y: i32 }\n\n'
+                              'fn is_zero(n: &i32) -> bool { *n == 0 }'),
+            "flat_alone": f"{SENT}\npub struct Tried {{ #[serde(flatten)] pub more: BTreeMap<String, u8> }}",
+            "flat_unsent": (f"{SENT}\npub struct Tried {{ pub x: u8, #[serde(flatten, skip_serializing)] pub more: BTreeMap<String, u8>,"
+                            " #[serde(flatten, skip)] pub other: Option<String> }"),
+            "flat_in_flat": (f"{SENT}\npub struct Inner {{ pub x: u8, #[serde(flatten)] pub more: HashMap<char, i8> }}\n\n{SENT}\npub struct Tried {{"
+                             " #[serde(flatten)] pub inner: Inner, #[serde(flatten)] pub again: Option<Inner> }"),
+            "flat_generic": (f"{inside}{SENT}\npub struct Tried<T> {{ #[serde(flatten, default)] pub inside: Option<Inside>, pub x: T,"
+                             ' #[serde(skip_serializing_if = "Option::is_none")] pub y: Option<T>, #[serde(flatten)] pub more: BTreeMap<String, T> }'),
+            "flat_borrowed": (f"{SENT}\npub struct Inside<'a> {{ pub x: &'a str }}\n\n{SENT}\npub struct Tried<'a> {{ pub y: u8, #[serde(flatten)]"
+                              " pub inside: Option<Inside<'a>>, #[serde(flatten)] pub more: BTreeMap<String, &'a str> }")}
+    for sort, held_in in (("map", "BTreeMap<String, Vec<u8>>"), ("hash_map", "HashMap<u64, i8>"), ("option", "Option<Inside>"),
+                          ("box", "Box<Option<Inside>>"), ("map_option", "Option<BTreeMap<String, Inside>>")):
+        made[f"flat_{sort}"] = f"{inside * ('Inside' in held_in)}{SENT}\npub struct Tried {{ pub x: i32, #[serde(flatten)] pub y: {held_in}, pub z: u8 }}"
+    for sort, head, variants in (
+            ("newtype", "", "pub struct Sort(pub BTreeMap<String, u8>);"),
+            ("transparent", "#[serde(transparent)]\n", "pub struct Sort { pub only: Option<Inside> }"),
+            ("closed", "#[serde(deny_unknown_fields)]\n", "pub struct Sort { pub a: u8, pub b: Inside }"),
+            ("untagged", "#[serde(untagged)]\n", "pub enum Sort { A { x: i32, y: String, z: u8 }, B(Inside), C, D(BTreeMap<String, u8>), E { x: u8 } }"),
+            ("internal", '#[serde(tag = "kind")]\n', "pub enum Sort { A { x: i32, y: String, z: u8 }, B(Inside), C, D { x: u8 } }"),
+            ("adjacent", '#[serde(tag = "kind", content = "of")]\n', "pub enum Sort { A { x: i32, y: String }, B(Inside), C, D(u8, i8), E(Option<u8>) }"),
+            ("external", "", "pub enum Sort { A { x: i32, y: String, z: u8 }, B(Inside), C(i8) }"),
+            ("big", "#[serde(untagged)]\n", f"pub enum Sort {{ A{held(MIXED, 'named')}, B {{ x: i8 }} }}"),
+            ("big_internal", '#[serde(tag = "kind")]\n', f"pub enum Sort {{ A{held(MIXED[:7], 'named')}, B {{ x: i8 }} }}"),
+            ("big_struct", "#[serde(deny_unknown_fields)]\n", f"pub struct Sort {named(MIXED)}")):
+        made[f"flat_{sort}"] = (f"{inside * ('Inside' in variants)}{SENT}\n{head}{variants}\n\n{SENT}\npub struct Tried {{ pub f: u8,"
+                                " #[serde(flatten)] pub sort: Sort, #[serde(flatten)] pub more: Option<Sort> }")
     return made
 
 
@@ -274,6 +313,34 @@ def one_way() -> Dict[str, str]:
     made["unsent_untagged"] = f"{ALL}\n#[serde(untagged)]\npub enum Tried {{ A {{ x: u8, #[serde(skip)] y: String }}, B(u8) }}"
     made["unsent_generic"] = f"{ALL}\npub struct Tried<T> {{ #[serde(skip)] pub f0: Option<u8>, pub f1: T, #[serde(skip)] pub f2: Vec<T> }}"
     return made
+
+
+def rests() -> Dict[str, str]:
+    """Structs of which one field is read of what no other takes, by the type of that field and by how many others there are."""
+    tags = {"internal": '#[serde(tag = "kind")]\n', "adjacent": '#[serde(tag = "kind", content = "of")]\n',
+            "untagged": "#[serde(untagged)]\n"}
+    left = f"pub enum Left {{ A(Part), B {{ a: u8, c: Option<i32> }} }}"
+    kinds = {"map": ("", "BTreeMap<String, u8>"), "hash_map": ("", "HashMap<String, Vec<u8>>"), "option": ("", "Option<Part>"),
+             "option_of_map": ("", "Option<BTreeMap<u8, String>>"), "box": ("", "Option<Box<BTreeMap<String, u8>>>"),
+             "newtype": (f"{READ}\npub struct Left(pub BTreeMap<String, Part>);\n\n", "Left"),
+             "struct": (f"{READ}\npub struct Left {{ pub a: u8, #[serde(flatten)] pub rest: BTreeMap<String, String> }}\n\n", "Left"),
+             **{sort: (f"{READ}\n{tag}{left}\n\n", "Left") for sort, tag in tags.items()},
+             **{f"option_of_{sort}": (f"{READ}\n{tag}{left}\n\n", "Option<Left>") for sort, tag in tags.items()}}
+    part = f"{READ}\npub struct Part {{ pub a: u8, pub b: String }}\n\n"
+    made = {}
+    for sort, (declared, one) in kinds.items():
+        made[f"rest_{sort}"] = (f"{declared}{READ}\npub struct Tried {{ pub x: u8, #[serde(flatten)] pub rest: {one},"
+                                " pub y: Option<String> }")
+    for count in (0, 1, 7, 8, 15, 20):
+        others = ", ".join(f"pub f{i}: {one}" for i, one in enumerate(islice(cycle(MIXED), count)))
+        made[f"rest_after_{count}"] = f"{READ}\npub struct Tried {{ {others}{', ' * bool(count)}#[serde(flatten)] pub rest: BTreeMap<String, u8> }}"
+        made[f"rest_tried_before_{count}"] = f"{READ}\npub struct Tried {{ #[serde(flatten)] pub rest: Option<Part>{', ' * bool(count)}{others} }}"
+    made["rest_behind"] = (f"{READ}\npub struct Tried {{ #[serde(flatten)] pub own: Part, pub x: u8, #[serde(flatten)] pub rest: HashMap<String, u8>,"
+                           " #[serde(skip)] pub y: String, pub z: Option<i8> }")
+    made["rest_unsent"] = (f"{BOTH}\npub struct Tried {{ pub x: u8, #[serde(flatten, skip_serializing)] pub rest: BTreeMap<String, u8>,"
+                           " pub y: String }")
+    made["rest_generic"] = f"{READ}\npub struct Tried<T> {{ pub x: T, #[serde(flatten)] pub rest: BTreeMap<String, T>, pub y: Vec<T> }}"
+    return {name: part * ("Part" in text) + text for name, text in made.items()}
 
 
 def generics() -> Dict[str, str]:
@@ -335,10 +402,32 @@ def imported(text: str) -> str:
     return "".join(lines)
 
 
+def nested() -> Dict[str, str]:
+    """Types that contain themselves: in each way, of each sort, and in others."""
+    made = {}
+    for place, way in enumerate(["Box<Tried>", "Vec<Tried>", "Option<Box<Tried>>"]):
+        made[f"nested_enum_{place}"] = f"{ALL}\npub enum Tried {{ A, B({way}), C(u8, {way}), D {{ x: {way}, y: u32 }} }}"
+    made["nested_struct_1"] = f"{ALL}\npub struct Tried {{ pub x: Vec<Tried>, pub y: i32 }}"
+    made["nested_struct_2"] = f"{ALL}\npub struct Tried {{ pub x: Option<Box<Tried>>, pub y: i32 }}"
+    variants = ["A", "B(String)", "C(Box<Tried>)", "D(Vec<Tried>, bool)", "E { x: Box<Tried>, y: Option<Own> }",
+                "F(u32)", "G { x: u8 }", "H { x: Vec<Deep>, y: Vec<Tried> }"]
+    for count in (2, 4, 8):
+        body = ", ".join(f"{variants[i % 8][0]}{i}{variants[i % 8][1:]}" for i in range(count + 2))
+        for sort, derives in (("all", ALL), ("sent", SENT), ("read", READ)):
+            made[f"nested_{sort}_{count}"] = f"{derives}\npub enum Tried {{ {body} }}"
+    made["nested_long"] = f"{ALL}\npub enum Tried {{ {word(40).capitalize()}, B {{ {word(40)}: Box<Tried> }} }}"
+    part = f"{ALL}\npub struct Part {{ pub p: u8, pub q: Option<u8> }}\n\n"
+    made["nested_internal"] = (f'{part}{ALL}\n#[serde(tag = "t")]\npub enum Tried {{ A, B {{ x: Vec<Tried>, y: u32 }}, C(Part),'
+                               " D { x: Box<Tried> } }")
+    made["nested_held"] = (f"{ALL}\npub enum Other {{ A(Vec<Other>), B }}\n\n"
+                           f"{ALL}\npub struct Tried {{ pub x: Other, pub y: Vec<Other>, pub z: u8 }}")
+    return made
+
+
 def bodies() -> Dict[str, str]:
     """The declaration of each type, by name."""
-    return {**structs(), **enums(), **names(), **types(), **collections(), **attributes(), **own_rules(), **one_way(), **generics(),
-            **borrowed()}
+    return {**structs(), **enums(), **names(), **types(), **collections(), **attributes(), **own_rules(), **flattened(), **one_way(),
+            **rests(), **generics(), **borrowed(), **nested()}
 
 
 def matrix() -> Dict[str, str]:

@@ -224,3 +224,13 @@ impl
 struct A(u8);
 #[derive(Serialize)]
 struct B { x: u8 }
+
+// 2: A: it has a value of its own type in itself: put that into a Box
+// 4: B: it has a value of its own type in itself: put that into a Box
+// 6: C: it has a value of its own type in itself: put that into a Box
+#[derive(Serialize)]
+enum A { X(A), Y }
+#[derive(Serialize)]
+struct B { x: Option<C> }
+#[derive(Serialize)]
+struct C { x: (u8, B), y: Vec<C> }

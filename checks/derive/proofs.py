@@ -10,31 +10,42 @@ import sys
 from pathlib import Path
 from typing import Dict, List, Optional
 
+from declarations import IMPORTS, declarations
 from matrix import matrix
 
-LIBRARIES = ["content_tree", "content_ser", "content_build", "content_de", "serde_content", "content_cbor"]
-TOGETHER = 16
+LIBRARIES = ["content_tree", "content_ser", "content_build", "content_de", "serde_content", "content_nested", "content_cbor"]
+TOGETHER = int(os.environ.get("TOGETHER", 16))
 
 
 def drawn(which: List[str]) -> Dict[str, str]:
-    """The types of the matrix with these names, as many as a count says, drawn by a seed, or all."""
+    """The types of the matrix, or the declarations, with these names; as many types as a count says, drawn by a seed, or all."""
     every = matrix()
     names = which or sorted(every)
     if which and which[0].isdigit():
         count, seed = (list(map(int, which)) + [0])[:2]
         names = random.Random(seed).sample(sorted(every), count)
-    return {name: every[name] for name in names}
+    declared = {name: IMPORTS + text for name, text in declarations()}
+    return {name: every.get(name) or declared[name] for name in names}
+
+
+def link_or_copy(source: str, target: str) -> None:
+    """Links a file, or copies it where the target is on another disk."""
+    try:
+        os.link(source, target)
+    except OSError:
+        shutil.copy2(source, target)
 
 
 def repository(top: Path, room: Path, libraries: List[str]) -> None:
-    """A repository of the libraries, as they are built."""
+    """A repository of the libraries, as they are built. Their files are linked where that can be, as nothing writes them."""
     lines = [line for line in (top / "crates.txt").read_text().splitlines()
              if line.split(":")[0] in libraries]
     (room / "crates.txt").write_text("\n".join(lines) + "\n")
     shutil.copy(top / "HANDLES", room)
     (room / ".git").mkdir()
     for name in libraries:
-        shutil.copytree(top / "crates" / name, room / "crates" / name, ignore=shutil.ignore_patterns("incremental"))
+        shutil.copytree(top / "crates" / name, room / "crates" / name, ignore=shutil.ignore_patterns("incremental"),
+                        copy_function=link_or_copy)
 
 
 def crate(top: Path, room: Path, name: str, types: Dict[str, str], flags: List[str], libraries: List[str]) -> List[str]:
@@ -52,21 +63,27 @@ def crate(top: Path, room: Path, name: str, types: Dict[str, str], flags: List[s
         else:
             (source / f"{module}.rt").write_text(written.stdout)
     if any("crate::rules" in text for text in types.values()):
-        rules(top, room / "crates" / name, name)
-    kept = [f"pub mod {module};" for module in types if module not in refused]
-    kept += ["pub mod rules;"] * (source / "rules.rt").exists()
+        by_hand(top, room / "crates" / name, "rules", "rules")
+    for module in types:
+        by_hand(top, room / "crates" / name, module, f"{module}_by_hand")
+    kept = [f"pub mod {file.stem};" for file in sorted(source.glob("*.rt"))]
     (source / "lib.rt").write_text("\n".join(["//! Types.", "#![tactic(auto)]", "", *kept, ""]))
     with open(room / "crates.txt", "a") as crates:
         crates.write(f"{name}: {' '.join(libraries)}\n")
     return [module for module in types if module not in refused]
 
 
-def rules(top: Path, crate: Path, name: str) -> None:
-    """Writes the functions that types name by their path, and the definitions of their contracts."""
-    for part, place in (("rules.rt.in", "src/rules.rt"), ("Rules.antt.in", "specs/Rules.antt")):
-        (crate / place).parent.mkdir(exist_ok=True)
-        (crate / place).write_text((top / "checks" / "derive" / part).read_text().replace("CRATE", name))
-    (crate / "specs" / "Lib.antt").write_text("pub mod Rules\n")
+def by_hand(top: Path, crate: Path, of: str, module: str) -> None:
+    """Writes the module of what types call that is written by hand, if there is one, and the definitions of its contracts."""
+    words = of.title().replace("_", "")
+    for part, place in ((f"{of}.rt.in", f"src/{module}.rt"), (f"{words}.antt.in", f"specs/{words}.antt")):
+        text = top / "checks" / "derive" / "by_hand" / part
+        if text.exists():
+            (crate / place).parent.mkdir(exist_ok=True)
+            (crate / place).write_text(text.read_text().replace("CRATE", crate.name))
+    definitions = sorted(file.stem for file in (crate / "specs").glob("*.antt") if file.stem != "Lib")
+    if definitions:
+        (crate / "specs" / "Lib.antt").write_text("".join(f"pub mod {one}\n" for one in definitions))
 
 
 def failing(name: str, module: str, log: str) -> str:

@@ -13,14 +13,14 @@ struct A {
 // 8: D: the name `A` of a parameter is not covered: give it one that begins with a capital, and that nothing else has
 // 8: D: the name `t` of a parameter is not covered: give it one that begins with a capital, and that nothing else has
 // 11: E.x: its default is not covered: hold a number, bool, char, String, PathBuf, Option, Vec, map, set, a tuple of these or a type of your own that derives Default
-// 12: E.y: what is flattened is covered where it is a struct of this file with named fields and without `deny_unknown_fields`: hold such a struct, or delete `flatten`
+// 12: E.y: what is flattened is covered where it is a struct or an enum of this file, without parameters, a BTreeMap, a HashMap, or one of these in an Option or a Box: hold one, or delete `flatten`
 // 13: E.z: a map with keys of type `T` is not covered, as their order is not known: hold a Vec of pairs
 // 18: F.0: `G` has 0 arguments here, and its parameters are: T
 // 18: F.1: `G` has 2 arguments here, and its parameters are: T
 // 18: F.2: `H` has 1 arguments here, and its parameters are: none
 // 18: F.3: a map with keys of type `G<u8>` is not covered, as their order is not known: hold a Vec of pairs
 // 18: F.4: `crate::other::Page<u8>` is not covered: a type with arguments is where this file declares it: declare there a struct around it, and hold that
-// 22: I.X.0: `I` contains itself, which is not covered: write its impls by hand
+// 22: I: `I` contains itself, which is not covered in a type with parameters or lifetimes: write its impls by hand
 // 24: J.x: the size of `Option<T>` depends on `T`, which is not covered: hold `Box<T>` there for `T`
 // 24: J.y: the size of `(u8, T)` depends on `T`, which is not covered: hold `Box<T>` there for `T`
 // 26: K.0: the size of `G<T>` depends on `T`, which is not covered: hold `Box<T>` there for `T`
@@ -89,31 +89,6 @@ struct A {
 #[derive(Serialize)]
 struct A(#[serde(skip_serializing_if = "Option::is_none")] Option<u8>);
 
-// 6: A.x: serde's `skip_serializing_if` is not covered beside `flatten`: name the fields
-#[derive(Serialize)]
-struct A {
-    #[serde(flatten)]
-    b: B,
-    #[serde(skip_serializing_if = "Option::is_none")]
-    x: Option<u8>,
-}
-#[derive(Serialize)]
-struct B {
-    y: u8,
-}
-
-// 4: A.b: what is flattened is not covered where `skip_serializing_if` leaves out some of it: name the fields
-#[derive(Serialize)]
-struct A {
-    #[serde(flatten)]
-    b: B,
-}
-#[derive(Serialize)]
-struct B {
-    #[serde(skip_serializing_if = "Option::is_none")]
-    x: Option<u8>,
-}
-
 // 3: A: such attributes don't go together: write `tag`, `tag` and `content`, or `untagged`
 #[derive(Serialize)]
 #[serde(content = "sort")]
@@ -135,12 +110,50 @@ enum A {
     X(u8),
 }
 
-// 4: A.x: what is flattened is covered where it is a struct of this file with named fields and without `deny_unknown_fields`: hold such a struct, or delete `flatten`
+// 5: A.x: what is flattened is covered where it is a struct or an enum of this file, without parameters, a BTreeMap, a HashMap, or one of these in an Option or a Box: hold one, or delete `flatten`
+// 6: A.y: what is flattened is covered where it is a struct or an enum of this file, without parameters, a BTreeMap, a HashMap, or one of these in an Option or a Box: hold one, or delete `flatten`
+// 7: A.z: what is flattened is covered where it is a struct or an enum of this file, without parameters, a BTreeMap, a HashMap, or one of these in an Option or a Box: hold one, or delete `flatten`
+// 8: A.u: what is flattened is covered so where it has up to 8 fields: hold some in a struct that is not flattened
+// 9: A.v: what is flattened is not covered where a function of yours leaves it out: hold an Option
+// 10: A.w: such attributes don't go together: `flatten` and `rename`: delete one of them
+// 11: A.e: what is flattened is covered so where it has up to 7 fields: hold some in a struct that is not flattened
+#[derive(Serialize)]
+struct B<T> { x: Vec<T> }
 #[derive(Serialize)]
 struct A {
-    #[serde(flatten)]
-    x: BTreeMap<String, u8>,
+    #[serde(flatten)] x: Vec<u8>,
+    #[serde(flatten)] y: Option<B<u8>>,
+    #[serde(flatten)] z: C,
+    #[serde(flatten)] u: Option<D>,
+    #[serde(flatten, skip_serializing_if = "crate::rules::none")] v: BTreeMap<String, u8>,
+    #[serde(flatten, rename = "o")] w: BTreeMap<String, u8>,
+    #[serde(flatten)] e: E,
 }
+#[derive(Serialize)]
+#[serde(tag = "t")]
+enum E { B, D(D) }
+#[derive(Serialize)]
+struct C;
+#[derive(Serialize)]
+struct D { f0: u8, f1: u8, f2: u8, f3: u8, f4: u8, f5: u8, f6: u8, f7: u8, f8: u8 }
+
+// 3: A.x: what is flattened is not covered where it is an enum with a variant as `B::Two`: hold a struct there, or give the enum a `tag`
+// 4: A.y: what is flattened is not covered where it is an enum with a variant as `C::Text`: hold a struct there, or give the enum a `tag`
+// 5: A.z: what is flattened is not covered where it is an enum with a variant that isn't sent, as `D::Off`: delete that
+#[derive(Serialize)]
+struct A {
+    #[serde(flatten)] x: B,
+    #[serde(flatten)] y: Box<C>,
+    #[serde(flatten)] z: D,
+}
+#[derive(Serialize)]
+enum B { One(u8), Two(u8, u8) }
+#[derive(Serialize)]
+#[serde(untagged)]
+enum C { Map(BTreeMap<String, u8>), Text(String) }
+#[derive(Serialize)]
+#[serde(tag = "t")]
+enum D { On, #[serde(skip)] Off }
 
 // 3: A: serde's `flatten` is covered in structs with named fields and without `deny_unknown_fields`
 #[derive(Serialize)]
@@ -166,17 +179,6 @@ struct B {
     y: u8,
 }
 
-// 4: A.x: such attributes don't go together: `flatten` stands alone: delete the others
-#[derive(Serialize)]
-struct A {
-    #[serde(flatten, default)]
-    x: B,
-}
-#[derive(Serialize)]
-struct B {
-    y: u8,
-}
-
 // 3: A: serde's `rename` by direction is covered on fields and variants: give one name
 #[derive(Serialize)]
 #[serde(rename(serialize = "B"))]
@@ -190,10 +192,6 @@ struct A(u8);
 // 2: Call: the name `Call` is one that the module uses itself: give the type another name, and this one by `#[serde(rename = "Call")]`
 #[derive(Serialize)]
 struct Call(u8);
-
-// 2: A.0: `A` contains itself, which is not covered: write its impls by hand
-#[derive(Serialize)]
-struct A(Option<Box<A>>);
 
 // 5: A.y: two are called `x`: give one another name by `rename`
 #[derive(Serialize)]
@@ -332,14 +330,49 @@ type A5 = (A4, A4, A4, A4);
 #[derive(Serialize)]
 struct A(A5);
 
-// 2: A.next: `A` contains itself, which is not covered: write its impls by hand
-// 6: C.X.0: `B` contains itself, which is not covered: write its impls by hand
+// 2: A.X.0: `A` contains itself, which is not covered in `Vec<BTreeMap<String, A>>`: hold it in Box, Vec or Option<Box>
+// 2: A.Y.0: `A` contains itself, which is not covered in `Rc<A>`: hold it in Box, Vec or Option<Box>
+// 2: A.Z.0: `A` contains itself, which is not covered in `(Box<A>, u8)`: hold it in Box, Vec or Option<Box>
+// 5: B: `B` contains itself, which is not covered beside `untagged`: write its impls by hand
+// 7: D: `D` contains itself, which is not covered where it derives Default: delete that
+// 9: E: `E` contains itself, which is not covered where a variant has `alias`, `other` or `skip`: write its impls by hand
+// 11: F.x: `alias`, `default`, `skip` and `skip_serializing_if` are not covered in a type that contains itself: hold the field in another struct
+// 13: G.X: more than 2 values are not covered in this variant of a type that contains itself: hold some in another struct
+// 13: G.Y: more than 4 values are not covered in this variant of a type that contains itself: hold some in another struct
+// 13: G.Z.0: a signed number is not covered in a variant of a type that contains itself: hold it in a struct
+// 15: Inner: the name `Inner` is one that the module uses itself where a type contains itself: give the type another name, and this one by `#[serde(rename = "Inner")]`
+// 15: Inner: `Inner` contains itself, which is not covered in a struct without named fields: name them
+// 17: J: `J` contains itself, which is not covered in a type with parameters or lifetimes: write its impls by hand
+// 19: Type: `Type` contains itself, which is not covered under a name that contracts use themselves: give the type another name, and this one by `#[serde(rename = "Type")]`
+// 22: L: `L` contains itself, which is not covered beside `content`: write its impls by hand
+// 24: M: `M` contains itself, which is not covered through `N`: write its impls by hand
+// 26: N: `N` contains itself, which is not covered through `M`: write its impls by hand
 #[derive(Serialize)]
-struct A { next: Option<Box<Self>> }
+enum A { X(Vec<BTreeMap<String, A>>), Y(std::rc::Rc<A>), Z((Box<A>, u8)) }
 #[derive(Serialize)]
-struct B(Vec<C>);
+#[serde(untagged)]
+enum B { X { x: Box<B> }, Y }
+#[derive(Serialize, Default)]
+struct D { x: Option<Box<D>> }
+#[derive(Serialize, Deserialize)]
+enum E { #[serde(alias = "y")] X(Box<E>), Y }
+#[derive(Serialize, Deserialize)]
+struct F { #[serde(default, skip_serializing_if = "Vec::is_empty")] x: Vec<F>, y: u8 }
 #[derive(Serialize)]
-enum C { X(B) }
+enum G { X(Box<G>, u8, u8), Y(u8, u8, u8, u8, u8), Z(i8) }
+#[derive(Serialize)]
+struct Inner(Vec<Inner>);
+#[derive(Serialize)]
+enum J<'a> { X(&'a str), Y(Box<J<'a>>) }
+#[derive(Serialize)]
+struct Type { x: Vec<Type> }
+#[derive(Serialize)]
+#[serde(tag = "t", content = "c")]
+enum L { X { x: Vec<L> }, Y }
+#[derive(Serialize)]
+struct M { x: Vec<N> }
+#[derive(Serialize)]
+enum N { X(M), Y }
 
 // 1: A: `derive(JsonSchema)` is not covered, as no rule of Rattle writes it: delete it here, and write its impl by hand where you need it
 // 1: A: `derive(strum::Display)` is not covered, as no rule of Rattle writes it: delete it here, and write its impl by hand where you need it
@@ -488,10 +521,6 @@ struct A { y: y, z: z }
 #[derive(Serialize)]
 struct z { x: u8 }
 
-// 2: A.0: `A` contains itself, which is not covered: write its impls by hand
-#[derive(Serialize)]
-struct A(Option<Box<crate::types::A>>);
-
 // 3: passed over: `mod inner`
 // 2: A.0: `inner` is a module that is passed over (line 3): import the type by its path from `crate`
 // 2: A.1: `inner` is a module that is passed over (line 3): import the type by its path from `crate`
@@ -601,7 +630,7 @@ struct A(u8, u8);
 #[serde(transparent)]
 struct A { #[serde(default)] x: u8 }
 
-// 5: A.b: what is flattened is covered where it is a struct of this file with named fields and without `deny_unknown_fields`: hold such a struct, or delete `flatten`
+// 5: A.b: what is flattened is covered where it is a struct or an enum of this file, without parameters, a BTreeMap, a HashMap, or one of these in an Option or a Box: hold one, or delete `flatten`
 #[derive(Serialize)]
 #[serde(transparent)]
 struct B { x: u8 }
@@ -669,8 +698,7 @@ struct E { t: u8 }
 // 7: A.v: a type that begins with `[` is not covered: write a Vec, or a tuple of up to four
 // 10: B: two fields are called `p`: give one another name by `rename`
 // 10: B: two fields are called `q`: give one another name by `rename`
-// 14: D.c: what is flattened is covered where it is a struct of this file with named fields and without `deny_unknown_fields`: hold such a struct, or delete `flatten`
-// 14: D.t: what is flattened is covered where it is a struct of this file with named fields and without `deny_unknown_fields`: hold such a struct, or delete `flatten`
+// 14: D.t: what is flattened is covered where it is a struct or an enum of this file, without parameters, a BTreeMap, a HashMap, or one of these in an Option or a Box: hold one, or delete `flatten`
 // 16: E.X: two are called `Y`: give one another name by `rename`
 // 16: E.X.1: serde's `default` is covered in fields with names: give them names
 // 16: E.Z.a: two are called `b`: give one another name by `rename`
@@ -726,7 +754,7 @@ struct K(u8);
 
 // 2: A: serde's `flatten` is covered in structs with named fields and without `deny_unknown_fields`
 // 4: C: serde's `flatten` is covered in structs with named fields and without `deny_unknown_fields`
-// 4: C.X.b: what is flattened is covered where it is a struct of this file with named fields and without `deny_unknown_fields`: hold such a struct, or delete `flatten`
+// 4: C.X.b: what is flattened is covered where it is a struct or an enum of this file, without parameters, a BTreeMap, a HashMap, or one of these in an Option or a Box: hold one, or delete `flatten`
 #[derive(Serialize)]
 struct A(u8, u8, #[serde(flatten)] B);
 #[derive(Serialize)]
@@ -810,7 +838,6 @@ enum B { X, #[serde(alias = "X")] Y, #[serde(other)] Z(u8) }
 enum B { X, #[serde(other)] Z(u8) }
 
 // 3: A.X: a field is called as the tag, `t`: give one of them another name
-// 3: A.Z: `alias` and `other` are covered in enums that are tagged externally: delete them
 // 5: B: two fields are called `x`: give one another name by `rename`
 // 9: D.x: serde's `default` so is not covered: write `default` alone
 // 9: D.y: serde's `rename` stands twice
@@ -824,10 +851,10 @@ struct C { x: u8 }
 #[derive(Serialize, Deserialize)]
 struct D { #[serde(default(x))] x: u8, #[serde(rename = "a", rename(serialize = "b"))] y: u8 }
 
-// 3: B.Z: `alias` and `other` are covered in enums that are tagged externally: delete them
+// 3: B.Z: serde's `other` is for one variant that holds nothing, and is read: delete it
 #[derive(Serialize, Deserialize)]
-#[serde(tag = "t")]
-enum B { X, #[serde(alias = "z")] Z }
+#[serde(tag = "t", content = "c")]
+enum B { X, #[serde(other)] Z(u8) }
 
 // 2: A.0: serde's `skip` is not covered on a value that stands alone: delete it, or what holds the value
 // 4: B.X.0: serde's `skip` is not covered on a value that stands alone: delete it, or what holds the value
@@ -914,3 +941,81 @@ struct B {
 struct A<T> {
     x: HashSet<T>,
 }
+
+// 2: A.x: what is flattened is covered where it is a struct of this file with named fields, an enum of it with `untagged` or `tag`, a map, or an Option of one of these: hold one of them, or delete `flatten`
+// 4: B.x: what is flattened is covered where it is a struct of this file with named fields, an enum of it with `untagged` or `tag`, a map, or an Option of one of these: hold one of them, or delete `flatten`
+// 6: C.x: what is flattened is covered where it is a struct of this file with named fields, an enum of it with `untagged` or `tag`, a map, or an Option of one of these: hold one of them, or delete `flatten`
+// 8: D.x: what is flattened is covered where it is a struct of this file with named fields, an enum of it with `untagged` or `tag`, a map, or an Option of one of these: hold one of them, or delete `flatten`
+// 12: F.x: what is flattened is covered where it is a struct of this file with named fields, an enum of it with `untagged` or `tag`, a map, or an Option of one of these: hold one of them, or delete `flatten`
+// 14: G.x: what is flattened is not covered where its type is of another file: declare `crate::other::Thing` in this one
+#[derive(Deserialize)]
+struct A { #[serde(flatten)] x: Vec<u8> }
+#[derive(Deserialize)]
+struct B { #[serde(flatten)] x: () }
+#[derive(Deserialize)]
+struct C { #[serde(flatten)] x: Option<Option<BTreeMap<String, u8>>> }
+#[derive(Deserialize)]
+struct D { #[serde(flatten)] x: E }
+#[derive(Deserialize)]
+struct E(Option<BTreeMap<String, u8>>);
+#[derive(Deserialize)]
+struct F { #[serde(flatten)] x: Box<Unit> }
+#[derive(Deserialize)]
+struct G { #[serde(flatten)] x: crate::other::Thing }
+#[derive(Deserialize)]
+struct Unit;
+
+// 2: A.x: what is flattened is an enum that is tagged externally, which is not covered: give it a `tag`, or `untagged`
+// 7: C.x: what is flattened is not covered with `deny_unknown_fields`, which Serde passes over there: delete that
+// 12: E.x: what is flattened is not covered with `deny_unknown_fields`, which Serde passes over there: delete that
+// 17: G.x: what is flattened is not covered where a field of it has an `alias`, which Serde doesn't read there: delete that
+#[derive(Deserialize)]
+struct A { #[serde(flatten)] x: Option<B> }
+#[derive(Deserialize)]
+enum B { X(u8), Y { z: u8 } }
+#[derive(Deserialize)]
+#[serde(rename_all = "camelCase")]
+struct C { #[serde(flatten)] x: D }
+#[derive(Deserialize)]
+#[serde(deny_unknown_fields)]
+struct D { y: u8 }
+#[derive(Deserialize)]
+struct E { #[serde(flatten)] x: Box<F> }
+#[derive(Deserialize)]
+#[serde(tag = "t", content = "c", deny_unknown_fields)]
+enum F { X(u8) }
+#[derive(Deserialize)]
+struct G { #[serde(flatten)] x: Option<H> }
+#[derive(Deserialize)]
+struct H { #[serde(alias = "z")] y: u8 }
+
+// 4: A.y: one field of a struct takes what is left over, here `x`: hold what both take in one struct or enum
+// 10: B.x: what is flattened is covered behind other flattened structs, since Serde gives it their entries too: move it there
+// 14: C.x: beside what takes the rest a struct is flattened that itself has `flatten`, whose entries Serde leaves in the rest: name its fields
+// 22: F.x: what is flattened is not covered where its size depends on `T`: hold `Box<G<T>>`
+#[derive(Deserialize)]
+struct A {
+    #[serde(flatten)] x: Option<D>,
+    #[serde(flatten)] y: BTreeMap<String, u8>,
+    z: u8,
+}
+#[derive(Deserialize)]
+struct B {
+    y: u8,
+    #[serde(flatten)] x: BTreeMap<String, u8>,
+    #[serde(flatten)] d: D,
+}
+#[derive(Deserialize)]
+struct C { #[serde(flatten)] e: E, #[serde(flatten)] x: BTreeMap<String, u8> }
+#[derive(Deserialize)]
+struct D { d: u8 }
+#[derive(Deserialize)]
+struct E { e: u8, #[serde(flatten)] d: D }
+#[derive(Deserialize)]
+struct F<T> {
+    a: u8,
+    #[serde(flatten)] x: G<T>,
+}
+#[derive(Deserialize)]
+#[serde(untagged)]
+enum G<T> { X(T), Y { y: u8 } }

@@ -638,6 +638,17 @@ struct A { #[serde(alias = "y", alias = "z")] x: u8 }
 #[derive(PartialEq, Eq, Serialize, Deserialize)]
 enum B { #[serde(alias = "x")] X, #[serde(other)] Y }
 
+// 3: no RoundTrip is written for `A`: variant `X` of a tagged enum has an `alias`
+// 6: no RoundTrip is written for `B`: variant `Y` of a tagged enum takes other tags
+// + read_tagged_by::<TagsOfA, Self>(alloc, from)
+// + read_adjacent_by::<TagsOfB, Self>(alloc, from)
+#[derive(PartialEq, Eq, Serialize, Deserialize)]
+#[serde(tag = "t")]
+enum A { #[serde(alias = "x")] X { y: u8 }, Y }
+#[derive(PartialEq, Eq, Serialize, Deserialize)]
+#[serde(tag = "t", content = "c")]
+enum B { X(u8), #[serde(other)] Y }
+
 // 3: no RoundTrip is written for `A`: `first_name` is read by another name than it is sent by
 // + ghost names = { name "first-name" ∷ name "b" ∷ [] }
 // + ghost names = { name "firstName" ∷ name "secondName" ∷ [] }
@@ -826,4 +837,120 @@ pub struct A {
     pub z: std::path::PathBuf,
     pub w: std::rc::Rc<Box<str>>,
     pub v: std::sync::Arc<HashSet<PathBuf>>,
+}
+
+// 2: no RoundTrip is written for `A`: it contains itself, and is read to a limit of levels
+// 4: no RoundTrip is written for `B`: it contains itself, and is read to a limit of levels
+// 6: no RoundTrip is written for `D`: `A`, which it holds, does not come back
+// + enum A { X(Option<Box<A>>), Y { x: Vec<A>, y: u32, }, Z, }
+// + type Field1OfAY = NestedField<FieldsOfAY, 0, Vec<A>, Field2OfAY>;
+// + told_a_y(x1, x2);
+// + fold-B Nested (λ p.
+// + impl<'de> ReadWithin<'de, B> for Levels
+// - RoundTrip
+#[derive(Clone, Debug, PartialEq, Eq, Serialize, Deserialize)]
+enum A { X(Option<Box<Self>>), Y { x: Vec<A>, y: u32 }, Z }
+#[derive(PartialEq, Eq, Serialize, Deserialize)]
+pub struct B { the_next: Vec<B> }
+#[derive(PartialEq, Eq, Serialize, Deserialize)]
+struct D { a: A, b: Vec<A>, c: Option<B> }
+
+// 3: passed over: `default` beside `flatten`, where Serde doesn't read it
+// + type Field2OfA = TryRest<B, OthersSkipped<FieldsOfA>>;
+// + let ReadField(z, row, _) = row; let TryRest(x, _) = row;
+// + (RestTried (⟦<B as Deserialize<'de>>⟧.refusal) (⟦<B as Deserialize<'de>>⟧.gives) p.x NoOthers)
+#[derive(Deserialize)]
+struct A {
+    #[serde(flatten, default)] x: Option<B>,
+    z: u8,
+}
+#[derive(Deserialize)]
+struct B { y: u8 }
+
+// 2: no RoundTrip is written for `A`: `x` takes the entries that no other field takes, and a key of its own may be a field's name
+// + type Field2OfA = ReadRest<BTreeMap<String, u8>, OthersSkipped<FieldsOfA>>;
+// + (rest_then (⟦<BTreeMap<String, u8> as Deserialize<'de>>⟧.refusal) (others_left (name "z" ∷ [])))
+// + let row = SendEntry(FieldsOfA, 0, &self.z, row);
+// - SendEntry(FieldsOfA, 1
+#[derive(PartialEq, Eq, Serialize, Deserialize)]
+struct A {
+    #[serde(flatten, skip_serializing)] x: BTreeMap<String, u8>,
+    z: u8,
+}
+
+// 3: passed over: `default` beside `flatten`, where Serde doesn't read it
+// + (RowThen (name "y") (⟦<u8 as Deserialize<'de>>⟧.gives) p.x.y
+#[derive(Deserialize)]
+struct A {
+    #[serde(flatten, default)] x: B,
+    z: u8,
+}
+#[derive(Deserialize)]
+struct B { y: u8 }
+
+// + type Field1OfA = ReadRest<B, OthersSkipped<FieldsOfA>>;
+// + type Field2OfB = ReadRest<Box<C>, OthersSkipped<FieldsOfB>>;
+#[derive(Deserialize)]
+struct A { #[serde(flatten)] b: B }
+#[derive(Deserialize)]
+struct B { x: u8, #[serde(flatten)] c: Box<C> }
+#[derive(Deserialize)]
+#[serde(transparent)]
+struct C { d: D }
+#[derive(Deserialize)]
+struct D(HashMap<u8, String>);
+
+// + (name "rest" ∷ name "y" ∷ [])
+#[derive(Deserialize)]
+struct A { #[serde(rename = "rest")] x: u8, y: u8, #[serde(flatten)] rest: BTreeMap<String, u8> }
+
+// 4: passed over: `default` beside `flatten`, where Serde doesn't read it
+// + flattened_unless (⟦<Option<u8> as Skip>⟧.is_empty p.b.x) (name "x") (⟦<Option<u8> as Serialize>⟧.script p.b.x)
+// + (⟦<BTreeMap<String, u8> as SendEntries>⟧.entries p.more end_script)
+// + let row = SendAll(&self.more, row);
+// + impl SendEntries for C
+// - p.unknown
+#[derive(Serialize)]
+struct A {
+    #[serde(flatten)] b: B,
+    #[serde(flatten, default, skip_serializing_if = "Option::is_none")] c: Option<C>,
+    #[serde(flatten, skip_serializing)] unknown: BTreeMap<String, u8>,
+    #[serde(flatten)] more: BTreeMap<String, u8>,
+}
+#[derive(Serialize)]
+struct B { #[serde(skip_serializing_if = "Option::is_none")] x: Option<u8>, y: u8 }
+#[derive(Serialize)]
+struct C { z: u8 }
+
+// + flattened_back (entries_named (entry_named_back (name "x") u8_back p.b.x tt (λ q. q.b.x) (entry_unless_back {names = ([])} (name "y")
+#[derive(PartialEq, Eq, Serialize, Deserialize)]
+struct A { #[serde(flatten)] b: B, #[serde(skip_serializing_if = "Option::is_none")] y: Option<u8> }
+#[derive(PartialEq, Eq, Serialize, Deserialize)]
+struct B { x: u8 }
+
+// + (tag_first (name "t") (name "Two") (flattened_first (name "c") (tuple_script 2
+// + (flattened_first (name "Named") (struct_script (name "Named") 1
+// + body.Nothing ↦ λ rest. rest
+// + body.Map x1 ↦ λ rest. ⟦<Option<BTreeMap<String, u8>> as SendEntries>⟧.entries x1 rest
+#[derive(Serialize)]
+struct A { #[serde(flatten)] b: B, #[serde(flatten)] c: Box<C>, #[serde(flatten)] d: Body }
+#[derive(Serialize)]
+#[serde(tag = "t", content = "c")]
+enum B { One, Two(u8, i8) }
+#[derive(Serialize)]
+enum C { One(u8), Named { x: u8 } }
+#[derive(Serialize)]
+#[serde(untagged)]
+enum Body { Nothing, Map(Option<BTreeMap<String, u8>>), Named { x: u8 } }
+
+// 5: called: `crate::rules::five()`, of whose value contracts know nothing
+// + type Field1OfA = ReadField<FieldsOfA, 0, u8, OthersSkipped<FieldsOfA>>;
+// + let y: BTreeMap<String, u8> = Absent::absent(alloc);
+// + let z: i32 = crate::rules::five();
+// - ReadRest
+#[derive(Deserialize)]
+struct A {
+    x: u8,
+    #[serde(flatten, skip)] y: BTreeMap<String, u8>,
+    #[serde(flatten, skip_deserializing, default = "crate::rules::five")] z: i32,
 }

@@ -57,7 +57,7 @@ def stubs() -> Iterator[Tuple[str, str]]:
 
 def make_crate(top: Path, room: str, modules: Dict[str, str]) -> Path:
     """Makes a crate of the stubs and of these declarations in a repository of tools/new-project."""
-    words = [sys.executable, str(top / "tools" / "new-project"), "--cbor", CRATE, room]
+    words = [sys.executable, str(top / "tools" / "new-project"), "--cbor", "--nested", CRATE, room]
     subprocess.run(words, check=True, stdout=subprocess.DEVNULL)
     crate = Path(room, "crates", CRATE)
     for path, text in [*stubs(), *((name, written(source, name)) for name, source in modules.items())]:

@@ -5,6 +5,7 @@ import random
 import string
 
 from shapes import alone, own
+from structs import spliced
 from trees import EMPTY, KINDS, NONE, UNIT, bounds, fits
 
 FLAGS = ["-", "c", "h", "hc"]
@@ -76,7 +77,7 @@ class Maker:
             return self.value(item.data.fields[0].type)
         if not item.variants:
             if item.flattens():
-                return "map", tuple((("str", name), value) for name, value in self.fields(item.data))
+                return "map", self.entries(item.data)
             return "struct", item.wire, self.data(item.data)
         index = pick(range(len(item.variants)))
         variant = item.variants[index]
@@ -117,9 +118,14 @@ class Maker:
         return "Fields", self.fields(data)
 
     def fields(self, data):
-        """Fields by name, those of others in their places."""
+        """Fields by name."""
+        return tuple(entry for field in data.fields for entry in self.field(field))
+
+    def entries(self, data):
+        """The entries of a struct with flattened fields, those of others in their places."""
         return tuple(entry for field in data.fields for entry in (
-            self.fields(self.shapes[own(field.type)].data) if "flatten" in field.serde else self.field(field)))
+            spliced(self.value(field.type)) if "flatten" in field.serde else
+            tuple((("str", name), value) for name, value in self.field(field))))
 
     def field(self, field):
         """A field with its value; none where it may be missing, or is left out, at times."""

@@ -698,3 +698,85 @@ pub enum Remark {
     Line(u8, u8),
     Nothing,
 }
+
+/// What no field takes, as a map between fields.
+#[derive(Serialize, Deserialize)]
+pub struct Extra {
+    pub id: u16,
+    #[serde(flatten)]
+    pub others: BTreeMap<String, u8>,
+    pub note: Option<String>,
+}
+
+/// A map around which a struct stands, behind a flattened struct.
+#[derive(Serialize, Deserialize)]
+pub struct Open(pub BTreeMap<String, Option<Kind>>);
+
+/// What two structs leave over.
+#[derive(Serialize, Deserialize)]
+pub struct Opened {
+    #[serde(flatten)]
+    pub tail: Tail,
+    pub id: u16,
+    #[serde(flatten)]
+    pub open: Open,
+}
+
+/// A variant that is told by a field among others.
+#[derive(Serialize, Deserialize)]
+pub struct Logged {
+    pub id: u16,
+    #[serde(flatten)]
+    pub event: Event,
+    pub y: Option<u8>,
+}
+
+/// A tag and a content among others.
+#[derive(Serialize, Deserialize)]
+pub struct Replied {
+    #[serde(flatten)]
+    pub reply: Reply,
+    pub id: u16,
+}
+
+/// One of several structs and maps among others.
+#[derive(Serialize, Deserialize)]
+#[serde(untagged)]
+pub enum Shape {
+    Whole(Tail),
+    Part(Inner),
+    Rest(BTreeMap<String, i16>),
+}
+
+/// The fields of one of these.
+#[derive(Serialize, Deserialize)]
+pub struct Shaped {
+    pub id: u16,
+    #[serde(flatten)]
+    pub shape: Shape,
+}
+
+/// A struct that may be there.
+#[derive(Serialize, Deserialize)]
+pub struct Tailed {
+    pub id: u16,
+    #[serde(flatten)]
+    pub tail: Option<Tail>,
+}
+
+/// A variant that may be there, behind a flattened struct.
+#[derive(Serialize, Deserialize)]
+pub struct Signalled {
+    #[serde(flatten)]
+    pub inner: Inner,
+    #[serde(flatten)]
+    pub event: Option<Box<Event>>,
+}
+
+/// A struct that itself takes what is left over.
+#[derive(Serialize, Deserialize)]
+pub struct Outer {
+    pub first: bool,
+    #[serde(flatten)]
+    pub extra: Extra,
+}

@@ -54,6 +54,19 @@ def alone(shapes):
     return [item for name, item in shapes.items() if name == item.name]
 
 
+def inlined(field, shapes):
+    """The struct whose fields stand in the place of a flattened field; none where that takes the rest."""
+    item = shapes.get(own(field.type)) if "flatten" in field.serde and field.sent else None
+    if not item or item.variants or not item.data.named or item.data.closed or item.transparent():
+        return None
+    return None if any(takes_rest(one, shapes) for one in item.data.fields) else item
+
+
+def takes_rest(field, shapes):
+    """Whether a flattened field is read of what no other field takes."""
+    return "flatten" in field.serde and inlined(field, shapes) is None
+
+
 def bare(kind):
     """The name of a type, without its path and its arguments."""
     return kind.name.split("::")[-1]

@@ -1,7 +1,7 @@
 """How structs are read."""
 from leaves import Leaves
 from lines import ALIKE, BOXED, CLOSED, FLAT, NAMES, ORDER, PLACES, TEXTS
-from shapes import WHOLE, default_variant, own
+from shapes import WHOLE, default_variant, inlined, own, takes_rest
 from source import Refused, counted, one_of, seen, unexpected, visited
 from trees import EMPTY, KINDS, NONE, UNIT, tagged
 
@@ -232,16 +232,51 @@ class Structs(Leaves):
         tree = self.seen(source)
         if tree[0] != "map":
             raise self.wrong(source, "a map", f"struct {item.name}")
-        if FLAT in self.on:
-            values = self.fields(self.flat_fields(item), source, tree[1], False)
-        else:
-            values = self.collected(item, source, tree[1])
-        return "map", tuple((("str", name), value) for name, value in values)
+        read = self.in_place if FLAT in self.on else self.collected
+        return "map", read(item, source, tree[1])
 
     def flat_fields(self, item):
         """The fields, of one that is flattened those inside it."""
-        return [leaf for field in item.data.fields for leaf in (
-            self.flat_fields(self.shapes[own(field.type)]) if "flatten" in field.serde else [field])]
+        parts = [(field, inlined(field, self.shapes)) for field in item.data.fields]
+        return [leaf for field, part in parts for leaf in (self.flat_fields(part) if part else [field])]
+
+    def in_place(self, item, source, entries):
+        """The fields as ours reads them: those inside others in their place, and then the rest."""
+        leaves = self.flat_fields(item)
+        named = [leaf for leaf in leaves if not takes_rest(leaf, self.shapes)]
+        values = dict(self.fields(named, source, entries, False))
+        names = [name for leaf in named if leaf.read for name in (leaf.known, *leaf.aliases())]
+        left = tuple(entry for entry in entries if self.text_of(entry[0]) not in names)
+        every = []
+        for leaf in leaves:
+            if leaf not in named:
+                rest = spliced(self.rest(leaf.type, source, left))
+                every += rest * leaf.sent
+            elif leaf.wire in values:
+                every.append((("str", leaf.wire), values[leaf.wire]))
+        return tuple(every)
+
+    def rest(self, kind, source, left):
+        """What is read as a type out of what is left: of a struct and beside an adjacent tag Serde looks at the names alone."""
+        if kind.name == "Option":
+            try:
+                return "some", self.rest(kind.arguments[0], source, left)
+            except Refused:
+                return NONE
+        if kind.name == "Box":
+            return self.rest(kind.arguments[0], source, left)
+        item, kept = self.shapes.get(own(kind)), source.buffered("kept").of(("map", left))
+        if FLAT in self.on or item is None or not (item.data.named or "content" in item.serde):
+            return self.read(kind, kept)
+        if item.flattens():
+            return "map", self.collected(item, kept, left)
+        names = [item.serde[key] for key in ("tag", "content") if key in item.serde] or [
+            field.known for field in item.data.fields if field.read]
+        return self.item(item, source.buffered("moved").of(("map", self.those(left, names))))
+
+    def those(self, entries, names):
+        """The entries of these names."""
+        return tuple(entry for entry in entries if self.text_of(entry[0]) in names)
 
     def collected(self, item, source, entries):
         """The fields as Serde reads them: its own first, then others out of what is left in a buffer."""
@@ -259,7 +294,7 @@ class Structs(Leaves):
         for field in its_own:
             if field.wire not in values:
                 values[field.wire] = self.missing(field)
-        return self.with_flat(item, source, values, left)
+        return self.with_flat(item, source, values, tuple(left))
 
     def own_name(self, its_own, source):
         """The name of a field of its own that a key is, or none."""
@@ -273,17 +308,21 @@ class Structs(Leaves):
         """All fields in order, those of others out of what is left."""
         every = []
         for field in item.data.fields:
+            part = inlined(field, self.shapes)
             if "flatten" not in field.serde:
-                every += sent([field], [(field.wire, values[field.wire])])
+                found = sent([field], [(field.wire, values[field.wire])])
+            elif part is None:
+                rest = spliced(self.rest(field.type, source, left))
+                every += rest * field.sent
                 continue
-            inner = self.shapes[own(field.type)]
-            if inner.flattens():
-                every += self.collected(inner, source.buffered("kept"), left)
+            elif part.flattens():
+                every += self.collected(part, source.buffered("kept"), left)
                 continue
-            names = [leaf.wire for leaf in inner.data.fields if leaf.read]
-            taken = [entry for entry in left if self.text_of(entry[0]) in names]
-            left = [entry for entry in left if entry not in taken]
-            every += self.fields(inner.data.fields, source.buffered("moved"), taken, inner.data.closed)
+            else:
+                taken = self.those(left, [leaf.known for leaf in part.data.fields if leaf.read])
+                left = tuple(entry for entry in left if entry not in taken)
+                found = self.fields(part.data.fields, source.buffered("moved"), taken, part.data.closed)
+            every += [(("str", name), value) for name, value in found]
         return tuple(every)
 
     def text_of(self, key):
@@ -293,6 +332,17 @@ class Structs(Leaves):
         if key[0] == "bytes" and NAMES not in self.on:
             return bytes(key[1]).decode(errors="replace")
         return None
+
+
+def spliced(tree):
+    """The entries of a value that is sent among those of what holds it."""
+    if tree == NONE:
+        return ()
+    if tree[0] == "some":
+        return spliced(tree[1])
+    if tree[0] == "map":
+        return tree[1]
+    return spliced(tree[2][1]) if tree[2][0] == "NewType" else tuple((("str", name), value) for name, value in tree[2][1])
 
 
 def kind_of(fields, name):

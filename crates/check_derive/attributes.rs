@@ -155,3 +155,20 @@ pub enum Way {
     #[serde(skip)]
     Lost(u8),
 }
+
+/// What a client asks for.
+#[derive(PartialEq, Eq, Serialize, Deserialize)]
+#[serde(tag = "op", rename_all = "lowercase")]
+pub enum Request {
+    /// To hear of a channel.
+    #[serde(alias = "join", alias = "hear")]
+    Listen {
+        /// Its number.
+        channel: u16,
+    },
+    /// To end.
+    Quit,
+    /// What has another tag.
+    #[serde(other)]
+    Unknown,
+}

@@ -3,6 +3,7 @@ where it holds something."""
 from typing import List
 
 from .declarations import Data, Field, Item, Variant
+from .entries import Entries, entry_around
 from .held import HeldWriter
 from .holder import BY_PLACE, Holder, row_of
 from .literals import name_term
@@ -120,6 +121,12 @@ class AdjacentWriter(TaggedWriter):
 
     def reader(self, v: Variant, holder: Holder) -> List[str]:
         return [holder.field_reader()] if isinstance(holder, ContentHolder) else super().reader(v, holder)
+
+    def entries_of(self, v: Variant, holder: Holder) -> Entries:
+        if not isinstance(holder, ContentHolder):
+            return super().entries_of(v, holder)
+        content = holder.fields[0]
+        return entry_around(content.wire, holder.announced(content), holder.inside, self.leaves(v), self.sent(v), holder)
 
     def arm_lines(self, v: Variant, holder: Holder) -> List[str]:
         if not isinstance(holder, ContentHolder):

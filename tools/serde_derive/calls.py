@@ -7,11 +7,13 @@ from .cases import pascal
 from .declarations import Field, Item, Refused, Test
 from .files import File
 from .homes import STANDARD, Homes, placed
-from .types import HOLDERS, LEAVES, Type, snake
+from .types import ELSEWHERE, HOLDERS, LEAVES, Type, snake
 
 PATH = re.compile(r"[a-zA-Z_]\w*(?:::[a-zA-Z_]\w*)+")
 # what a path begins with that names a function of std's, of which the tool knows what it does, or that it doesn't
 STD = {*STANDARD, *HOLDERS, *LEAVES, "str", "Default", "Not", "Self"}
+# the types whose values can hold memory, but for those of one's own
+IN_MEMORY = {"String", "BoxedStr", "PathBuf", *ELSEWHERE}
 ANYTHING = "⊤"  # what contracts say of the value that such a function makes
 
 
@@ -51,7 +53,7 @@ def called(path: str, homes: Homes) -> Called:
 
 def holds_memory(t: Type, items: Dict[str, Item], seen: Tuple[str, ...] = ()) -> bool:
     """Whether a value of a type can hold memory; one of another file is taken for one that can't."""
-    if t.name in ("String", "Vec", "Box", "BTreeMap") or any(holds_memory(a, items, seen) for a in t.arguments):
+    if t.name in IN_MEMORY or any(holds_memory(a, items, seen) for a in t.arguments):
         return True
     return t.name in items and t.name not in seen and any(
         holds_memory(f.type, items, (*seen, t.name)) for f in items[t.name].fields())

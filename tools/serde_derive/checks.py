@@ -2,6 +2,7 @@
 import re
 from typing import Iterator, List
 
+from .attributes import SKIP
 from .declarations import Field, Item, NotRust, Refused
 from .files import File
 from .functions import Functions
@@ -9,11 +10,13 @@ from .homes import extent, from_crate, placed
 from .types import LEAVES, RESERVED
 from .words import CRATES, SEEN, TAKEN, WORDS
 
+# what may stand beside `flatten`
 # what names no type, field or variant: words of Rattle's, and names that it makes itself
 NO_FIELDS = {"ghost", "requires", "ensures", "deriving", "gen"}
 NO_VARIANTS = NO_FIELDS | {"the_row", "the_data", "TheLaws", "TheVariants"}
 NOT_TYPES = {*TAKEN, *WORDS, *SEEN, *LEAVES, *CRATES, *NO_FIELDS, "str", "f32", "f64", "tuple", "Lib", "Prim", "Self",
              "TheOwn", "TheVariants", "TheBound", "TheImpl", "TheLinks", "TheLaws"}
+BESIDE_FLATTEN = {"flatten", "default", "skip_serializing_if", *SKIP}
 MOST_WORK = 1_000_000
 MOST_SKIPPED = 64  # code counts the fields that are sent by calls in calls
 VALUES = {"alloc", "serializer", "fields", "from", "inside", "parts", "access", "variant", "tag"}
@@ -75,10 +78,8 @@ def check_attributes(item: Item, functions: Functions) -> Iterator[Refused]:
 
 def check_field(item: Item, f: Field) -> Iterator[str]:
     """Why attributes of Serde's don't go with a field of this item."""
-    if "flatten" in f.serde and len(f.serde) > 1:
-        yield "such attributes don't go together: `flatten` stands alone: delete the others"
-    elif "skip_serializing_if" in f.serde and item.flattens():
-        yield "serde's `skip_serializing_if` is not covered beside `flatten`: name the fields"
+    for key in sorted(set(f.serde) - BESIDE_FLATTEN) if "flatten" in f.serde else ():
+        yield f"such attributes don't go together: `flatten` and `{key}`: delete one of them"
     if item.transparent():
         yield from (f"serde's `{key}` on a field is not covered where its struct is `transparent`: delete it"
                     for key in sorted(f.serde))

@@ -5,7 +5,7 @@ from itertools import combinations, islice
 from typing import Dict, List, NamedTuple, Optional, Tuple
 
 from .cases import pascal
-from .types import DEFAULTS, SIGNED, Type, angled, in_term, parameter
+from .types import DEFAULTS, SIGNED, Type, angled, in_term, parameter, snake
 from .words import NO_PLACES
 
 
@@ -155,12 +155,28 @@ class Field(Named):
         """Whether it is read by one name, and has to be there."""
         return self.read and not (self.missing or self.aliases())
 
+    @property
+    def rest(self) -> bool:
+        """Whether it is flattened and not inlined."""
+        return "flatten" in self.serde and not self.inside
+
+    @property
+    def tried(self) -> bool:
+        """Whether it takes the rest as an Option: what is refused is none."""
+        return self.rest and self.type.name == "Option"
+
+    def read_as(self) -> Type:
+        """The type that is read for it: where that is tried, the one in its Option."""
+        return self.type.arguments[0] if self.tried else self.type
+
     def lost(self) -> bool:
         """Whether what is read in its place may not equal what was left out."""
         return self.skips and self.missing != (self.test.fact if self.test else DEFAULTS[self.type.name])
 
     def why_lost(self) -> str:
         """Why it may not come back."""
+        if self.rest:
+            return "takes the entries that no other field takes, and a key of its own may be a field's name"
         if self.aliases():
             return "has an `alias`"
         if self.wire != self.known:
@@ -197,6 +213,10 @@ class Data:
         """The fields; in the place of one that is flattened those inside it, named by their path."""
         return [leaf for f in self.fields for leaf in (
             [replace(leaf, name=f"{f.name}.{leaf.name}") for leaf in f.inside.leaves()] if f.inside else [f])]
+
+    def to_read(self) -> List[Field]:
+        """The fields that are read, in their order, but what takes the rest after the others."""
+        return sorted((f for f in self.fields if f.read), key=lambda f: f.rest)
 
     def at(self, given: Dict[str, Type]) -> "Data":
         """The same with types in the place of parameters."""
@@ -300,10 +320,13 @@ class Variant(Named):
 class Item(Named):
     """A struct or an enum, with the traits that it derives. Its functions are called after its
     `owner`, and contracts know an enum's variants by `cases`. `levels` is how deep what is flattened
-    stands; what is not `covered` is not written. It `defaults` where its declaration derives Default,
+    stands, and it is `spread` where it is flattened and not inlined, and sends its entries there; what is not `covered` is
+    not written. It `defaults` where its declaration derives Default,
     and `absent` says that Absent is written, for a field that is read as that value where it is missing: this `absent_value`,
     where it is given. It is `valued` where it has Absent, written here or by hand.
-    It borrows for its `lifetimes`. One with `parameters` may be `held_as` a type that has arguments in their place."""
+    It borrows for its `lifetimes`. One with `parameters` may be `held_as` a type that has arguments in their place. One that
+    contains itself has a `cycle`: the types through which it does, itself among them, in the order in which contracts know
+    them."""
 
     sort: str = "struct"
     visible: str = ""
@@ -312,6 +335,7 @@ class Item(Named):
     variants: List[Variant] = field(default_factory=list)
     covered: bool = True
     levels: int = 1
+    spread: bool = False
     owner: str = ""
     cases: str = ""
     defaults: bool = False
@@ -321,6 +345,7 @@ class Item(Named):
     parameters: List[str] = field(default_factory=list)
     lifetimes: List[str] = field(default_factory=list)
     held_as: Optional[Type] = None
+    cycle: List["Item"] = field(default_factory=list, compare=False, repr=False)
 
     def itself(self) -> Type:
         """Its type, of its parameters."""
@@ -372,7 +397,8 @@ class Item(Named):
 
     def lost(self) -> List[Field]:
         """The fields that are left out, and not read as what they were, or read by several names."""
-        return [f for f in self.sent_fields() if f.lost() or f.aliases() or f.wire != f.known or not (f.sent and f.read)]
+        return [f for f in self.sent_fields()
+                if f.rest or f.lost() or f.aliases() or f.wire != f.known or not (f.sent and f.read)]
 
     def one_way(self) -> List[Variant]:
         """The variants that aren't both sent and read, by one name."""
@@ -386,8 +412,13 @@ class Item(Named):
         """Why some values may not come back, and what to write instead where that is known; nothing where all do. A value
         of an untagged enum may be read as another variant's, where two take trees of one class, and not each of a length
         of its own."""
+        if self.cycle:
+            return "it contains itself, and is read to a limit of levels"
         for f in self.lost():
             return f"`{f.name}` {f.why_lost()}"
+        for f in self.data.leaves() if self.flattens() else ():
+            if f.rest:
+                return f"`{f.name}` is flattened, and no struct of this file"
         for v in self.one_way():
             if v.wire != v.known:
                 return f"variant `{v.name}` is read by another name than it is sent by"
@@ -395,6 +426,9 @@ class Item(Named):
         for own in self.owns():
             if own.astray:
                 return f"`{own.name}`, which it holds, does not come back"
+        for v in self.variants if "tag" in self.serde else []:
+            if v.aliases() or "other" in v.serde:
+                return f"variant `{v.name}` of a tagged enum {'has an `alias`' if v.aliases() else 'takes other tags'}"
         untagged = self.variants if "untagged" in self.serde else []
         for v in untagged:
             if v.data.named:
@@ -452,6 +486,8 @@ class Item(Named):
         kept = [d for d in self.derives if d not in ("Serialize", "Deserialize", "Drop")]
         derives = ", ".join(kept if "Copy" in kept else ["Drop"] + kept)
         lines = self.head + [f"#[derive({derives})]"]
+        if len(self.cycle) > 1:
+            lines.append(f"#[cycle({snake(self.cycle[0].name)})]")
         start = f"{self.visible}{self.sort} {self.name}{angled(*self.lifetimes, *self.parameters)}"
         if self.sort == "struct":
             return "\n".join(lines + [f"{start}{self.data.declared()}{'' if self.data.named else ';'}"])

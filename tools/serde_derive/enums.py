@@ -4,12 +4,21 @@ from typing import Callable, List, Tuple
 from .attributes import DEFAULT
 from .cases import pascal
 from .declarations import Data, Item, Variant
+from .entries import AROUND, FOLLOWING, SEND_ENTRIES, SENT, Entries, entry_around, entry_of
 from .holder import Holder
 from .literals import ROWS_OPENED, list_impl, list_term, name_method, name_term, opened
 from .structs import made_absent
 from .text import ABSENT, DESERIALIZE, KNOWN, REFUSED_NULL, SERIALIZE, all_hold, arm, bare, bracketed, clause
 from .text import codes, elim, facts, function, ghost, together
 from .types import READ, Type, angled, bounded, in_term
+
+
+def sent_names(item: Item) -> Tuple[str, List[str]]:
+    """The type that stands for the names of an enum's variants as they are sent, and the names."""
+    known = [v.known for v in item.variants if v.read]
+    if all(v.wire == v.known and v.read for v in item.variants if v.sent):
+        return f"NamesOf{pascal(item.owner)}", known
+    return f"SentOf{pascal(item.owner)}", [v.wire for v in item.variants if v.sent]
 
 
 class EnumWriter:
@@ -89,9 +98,7 @@ class EnumWriter:
         sees the types of this variant alone."""
         if not self.is_apart(v, holder):
             return []
-        places = v.data.places()
-        given = "".join(f", {p}: &{f.type.rust()}" for p, f in zip(places, v.data.fields))
-        value = " ".join([f"{self.cases}.{in_term(v.name)}"] + [f"{in_term(p)}.now" for p in places])
+        given, value = self.whole_given(v)
         bounds = angled(*self.item.lifetimes, "S: Serializer", *bounded(self.item.parameters, "Serialize"))
         return [f"/// Sends that variant.\nfn {self.whole_name(v)}{bounds}(alloc: Global, serializer: &mut S,"
                 f" whole: &{self.whole}{given}) -> Result<()>\n"
@@ -99,6 +106,12 @@ class EnumWriter:
                 + clause("ensures", "Sends S.step S.refuses (S.seen serializer.old)\n"
                          f"(⟦<{self.whole} as Serialize>⟧.script whole.now)\nresult (S.seen serializer.new)")
                 + "{\n" + "\n".join(self.send_values(v, holder)) + "\n}\n"]
+
+    def whole_given(self, v: Variant) -> Tuple[str, str]:
+        """The values of a variant as parameters of a function, and the variant of them."""
+        places = v.data.places()
+        given = "".join(f", {p}: &{f.type.rust()}" for p, f in zip(places, v.data.fields))
+        return given, " ".join([f"{self.cases}.{in_term(v.name)}"] + [f"{in_term(p)}.now" for p in places])
 
     def is_apart(self, v: Variant, holder: Holder) -> bool:
         """Whether a variant is sent by a function of its own: for many values, or for wide ones."""
@@ -118,8 +131,12 @@ class EnumWriter:
         return [f"{self.whole_name(v)}({', '.join(['alloc', 'serializer', 'self'] + v.data.places())})"]
 
     def names_list(self) -> List[str]:
-        """The type that stands for the names of the variants, where it is used."""
-        return [list_impl(self.list, "The names of its variants.", [v.known for v, _ in self.readable()])] * self.reads
+        """The types that stand for the names of the variants, where they are used."""
+        known = [list_impl(self.list, "The names of its variants.", [v.known for v, _ in self.readable()])]
+        names, sent = sent_names(self.item)
+        spread, same = self.item.spread, names == self.list
+        return known * (self.reads or (spread and same)) + [
+            list_impl(names, "The names of the variants that are sent.", sent)] * (spread and not same)
 
     def reader(self, v: Variant, holder: Holder) -> List[str]:
         """The function that reads a variant's fields, all values as one, where it needs one."""
@@ -171,6 +188,39 @@ class EnumWriter:
         return [ghost("script", self.each(lambda v, holder, x: holder.script(x) if v.sent else self.unsent_script(v))),
                 ghost("lawful", self.lawful()),
                 function(SERIALIZE, *self.match(sent))]
+
+    def entries_of(self, v: Variant, holder: Holder) -> Entries:
+        """What a variant sends where its enum is flattened: an entry whose key is the variant's name."""
+        names, sent = sent_names(self.item)
+        announced, values, places = f"{names}, {sent.index(v.wire)}", self.values(v.data), v.data.places()
+        if v.data.named:
+            return entry_around(v.wire, announced, Holder("Struct", [v.wire], v.data, v.owner), values, places, holder)
+        return entry_of(v.wire, announced, v.data.fields[0].type, values[0], places[0])
+
+    def entries_senders(self) -> List[str]:
+        """The functions that send variants of several values by the script of the enum, as `whole_sender` does."""
+        return [self.entries_sender(v, holder) for v, holder in self.variants if self.is_apart(v, holder)]
+
+    def entries_sender(self, v: Variant, holder: Holder) -> str:
+        """The function that sends a variant so."""
+        given, value = self.whole_given(v)
+        bounds = angled(*self.item.lifetimes, FOLLOWING, "S: Serializer")
+        return (f"/// Sends the entries of that variant, and what follows them.\nfn send_entries_of_{v.owner}{bounds}("
+                f"whole: &{self.whole}{given}, rest: &Following, {AROUND}) -> {SENT}\n"
+                + clause("requires", f"whole.now ≡ {value}")
+                + clause("ensures", f"Sends S.step S.refuses (S.seen serializer.old)\n(⟦<{self.whole} as SendEntries>⟧.entries"
+                         " whole.now (Following.script rest.now))\n(answer_of result error.new) (S.seen serializer.new)")
+                + "{\n" + "\n".join(self.entries_of(v, holder).send) + "\n}\n")
+
+    def entries(self) -> List[str]:
+        """What it sends where it is flattened."""
+        each = {v.name: self.entries_of(v, holder) for v, holder in self.variants}
+        sent = {v.name: [f"send_entries_of_{v.owner}({', '.join(['self', *v.data.places()])}, rest, alloc, serializer, error)"]
+                if self.is_apart(v, holder) else each[v.name].send for v, holder in self.variants}
+        arms = [arm(self.made(v, v.data.places()), sent[v.name]) for v in self.item.variants]
+        return [ghost("entries", self.each(lambda v, holder, x: f"λ rest. {each[v.name].script}")),
+                ghost("fit", self.each(lambda v, holder, x: f"λ rest readable fit. {each[v.name].fit}")),
+                function(SEND_ENTRIES, *self.match(arms))]
 
     def lawful(self) -> str:
         """The law that each value's script is lawful."""

@@ -66,12 +66,18 @@ FLATTENED = BY_NAME._replace(
     kept=("flattened_named{or_}_kept {name}{missing} {inner} {see}", "(flattened_end_kept {known})"))
 
 
+# what stands for a field that takes the rest; for an Option, whose type is tried
+REST = {"refusal": ("rest_then {inner}", ""), "gives": ("RestThen {inner}", "RestTried {inner}")}
 # what stands for a field that isn't sent where it is empty, where that differs
 UNLESS = {"script": "field_unless {skipped} {name} {inner}",
           "lawful": "field_unless_fits _ _ _ _ {skipped} {inner}",
           "back": "keyed_unless_back {{names = {others}}} {name}{missing} {skipped} {inner}\n{alike} {apart} {see}"}
+UNLESS_ENTRY = {"script": "flattened_unless {skipped} {name} {inner}",
+                "lawful": "flattened_unless_fits _ _ _ _ {skipped} {inner}",
+                "back": "entry_unless_back {{names = {others}}} {name}{missing} {skipped} {inner}\n{alike} {apart} {see}"}
 # beside such a field a law says which names are sent
 KEYED = BY_NAME._replace(back=("keyed{or_}_back {name}{missing} {inner} {see}", "(keyed_{end}_back {known})"))
+KEYED_ENTRY = FLATTENED._replace(back=("entry_named{or_}_back {name}{missing} {inner} {see}", "(entries_end_back {known})"))
 
 
 class Holder:
@@ -82,6 +88,11 @@ class Holder:
     read_by = "ReadStruct"
     by_key = BY_NAME
     by_place = BY_PLACE
+    by_keyed = KEYED
+    unless_words = UNLESS
+    as_named = "keyed_named"
+    row_named = "SendField"
+    tag = variant = tag_row = ""  # of a variant that is tagged: the names, and the row that sends them
 
     def __init__(self, sort: str, names: list, data: Data, owner: str):
         self.of_variant, self.all = sort == "Variant", data.fields
@@ -94,10 +105,11 @@ class Holder:
         self.wire = names[0] if names else ""
         self.reader, self.owner = f"read_{owner}", pascal(owner)
         self.list = f"FieldsOf{self.owner}"
-        self.names_known = [f.known for f in data.fields if f.read]
+        named = [f for f in data.fields if not f.rest]
+        self.names_known = [f.known for f in named if f.read]
         self.names_sent = self.names_known
-        if data.named and any(f.sent and (f.wire != f.known or not f.read) for f in data.fields):
-            self.names_sent = [f.wire for f in data.fields if f.sent]
+        if data.named and any(f.sent and (f.wire != f.known or not f.read) for f in named):
+            self.names_sent = [f.wire for f in named if f.sent]
         self.sent_list = self.list if self.names_sent is self.names_known else f"SentOf{self.owner}"
         self.before: List[str] = []
         self.skips = any(f.skips for f in data.fields if f.sent)
@@ -112,8 +124,8 @@ class Holder:
 
     @cached_property
     def reading(self) -> "Holder":
-        """The same of the fields alone that are read."""
-        return self.part([f for f in self.fields if f.read])
+        """The same of the fields alone that are read, in the order in which they are."""
+        return self.part(self.data.to_read())
 
     @property
     def big(self) -> bool:
@@ -122,12 +134,16 @@ class Holder:
 
     def part(self, fields: List[Field]) -> "Holder":
         """The same of some of its fields alone."""
-        if len(fields) == self.count:
+        if fields == self.fields:
             return self
         part = copy(self)
-        part.hold(replace(self.data, fields=fields), [place for f, place in zip(self.fields, self.places) if f in fields])
+        part.hold(replace(self.data, fields=fields), self.those_of(self.places, fields))
         part.__dict__["reading"] = part
         return part
+
+    def those_of(self, each: List[str], fields: List[Field]) -> List[str]:
+        """What belongs to some of its fields alone, out of what belongs to each."""
+        return [each[self.fields.index(f)] for f in fields]
 
     def unread(self) -> List[Tuple[Field, str]]:
         """The fields that aren't read, each with what code calls its value."""
@@ -191,8 +207,8 @@ class Holder:
             return []
         parts = [f"ReadPart<{self.count}, {place}" if not self.data.named else
                  f"{self.sort(f)}<{', '.join(self.read_by_names(f, place))}" for place, f in enumerate(self.fields)]
-        rows = "".join(f"type {self.row_type(place)} = {part}{', ' * (part[-1] != '<')}{f.type.rust()}, {self.after(place + 1)}>;\n"
-                       for place, (part, f) in enumerate(zip(parts, self.fields)) if place >= self.steps)
+        rows = "".join(f"type {self.row_type(place)} = {part}{', ' * (part[-1] != '<')}{f.read_as().rust()},"
+                       f" {self.after(place + 1)}>;\n" for place, (part, f) in enumerate(zip(parts, self.fields)) if place >= self.steps)
         defaults = [self.default_impl(f) for f in self.fields if f.made]
         return (defaults + [rows] + [self.run_read(start) for start in self.starts()]
                 + [text for place in range(self.steps) for text in [self.one_read(place)] * self.data.named + [self.step(place)]])
@@ -246,6 +262,8 @@ class Holder:
 
     def read_by_names(self, f: Field, place: int) -> List[str]:
         """The arguments of what a field is read as, but its type and what follows it."""
+        if f.rest:
+            return []
         arguments = [self.list, str(self.index(f))]
         if f.aliases():
             names = "NoName"
@@ -261,6 +279,8 @@ class Holder:
     @staticmethod
     def sort(f: Field) -> str:
         """What a field is read as."""
+        if f.rest:
+            return "TryRest" if f.tried else "ReadRest"
         if f.aliases():
             return "ReadAliasedElse" if f.missing else "ReadAliased"
         return "ReadFieldElse" if f.made else f"ReadField{'Or' * bool(f.missing)}"
@@ -341,7 +361,7 @@ class Holder:
         for at, value in enumerate(places, start):
             sort = self.sort(self.fields[at]) if self.data.named else "ReadPart"
             rest = "_" if at + 1 == self.count else "row"
-            lines.append(f"let {sort}({value}, {rest}{', _' * self.data.named}) = row;")
+            lines.append(f"let {sort}({value}, {rest}{', _' * (self.data.named and not self.fields[at].rest)}) = row;")
         return lines
 
     def all_taken(self, trait: str, source: str) -> List[str]:
@@ -374,8 +394,9 @@ class Holder:
         reading, places = self.reading, self.reading.places
         apart = [f"let {self.run_name(start)}({', '.join(places[start:start + LONGEST_ROW] + ['row'] * more)}) = row;"
                  for start in reading.starts() for more in [start + LONGEST_ROW < reading.count]]
-        read = (f"row{f'.{LONGEST_ROW}' * (place // LONGEST_ROW)}.{place % LONGEST_ROW}" for place in range(reading.count))
-        seen = [next(read) if f.read else in_term(place) for f, place in zip(self.fields, self.places)]
+        read = {f.name: f"row{f'.{LONGEST_ROW}' * (place // LONGEST_ROW)}.{place % LONGEST_ROW}"
+                for place, f in enumerate(reading.fields)}
+        seen = [read.get(f.name, in_term(place)) for f, place in zip(self.fields, self.places)]
         given = "".join(f", {place}: {f.type.rust()}" for f, place in self.unread())
         body = "\n".join(apart + [made])
         return ["/// Its contract tells proofs what is made of the values.\n"
@@ -384,7 +405,8 @@ class Holder:
 
     def words(self, member: str) -> Tuple[str, str]:
         """What stands for one of its values in a member of the impls, and for the end."""
-        return getattr(self.by_place if not self.data.named else KEYED if self.skips else self.by_key, member)
+        by_key = self.by_keyed if self.skips else self.by_key
+        return getattr(by_key if self.data.named else self.by_place, member)
 
     def parts(self, member: str, inners: List[str], sees: Optional[List[str]] = None,
               values: Optional[List[str]] = None) -> List[str]:
@@ -397,14 +419,16 @@ class Holder:
 
     def word_of(self, f: Field, member: str) -> str:
         """What stands for such a value, with places."""
-        if member in ("script", "lawful") and not f.sent:
-            return ""
+        if member in ("script", "lawful") and (f.rest or not f.sent):
+            return "{inner}" * f.sent
+        if f.rest and member in REST:
+            return REST[member][f.tried]
         if f.aliases() and member in ("refusal", "gives"):
             names, first = list_term([f.known, *f.aliases()]), name_term(f.known)
             if member == "gives":
                 return f"AliasedThen {names}{f.absent() or ' (λ b. ⊥)'} {{inner}}"
             return f"aliased_then {first} {names} {'None' if f.missing else f'(Some (missing_field {first}))'} {{inner}}"
-        return UNLESS[member] if f.skips and member in UNLESS else self.words(member)[0]
+        return self.unless_words[member] if f.skips and member in self.unless_words else self.words(member)[0]
 
     def unless(self, place: int, value: str) -> Dict[str, str]:
         """Of a field that isn't sent where it is empty: whether it is, that what is read in its place equals it, and
@@ -447,12 +471,16 @@ class Holder:
         return f" ({word}{row})" if self.data.named else row
 
     def scripts(self, values: List[str]) -> List[str]:
-        """The calls that each value makes."""
-        return [f"({f.type.member('Serialize', 'script')} {value})" for f, value in zip(self.fields, values)]
+        """The calls that each value makes; of what is flattened, with what follows."""
+        return [f"{f.type.member('SendEntries', 'entries')} {value}" if f.rest else
+                f"({f.type.member('Serialize', 'script')} {value})" for f, value in zip(self.fields, values)]
 
     def laws(self, values: List[str]) -> List[str]:
-        """That the calls of each value spell one tree."""
-        return [f"({f.type.lawful(value)})" if f.sent else "" for f, value in zip(self.fields, values)]
+        """That the calls of each value spell one tree; of what is flattened, that they are entries where those after it are."""
+        scripts = self.parts("script", self.scripts(values), values=values) if any(f.rest for f in self.fields) else []
+        return ["" if not f.sent else f"({f.type.lawful(value)})" if not f.rest else
+                f"{f.type.fit(value)} {nest(list(filter(None, scripts[place:])), self.end('script')).strip()} readable"
+                for place, (f, value) in enumerate(zip(self.fields, values), 1)]
 
     def script(self, values: List[str]) -> str:
         """The calls that are made."""
@@ -507,11 +535,12 @@ class Holder:
 
     def sent(self, f: Field, value: str) -> str:
         """A value as a row has it, before those after it."""
-        unless = "Unless" * f.skips
+        if f.rest or not self.data.named:
+            return f"{'SendAll' if f.rest else 'SendPart'}({value}, row)"
         if f.test:
             names, index = self.announced(f).split(", ")
-            return f"SendFieldIf({names}, {self.test_of(f)}, {index}, {value}, row)"
-        return f"SendField{unless}({self.announced(f)}, {value}, row)" if self.data.named else f"SendPart({value}, row)"
+            return f"{self.row_named}If({names}, {self.test_of(f)}, {index}, {value}, row)"
+        return f"{self.row_named}{'Unless' * f.skips}({self.announced(f)}, {value}, row)"
 
     def refusal_row(self) -> str:
         if self.reading is not self:
@@ -522,7 +551,7 @@ class Holder:
 
     def refusals(self) -> List[str]:
         """What each of its values refuses."""
-        return [f"({f.type.member(READ, 'refusal')})" for f in self.fields]
+        return [f"({f.read_as().member(READ, 'refusal')})" for f in self.fields]
 
     def refusal(self) -> str:
         """What is refused of it."""
@@ -530,11 +559,12 @@ class Holder:
 
     def given(self, values: List[str]) -> List[str]:
         """What each of them may give."""
-        return [f"({f.type.member(READ, 'gives')}) {v}" for f, v in zip(self.fields, values)]
+        refused = [f"({f.read_as().member(READ, 'refusal')}) " * f.tried for f in self.fields]
+        return [f"{refusal}({f.read_as().member(READ, 'gives')}) {v}" for refusal, f, v in zip(refused, self.fields, values)]
 
     def gives_row(self, values: List[str]) -> str:
         if self.reading is not self:
-            read = self.reading.gives_row([value for f, value in zip(self.fields, values) if f.read])
+            read = self.reading.gives_row(self.those_of(values, self.reading.fields))
             return self.with_unread([value for f, value in zip(self.fields, values) if not f.read], read.lstrip())
         if self.big:
             return f"\n({self.run_member(0, 'gives')}\n{self.run_term(values)})"
@@ -626,7 +656,7 @@ class Holder:
 
     def back_row(self, values: List[str], sees: List[str]) -> str:
         row = self.trip_row("back", [f.type.typed_back() for f in self.fields], values, sees)
-        return f" (keyed_named{row})" if self.skips else row
+        return f" ({self.as_named}{row})" if self.skips else row
 
     def kept_row(self, values: List[str], sees: List[str]) -> str:
         return self.trip_row("kept", [f.type.typed_kept() for f in self.fields], values, sees)

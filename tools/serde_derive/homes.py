@@ -7,6 +7,8 @@ from .attributes import SERDE
 from .declarations import Field, Item, Named, Refused
 from .files import File
 from .parser import DEEPEST, MOST_FIELDS
+from .rests import check_rests
+from .spread import is_inlined, why_unspread
 from .types import (ARGUMENTS, ELSEWHERE, FLOATS, HASHED, HOLDERS, IN_ORDER, LEAVES, MOST_IN_TUPLE, NUMBERS, LawsOf, Type,
                     snake)
 from .unique import fresh
@@ -49,7 +51,7 @@ def placed(item: Item) -> Iterator[Tuple[str, Field]]:
 
 def check_leaves(item: Item) -> Iterator[Refused]:
     """Refuses fields of one name beside each other where some are flattened, and too many of them."""
-    leaves = item.data.leaves()
+    leaves = [f for f in item.data.leaves() if not f.rest]
     names = [Counter(names).items() for names in ([f.wire for f in leaves if f.sent], [f.known for f in leaves if f.read])]
     for name in dict.fromkeys(name for counts in names for name, count in counts if count > 1):
         yield Refused(item.line, f"two fields are called `{name}`: give one another name by `rename`", item.name)
@@ -64,6 +66,37 @@ def from_crate(path: List[str], here: List[str]) -> List[str]:
     for word in path:
         found = ["crate"] if word == "crate" else found[:-1] if word == "super" else found + [word] * (word != "self")
     return found
+
+
+def rings(held: Dict[str, List[str]]) -> Iterator[List[str]]:
+    """Those of these names that lead to each other, of those that lead back to themselves: first in the order in which
+    all that they lead to is seen, and then from the last of them on against it."""
+    seen, finished = set(), []
+    for first in held:
+        stack = [] if first in seen else [(first, iter(held[first]))]
+        seen.add(first)
+        while stack:
+            new = next((name for name in stack[-1][1] if name not in seen), None)
+            if new:
+                seen.add(new)
+                stack.append((new, iter(held[new])))
+            else:
+                finished.append(stack.pop()[0])
+    holders: Dict[str, List[str]] = {name: [] for name in held}
+    for name, parts in held.items():
+        for part in parts:
+            holders[part].append(name)
+    taken: Set[str] = set()
+    for first in reversed(finished):
+        ring, new = [], [] if first in taken else [first]
+        while new:
+            name = new.pop()
+            if name not in taken:
+                taken.add(name)
+                ring.append(name)
+                new += holders[name]
+        if len(ring) > 1 or (ring and first in held[first]):
+            yield ring
 
 
 def needed(item: Item, *around: Named) -> Set[str]:
@@ -209,25 +242,31 @@ class Homes:
                     yield where, f, t.name
 
     def ordered(self) -> Iterator[Item]:
-        """The items, each after those that it holds; what contains itself is refused."""
+        """The items, each after those that it holds, but those through which it contains itself."""
+        self.find_cycles()
         begun, done = set(), set()
         for first in self.file.items:
             stack = [] if first.name in begun else [(first, self.parts_of(first))]
             begun.add(first.name)
             while stack:
                 item, parts = stack[-1]
-                for where, f, name in parts:
+                for _, _, name in parts:
                     if name not in begun:
                         begun.add(name)
                         stack.append((self.items[name], self.parts_of(self.items[name])))
                         break
-                    if name not in done:
-                        self.refuse(Refused(f.line, f"`{name}` contains itself, which is not covered: write its impls by hand",
-                                            where))
-                        f.type = Type("()")
                 else:
                     done.add(stack.pop()[0].name)
                     yield item
+
+    def find_cycles(self) -> None:
+        """Finds of each item the types through which it contains itself, in the order in which contracts know them: enums first,
+        each sort by name."""
+        held = {item.name: [name for _, _, name in self.parts_of(item)] for item in self.file.items}
+        for names in rings(held):
+            cycle = sorted(map(self.items.get, names), key=lambda item: (not item.variants, item.name))
+            for item in cycle:
+                item.cycle = cycle
 
     def settle(self) -> None:
         """Settles the types of all fields."""
@@ -241,7 +280,7 @@ class Homes:
                     if f.type.borrows() and "Deserialize" in item.derives:
                         raise ValueError("what is borrowed is covered where it is only sent: hold the value itself, as String for"
                                          " &str")
-                    f.type = self.settled(f.type, needed(item, f, *variants.get(id(f), ())))
+                    f.type = self.settled(f.type, item, needed(item, f, *variants.get(id(f), ())))
                 except ValueError as reason:
                     self.refuse(Refused(f.line, str(reason), where))
                     f.type = Type("()")
@@ -262,17 +301,34 @@ class Homes:
         """Takes in what is flattened and what stands beside a tag."""
         flattened = [(where, f) for where, f in placed(item) if "flatten" in f.serde]
         for where, f in flattened:
-            part = self.inlined(f, where, where, "what is flattened")
+            part = self.inlined(f, where, where, "what is flattened") if is_inlined(f, self.items) else None
             if part:
                 f.inside, item.levels = part.data, max(item.levels, part.levels + 1)
+            else:
+                self.spread(item, f, where)
+                if f.read:
+                    f.missing = f.made = f.maker = ""
+        if item.data.named:
+            self.keep(check_rests(item, [one for one in flattened if one[0] not in self.told], self.items))
         if "tag" in item.serde and "content" not in item.serde:
             for v in item.variants:
                 if v.data.style == "Newtype" and (v.sent or v.read):
                     where = f"{item.name}.{v.name}"
                     v.beside = self.inlined(v.data.fields[0], f"{where}.0", where, "what stands beside a tag")
-        if flattened and item.data.named and all(f.inside for _, f in flattened):
+        if flattened and item.data.named and not any(where in self.told for where, _ in flattened):
             for refused in check_leaves(item):
                 self.refuse(refused)
+
+    def spread(self, item: Item, f: Field, where: str) -> None:
+        """Settles how the value of a flattened field is sent that isn't inlined, or refuses it."""
+        if where in self.told:
+            return
+        reason = why_unspread(f.type, self.items) if f.sent and "Serialize" in item.derives else ""
+        if f.skips and (f.test or f.tester):
+            reason = reason or "is not covered where a function of yours leaves it out: hold an Option"
+        if reason:
+            self.refuse(Refused(f.line, f"what is flattened {reason}", where))
+        f.skips = False  # what is empty sends no entry
 
     def inlined(self, f: Field, place: str, where: str, what: str) -> Optional[Item]:
         """The struct in a field of this path, whose own fields are sent and read in its place; none where that is refused,
@@ -284,10 +340,8 @@ class Homes:
             self.items[where.split(".")[0]].covered = False
             return None
         if not part or not part.data.named or part.data.closed or part.transparent() or (part.flattens() and not flattens):
-            reason = ("is covered where it is a struct of this file with named fields and without `deny_unknown_fields`"
-                      f"{': hold such a struct, or delete `flatten`' if flattens else ' and `flatten`: hold such a struct'}")
-        elif flattens and any(inside.skips for inside in part.data.leaves()):
-            reason = "is not covered where `skip_serializing_if` leaves out some of it: name the fields"
+            reason = ("is covered where it is a struct of this file with named fields and without `deny_unknown_fields` and"
+                      " `flatten`: hold such a struct")
         elif flattens and any(inside.aliases() for inside in part.data.leaves()):
             reason = "is not covered where a field of it has an `alias`, which Serde doesn't read there: delete that"
         elif part.levels > DEEPEST_FLATTENED:
@@ -297,9 +351,9 @@ class Homes:
         self.refuse(Refused(f.line, f"{what} {reason}", where))
         return None
 
-    def settled(self, t: Type, traits: Set[str]) -> Type:
-        """The type with its home, where it has to derive these; a ValueError says why it is not covered."""
-        arguments = tuple(self.settled(a, traits) for a in t.arguments)
+    def settled(self, t: Type, holder: Item, traits: Set[str]) -> Type:
+        """The type with its home, where it has to derive these for what holds it; a ValueError says why it is not covered."""
+        arguments = tuple(self.settled(a, holder, traits) for a in t.arguments)
         if t.parameter:
             return t
         if not arguments and (t.name in LEAVES or (t.name in FLOATS and not traits)):
@@ -320,7 +374,7 @@ class Homes:
                                  " a struct around it, and hold that")
             return self.own(t.name)
         item = self.items[t.name]
-        whole = replace(self.part(t, traits), arguments=arguments,
+        whole = replace(self.part(t, holder, traits), arguments=arguments,
                         laws_of=(lambda one: self.laws_of(item, one)) if arguments else None)
         if self.size(whole) > MOST_WRITTEN_OUT:
             raise ValueError(f"a type with parameters that is made of more than {MOST_WRITTEN_OUT} types is not covered:"
@@ -334,9 +388,12 @@ class Homes:
             self.sizes[t] = 1 + sum(map(self.size, inside))
         return self.sizes[t]
 
-    def part(self, t: Type, traits: Set[str]) -> Type:
+    def part(self, t: Type, holder: Item, traits: Set[str]) -> Type:
         """An own type of this file, but for its arguments; a ValueError says why what holds it is not covered."""
         name, part = t.name, self.items[t.name]
+        if part in holder.cycle:
+            return Type(name, home=self.here, declared=name, called=self.called(name, self.here, name), plain=True, astray=True,
+                        lost=True, nested=True)
         if len(t.lifetimes) != len(part.lifetimes):
             raise ValueError(f"`{name}` has {len(t.lifetimes)} lifetimes here, and is declared with {len(part.lifetimes)}")
         if any(a.borrows() for a in t.arguments):

@@ -15,17 +15,19 @@ from .functions import CASES
 from .homes import Homes
 from .literals import with_names
 from .names import name_item
+from .nested import NestedWriter
+from .nested_checks import check_nested
 from .sizes import check_sizes
 from .structs import StructWriter, TransparentWriter
 from .text import ghost
 from .tagged import TaggedWriter, check_tagged
-from .types import CBOR, LT_DE, NOT_NULL, READ, TRIP, Type, angled, bounded
+from .types import CBOR, LT_DE, NOT_NULL, READ, TRIP, Type, angled, bounded, in_term
 from .unique import KINDS, name_cases, name_functions
 from .untagged import UntaggedWriter, check_untagged
-from .words import ALIASES, METHODS, SEEN, USES, WORDS, words_in, words_of
+from .words import ALIASES, METHODS, NESTED_ITEMS, NESTED_WORDS, SEEN, USES, WORDS, words_in, words_of
 
 Writer = Union[StructWriter, EnumWriter]
-TRAITS = dict(zip(KINDS, ("Serialize", "RoundTrip", "CborRoundTrip", "NotNull", "Ord", "Eq")))
+TRAITS = dict(zip(KINDS, ("Serialize", "SendEntries", "RoundTrip", "CborRoundTrip", "NotNull", "Ord", "Eq")))
 
 
 def names(text: str, word: str) -> bool:
@@ -37,8 +39,9 @@ def names(text: str, word: str) -> bool:
 
 
 def owns(item: Item) -> List[Type]:
-    """The own types whose laws the impls of an item name: those that it holds, and those in a type with arguments."""
-    found = item.owns()
+    """The own types whose laws the impls of an item name: those that it, or a type through which it contains itself, holds, and
+    those in a type with arguments."""
+    found = list(dict.fromkeys(own for one in item.cycle or [item] for own in one.owns()))
     for own in found:
         found += [one for one in own.laws_of(own).item.owns() if one not in found] if own.laws_of else []
     return found
@@ -55,6 +58,8 @@ def impl(item: Item, trait: str, members: List[str], *given: str) -> str:
 
 def writer_of(item: Item) -> Writer:
     """What writes the impls of a covered item."""
+    if item.cycle:
+        return NestedWriter.of(item)
     if not item.variants:
         return TransparentWriter(item) if item.transparent() else StructWriter(item)
     sorts = {"untagged": UntaggedWriter, "content": AdjacentWriter, "tag": TaggedWriter}
@@ -72,10 +77,19 @@ def impls(item: Item, writer: Writer, cbor: bool) -> Iterator[str]:
     reading = [LT_DE, *bounded(item.parameters, READ)]
     if item.absent:
         yield impl(item, "Absent", writer.absent(), *item.lifetimes, *item.parameters)
+    if "Serialize" in item.derives and item.cycle:
+        yield impl(item, "Nests", writer.sent_members())
+        yield impl(item, "SendNested", writer.sending())
     if "Serialize" in item.derives:
         yield impl(item, "Serialize", writer.serialize(), *item.lifetimes, *bounded(item.parameters, "Serialize"))
+    if item.spread:
+        yield from writer.entries_senders()
+        yield impl(item, "SendEntries", writer.entries(), *item.lifetimes)
     if "Deserialize" in item.derives:
-        if item.variants and "untagged" not in item.serde:
+        if item.cycle:
+            yield impl(item, "ReadsNested<'de>", writer.read_members(), LT_DE)
+            yield from writer.reading()
+        elif item.variants and "untagged" not in item.serde:
             yield impl(item, writer.variants_trait, writer.variants_impl(), *reading)
         yield impl(item, READ, writer.deserialize(), *reading)
     if item.comes_back():
@@ -121,6 +135,7 @@ def settled(file: File, homes: Homes) -> Dict[str, Writer]:
     homes.keep(settle_calls(homes, file))
     settle_defaults(list(homes.ordered()), homes.items, file)
     keep(lambda item: check_missing(item, homes.items))
+    keep(lambda item: check_nested(item, file.items))
     keep(check_variants)
     keep(check_sizes)
     covered = [item for item in file.items if item.covered]
@@ -155,11 +170,22 @@ def uses(file: File, homes: Homes, texts: List[str]) -> List[str]:
     ghosts += [f"ghost use {own.home.format('declared')}.{own.declared}.{{{own.declared}}};"
                for own in owns if not own.module() and own.declared in named]
     ghosts += [f"ghost use {own.home.format('declared')}.{own.declared} as {own.module()};" for own in owns if own.module() in named]
-    ghosts += [f"ghost use {homes.here.format('declared')}.{item.name}.TheVariants as {item.cases};"
-               for item in file.items if item.variants]
+    declared = homes.here.format("declared")
+    ghosts += [f"ghost use {declared}.{item.name}.TheVariants as {item.cases};"
+               for item in file.items if item.variants and not item.cycle]
+    nested = [item for item in file.items if item.cycle]
+    ghosts += words_of(words, NESTED_WORDS) if nested else []
+    for item in nested:
+        seen = [in_term(item.name)] * ("Deserialize" in item.derives) + [f"fold-{item.name}", f"out-{item.name}"]
+        ghosts += [f"ghost use {declared}.{item.name}.{{{', '.join(seen)}}};",
+                   f"ghost use {declared}.{item.cycle[0].name}.TheOpen as {item.cases};"]
+        if f"{item.cases}_as_view" in words:
+            ghosts += [f"ghost use {declared}.{item.cycle[0].name}.TheViews as {item.cases}_as_view;"]
     ghosts += [f"ghost use {module} as {word};" for module, word in homes.said.items()]
     code = [f"use {path}::{{{', '.join(used)}}};" for path, names in USES.items()
             if (used := [name for name in names.split() if brought(words, name, texts)])]
+    used = [name for name in NESTED_ITEMS if nested and name in words]
+    code += [f"use content_nested::{{{', '.join(used)}}};"] * bool(used)
     code += [f"use {'::'.join(path)}{'' if path[-1] == shown else f' as {shown}'};"
              for shown, path in ((name, homes.path(name)) for name in file.uses if name in homes.used)]
     return [*ghosts, "", *code]

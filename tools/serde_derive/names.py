@@ -68,7 +68,7 @@ def default_fields(item: Item, functions: Functions) -> Iterator[Refused]:
     by_function = item.serde["default"] or (not item.defaults and path in functions.named)
     given = functions.fields_given(path) if by_function else {}
     for f in item.data.fields:
-        if "default" not in f.serde:
+        if not {"default", "flatten"} & set(f.serde):
             f.serde["default"] = ""
             if by_function:
                 value = functions.value(given[f.name][0], f.type, given[f.name][1]) if f.name in given else None
@@ -108,7 +108,7 @@ def name_fields(holder: str, data: Data, case: Optional[str], functions: Functio
         if "skip_serializing_if" in f.serde and "Serialize" in derives:
             yield from check_skipped(where, f, data, functions)
             f.skips = f.sent
-    yield from name_each(fields if data.named else [], case, 0)
+    yield from name_each([one for one in fields if data.named and "flatten" not in one[1].serde], case, 0)
     yield from check_aliases(fields, data.named)
 
 

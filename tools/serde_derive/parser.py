@@ -129,6 +129,9 @@ class Parser(Attributes):
         """A field, by name where it has no place."""
         head = self.head("a field")
         line, visible = self.next.line, self.visibility()
+        if {"flatten", "default"} <= set(head.serde) and not {"skip", "skip_deserializing"} & set(head.serde):
+            del head.serde["default"]
+            head.notes.append((line, "passed over: `default` beside `flatten`, where Serde doesn't read it"))
         into.append(Field(self.next.text if place is None else str(place), line, head.lines, head.serde, visible=visible))
 
         def read() -> None:

@@ -32,7 +32,7 @@ def reason(item: Item, data: Data, leaves: List[Field], f: Field, alone: bool) -
         return f"of an untagged enum, a value of a parameter's type is covered alone in its variant: hold `Box<{name}>`"
     if not f.read:
         return ""
-    read = [one for one in leaves if one.read]
+    read = sorted((one for one in leaves if one.read), key=lambda one: one.rest)
     if len(read) > (LONGEST_HELD if item.variants else LONGEST_ROW):
         return (f"a field of a parameter's type is covered among up to {LONGEST_ROW} of a struct and {LONGEST_HELD} of a variant:"
                 f" hold `Box<{name}>`")

@@ -1,8 +1,9 @@
 """The impls of a struct."""
 from typing import Callable, Iterator, List
 
-from .declarations import Data, Field, Item
-from .holder import FLATTENED, Holder
+from .declarations import Data, Item
+from .entries import entries_inside, row_entries
+from .holder import FLATTENED, KEYED_ENTRY, UNLESS_ENTRY, Holder
 from .text import ABSENT, DESERIALIZE, KNOWN, REFUSED_NULL, SERIALIZE, all_hold, facts, function, ghost
 from .types import READ, TRIP, in_term
 
@@ -11,6 +12,10 @@ class FlattenedHolder(Holder):
     """What a struct with flattened fields holds: it is sent as a map and read from one."""
 
     by_key = FLATTENED
+    by_keyed = KEYED_ENTRY
+    unless_words = UNLESS_ENTRY
+    as_named = "entries_named"
+    row_named = "SendEntry"
     read_by = "ReadFields"
 
     def __init__(self, item: Item):
@@ -18,10 +23,10 @@ class FlattenedHolder(Holder):
         self.word, self.camel, self.head, self.call = "flattened", "Flattened", "", "Call::Map(None)"
 
     def script(self, values: List[str]) -> str:
-        return "flattened_script" + self.row("script", self.scripts(values))
+        return "flattened_script" + self.row("script", self.scripts(values), values=values)
 
-    def sent(self, f: Field, value: str) -> str:
-        return f"SendEntry({self.announced(f)}, {value}, row)"
+    def opening(self, values: List[str]) -> str:
+        return self.call
 
     def read(self, make: Callable[[List[str]], str]) -> List[str]:
         return ["read_flattened(alloc, from)"]
@@ -61,9 +66,12 @@ class StructWriter:
     def functions(self) -> List[str]:
         """Those that the impls call."""
         holder = self.holder
+        sent = holder.names_list() + holder.sent_types() * self.sends
+        if not self.reads:
+            return sent
         read = holder.read_impl(self.making(holder.read_places()), self.whole, [f"z.{in_term(f.name)}" for f in self.fields])
         made = holder.maker(self.whole, self.item.data.made(self.item.name, holder.data.places()), self.item.data.term)
-        return holder.names_list() + holder.sent_types() * self.sends + (holder.row_types() + made + read) * self.reads
+        return sent + holder.row_types() + made + read
 
     def making(self, places: List[str]) -> str:
         """How the code makes it of what was read."""
@@ -87,6 +95,16 @@ class StructWriter:
     def lawful(self) -> str:
         """The law that each value's script is lawful."""
         return f"λ p readable. {self.holder.lawful(self.values)}"
+
+    def entries_senders(self) -> List[str]:
+        """The functions that `entries` needs."""
+        return []
+
+    def entries(self) -> List[str]:
+        """What it sends where it is flattened."""
+        if self.item.data.named:
+            return row_entries(self.holder, self.values, [f"&self.{f.name}" for f in self.fields]).members("p")
+        return entries_inside(self.fields[0].type, self.values[0], f"&self.{self.fields[0].name}").members("p")
 
     def deserialize(self) -> List[str]:
         return [ghost("refusal", self.holder.refusal()),
@@ -154,6 +172,9 @@ class TransparentWriter(StructWriter):
         return [ghost("script", f"λ p. {self.type.member('Serialize', 'script')} {self.value}"),
                 ghost("lawful", self.lawful()),
                 function(SERIALIZE, f"self.{self.field.name}.serialize(alloc, serializer)")]
+
+    def entries(self) -> List[str]:
+        return entries_inside(self.type, self.value, f"&self.{self.field.name}").members("p")
 
     def lawful(self) -> str:
         return f"λ p readable. {self.type.lawful(self.value)}"

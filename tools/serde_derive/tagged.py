@@ -1,11 +1,12 @@
 """What is written of a tagged enum: structs of which one field names the variant, and the others or
 one other hold its values."""
 import re
-from typing import Iterator, List, Tuple
+from typing import Iterator, List
 
 from .cases import pascal
 from .declarations import Data, Field, Item, Refused, Variant
-from .enums import EnumWriter
+from .entries import Entries, row_entries
+from .enums import EnumWriter, sent_names
 from .holder import LONGEST_HELD, Holder
 from .literals import list_impl, name_call, name_method, name_term, opened
 from .text import DESERIALIZE, bare, elim, function, ghost, together
@@ -17,14 +18,6 @@ def beside_tag(v: Variant) -> List[Field]:
     return v.beside.data.fields if v.beside else v.data.fields
 
 
-def sent_names(item: Item) -> Tuple[str, List[str]]:
-    """The type that stands for the names of an enum's variants as they are sent, and the names."""
-    known = [v.known for v in item.variants if v.read]
-    if all(v.wire == v.known and v.read for v in item.variants if v.sent):
-        return f"NamesOf{pascal(item.owner)}", known
-    return f"SentOf{pascal(item.owner)}", [v.wire for v in item.variants if v.sent]
-
-
 def check_tagged(item: Item) -> Iterator[Refused]:
     """Refuses variants that are not covered beside a tag, and names that are the tag's."""
     tag, content = item.serde["tag"], item.serde.get("content")
@@ -32,9 +25,7 @@ def check_tagged(item: Item) -> Iterator[Refused]:
         yield Refused(item.line, f"the tag and the content are both called `{tag}`: give one of them another name", item.name)
     for v in item.variants:
         where = f"{item.name}.{v.name}"
-        if v.aliases() or "other" in v.serde:
-            yield Refused(v.line, "`alias` and `other` are covered in enums that are tagged externally: delete them", where)
-        elif not (v.sent or v.read):
+        if not (v.sent or v.read):
             continue
         elif content and v.skips_a_place():
             yield Refused(v.line, "of an enum that is tagged adjacently no value by place is skipped: give the values names", where)
@@ -60,7 +51,9 @@ class TaggedHolder(Holder):
         self.names_sent = self.names_known if self.sent_list == self.list else [tag] + self.names_sent
         self.tag, self.variant = tag, v.wire
         self.call = f"Call::Struct({name_call(name)}, {self.sent_count() + 1})"
-        self.before = [f"SendTag({self.sent_list}, {sent_names(item)[0]}, {sent_names(item)[1].index(v.wire) if v.sent else 0}, row)"]
+        names, sent = sent_names(item)
+        self.tag_row = f"({self.sent_list}, {names}, {sent.index(v.wire) if v.sent else 0}, row)"
+        self.before = [f"SendTag{self.tag_row}"]
 
     def room(self) -> int:
         return LONGEST_HELD
@@ -113,6 +106,9 @@ class TaggedWriter(EnumWriter):
             read = holder.variant_taken(places)
         return [*read, f"Ok({self.making(v, holder)(places)})"]
 
+    def entries_of(self, v: Variant, holder: Holder) -> Entries:
+        return row_entries(holder, self.leaves(v), self.sent(v))
+
     variants_trait = "TaggedVariants<'de>"
 
     def variants_impl(self) -> List[str]:
@@ -124,12 +120,16 @@ class TaggedWriter(EnumWriter):
                 self.looking() + function(read, *self.dispatch("tag"))]
 
     def deserialize(self) -> List[str]:
-        name, tag, ending = name_term(self.item.wire), name_term(self.tag), "_buffered" * bool(self.buffered)
-        fields = f"TagThen{self.buffered.title()} {tag}\n({self.member('named')} y)\n({self.member('held')} y)"
-        return [ghost("refusal", f"struct_refusal {name} (read_by_name (tag_then{ending} {tag}\n{self.member('refusal')}))"),
+        name, tag, refusal = name_term(self.item.wire), name_term(self.tag), self.member("refusal")
+        ending, then = "_buffered" * bool(self.buffered), f"TagThen{self.buffered.title()}"
+        read = "read_tagged" if self.buffered else "read_adjacent"
+        if self.tags:
+            refusal, then = f"(λ tag. {refusal} {self.meant})", f"{then}By (λ tag. {self.meant})"
+            read = f"{read}_by::<TagsOf{pascal(self.item.owner)}, Self>"
+        fields = f"{then} {tag}\n({self.member('named')} y)\n({self.member('held')} y)"
+        return [ghost("refusal", f"struct_refusal {name} (read_by_name (tag_then{ending} {tag}\n{refusal}))"),
                 ghost("gives", f"λ s y. StructGives {name} (ReadByName\n({fields})) s"),
-                function(DESERIALIZE.format(self.whole),
-                         f"read_{'tagged' if self.buffered else 'adjacent'}(alloc, from)")]
+                function(DESERIALIZE.format(self.whole), f"{read}(alloc, from)")]
 
     @staticmethod
     def unit(v: Variant, row: str) -> str:

@@ -91,6 +91,8 @@ HOLDERS = {
                     "(hash_set_keeps ({same}) {0})", f"(HashSet {{0}} {HASHER})",
                     "(hash_set_kept {equal} {0})", "(seq_not_null ({refusals[0]}))"),
 }
+# those that send entries of a map where they are flattened, beside types of the user's: that their entries are such
+SPREAD = {**dict.fromkeys(("BTreeMap", "HashMap"), "pairs_fit {0} {1} {x}.entries"), "Option": "optional_fit {fit} {x}"}
 # how many arguments each has; those that hold one value as itself; those that hold what they do elsewhere in memory
 ARGUMENTS = {name: 2 if name in ("BTreeMap", "HashMap") else 1 for name in HOLDERS}
 POINTERS = {"Box", "Rc", "Arc"}
@@ -166,7 +168,8 @@ class Type:
     those at the places `nulls` decide whether it may be read of null, those at `optional` are in an Option in it, and those
     at `inside` are in itself, not elsewhere in memory.
 
-    It is borrowed for its `lifetimes`. A `parameter` is one of what holds it, whose bounds have the laws. Of one of the same file with arguments `laws_of` has
+    It is borrowed for its `lifetimes`. A `parameter` is one of what holds it, whose bounds have the laws. One that is `nested` is
+    the type that holds it, or one that leads back to that. Of one of the same file with arguments `laws_of` has
     the laws, written out: the name of a law does not say for which arguments it is.
     """
 
@@ -184,6 +187,7 @@ class Type:
     optional: Tuple[int, ...] = ()
     inside: Tuple[int, ...] = ()
     parameter: bool = False
+    nested: bool = False
     lifetimes: Tuple[str, ...] = ()
     laws_of: Optional[Callable[["Type"], "LawsOf"]] = field(default=None, compare=False, repr=False)
 
@@ -195,6 +199,10 @@ class Type:
         """The parameters in it, each once."""
         inside = [self.name] * self.parameter + [p for a in self.arguments for p in a.parameters()]
         return list(dict.fromkeys(inside))
+
+    def leads_back(self) -> bool:
+        """Whether it leads back to the type that holds it."""
+        return self.nested or any(a.leads_back() for a in self.arguments)
 
     def borrows(self) -> List[str]:
         """The lifetimes in it, each once."""
@@ -260,6 +268,16 @@ class Type:
             return self.arguments[0].lawful(f"{x}.{'now' if self.name == '&' else 'value'}", h)
         inside = [f"(λ x h. {a.lawful('x', 'h')})" for a in self.arguments]
         return self.laws.lawful.format(*inside, x=x, h=h, own=self.called)
+
+    def fit(self, x: str) -> str:
+        """What it sends where it is flattened are entries of a map."""
+        if self.name == "Box":
+            return self.arguments[0].fit(f"{x}.value")
+        if self.home:
+            return f"{self.called}_send_entries.fit-law {x}"
+        inside = [f"(λ x h. {a.lawful('x', 'h')})" for a in self.arguments] if self.name != "Option" else []
+        fit = "" if inside else f"(λ x. {self.arguments[0].fit('x')})"
+        return SPREAD[self.name].format(*inside, x=x, fit=fit)
 
     def back(self) -> str:
         if self.laws_of:

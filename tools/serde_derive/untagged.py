@@ -2,6 +2,7 @@
 from typing import Iterator, List
 
 from .declarations import Item, Refused, Variant
+from .entries import NO_ENTRIES, Entries, entries_inside, row_entries
 from .enums import EnumWriter
 from .held import HeldWriter
 from .holder import Holder, sending
@@ -57,6 +58,12 @@ class UntaggedWriter(EnumWriter):
                 function(SERIALIZE, *self.match([
                     arm(self.made(v, v.data.places()), [self.send(v)]) if v.sent else self.refusing(v)
                     for v in self.item.variants]))]
+
+    def entries_of(self, v: Variant, holder: Holder) -> Entries:
+        values, places = self.values(v.data), v.data.places()
+        if v.data.named:
+            return row_entries(self.structs[v.name].holder, values, places)
+        return entries_inside(v.data.fields[0].type, values[0], places[0]) if values else NO_ENTRIES
 
     def script(self, v: Variant, values: List[str]) -> str:
         if v.data.named:

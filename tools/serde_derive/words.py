@@ -33,6 +33,7 @@ content_tree.specs.Errors.Cause custom
 content_ser.specs.Scripts.Script IsLawful
 content_ser.specs.Scripts.Sends Sends
 content_ser.specs.Scripts.Standard tuple_script element_first
+content_ser.specs.Sending.Aside answer_of
 content_ser.specs.Scripts.Own field_first tuple_field_first end_script {' '.join(f'{s}_script' for s in STYLES)}
 content_ser.specs.Laws.StandardScripts leaf_lawful option_lawful seq_lawful map_lawful
 content_ser.specs.Laws.StandardScripts tuple_lawful element_fits end_fits
@@ -53,9 +54,11 @@ content_de.specs.Reads.Tagged tag_then TagThen tag_then_buffered TagThenBuffered
 content_de.specs.Reads.Own enum_refusal EnumGives
 content_de.specs.Reads.Own {' '.join(f'{s}_refusal {pascal(s)}Gives' for s in STYLES)}
 serde_content.specs.Literals name row_then row_or_then RowThen RowOrThen others_left
+serde_content.specs.Rests rest_then RestThen RestTried
 serde_content.specs.Skips fields_less field_unless UnreadThen unsent_script
+serde_content.specs.Entries flattened_unless tag_first
 serde_content.specs.Aliases aliased_then AliasedThen
-serde_content.specs.Tags meant meant_among EnumGivesBy
+serde_content.specs.Tags meant meant_among EnumGivesBy TagThenBy TagThenBufferedBy
 serde_content.specs.Variants index_among variants
 serde_content.specs.RoundTrip ComesBack CoercionKeeps
 serde_content.specs.Laws.Leaves heedless_keeps natural_keeps integer_keeps
@@ -78,6 +81,8 @@ serde_content.specs.Laws.OwnFunctions false_alike true_alike equal_alike text_al
 serde_content.specs.Laws.Flattened flattened_script flattened_first flattened_fits flattened_end_fits
 serde_content.specs.Laws.Flattened flattened_lawful flattened_refusal FlattenedGives flattened_end_back
 serde_content.specs.Laws.Flattened flattened_named_back flattened_named_or_back flattened_back flattened_keeps
+serde_content.specs.Laws.Entries flattened_unless_fits pairs_fit optional_fit
+serde_content.specs.Laws.EntriesLeftOut entry_named_back entry_named_or_back entry_unless_back entries_end_back entries_named
 serde_content.specs.Laws.Tagged tagged_script tagged_back tag_keeps tag_keeps_buffered content_back content_keeps
 serde_content.specs.Laws.Untagged such_seen first_taken later_taken taken_by_one not_refused
 serde_content.specs.Laws.Untagged unit_takes bool_takes number_takes char_takes text_takes seq_takes tuple_takes
@@ -103,6 +108,23 @@ content_cbor.specs.Typed.Flattened flattened_named_kept flattened_named_or_kept 
 content_cbor.specs.Typed.Variants variant_comes_back given_as
 content_cbor.specs.Typed.Variants {' '.join(f'{s}_kept' for s in STYLES[1::2])}
 """)
+# those of files with types that contain themselves
+NESTED_WORDS = word_table("""
+std.specs.Option is_none
+content_de.specs.Outcomes refusal_then
+content_de.specs.Requests.Leaves held_by
+content_de.specs.Accesses.Seq seq_at
+content_de.specs.Accesses.Map map_at
+content_de.specs.Reads.Read Refusal Gives
+content_de.specs.Reads.Standard held_refusal HeldGives seq_refusal SeqGives
+content_de.specs.Reads.Maps map_refusal MapGives
+serde_content.specs.Skips has_none
+content_nested.specs.Nested Nested option_nested seq_nested map_nested
+content_nested.specs.Levels levels_of most_levels
+content_nested.specs.Within refuses_all GivesNothing refusals_within gives_within
+""")
+NESTED_ITEMS = ("FieldsWithin Inner Levels NestedField NestedFieldOr NestedPart Nests PartsWithin ReadNested ReadWithin ReadsNested"
+                " ReadsWithin SendNested SkipNested StructWithin TaggedWithin VariantsWithin").split()
 ALIASES = {"kind": "content_tree.specs.Values.Ranges", "tree": "content_tree.specs.Values.Tree"}
 SEEN = word_table("""
 std.specs.declared.alloc.Global Global
@@ -130,11 +152,12 @@ USES = {
     "serde_content::derive_support":
         f"Absent Aliases DefaultOf NameAt Names NoName OfType OtherAt OwnNames {' '.join(sorted(one for _, one in CHOICES))}"
         " OthersRefused OthersSkipped PartsEnd ReadAliased ReadAliasedElse ReadField ReadFieldElse ReadFieldOr"
-        " ReadFields ReadPart ReadParts ReadStruct SendElement SendEnd SendEntry SendField SendFieldIf SendFieldUnless"
-        " SendInside SendOpen SendPart SendTag Skip SkipIf TaggedVariants Variants"
+        " ReadFields ReadPart ReadParts ReadRest ReadStruct SendAll SendElement SendEnd SendEntries SendEntry SendEntryIf"
+        " SendEntryInside SendEntryUnless SendField SendFieldIf SendFieldUnless SendInside SendOpen SendPart SendRest"
+        " SendTag SendTagEntry Skip SkipIf TaggedVariants TryRest Variants"
         f" {' '.join(sorted(first for first, _ in CHOICES))} count_if count_unless default_text no_such_variant read_adjacent"
-        " read_enum read_enum_by read_flattened read_struct read_tagged refuse_unsent send_row"
-        " variant_index",
+        " read_adjacent_by read_enum read_enum_by read_flattened read_struct read_tagged read_tagged_by"
+        " refuse_unsent send_row variant_index",
     "serde_content::ser": "Call Parts Serialize Serializer",
     "std::alloc": "Global",
     "std::boxed": "BoxedStr",
@@ -146,11 +169,11 @@ USES = {
 NO_PLACES = RESERVED | {"alloc", "fields", "serializer", "result", "row", "whole"} | {
     name for names in USES.values() for name in names.split() if name.islower()}
 IN_TEXT = {"[]": r"\[\]", "form": r"\(form t\)", "custom": r"\(custom ", "Some": r"(?:\(|≡ )Some \(", "None": r"(?:≡|\[\]\)) None",
-           "true": r"(?:fits|λ b\.|≡) true", "false": "≡ false", "name": 'name "', "not": r"\(not ", "variants": r"variants \( \(name"}
+           "true": r"(?:fits|λ b\.|≡) true", "false": r"(?:≡|λ n\.) false", "name": 'name "', "not": r"\(not ", "variants": r"variants \( \(name"}
 METHODS = {"Parts": r"\.(?:with|around)\("}
-# what no own type is called; `S` is the type of a serialiser, and contracts name the two traits
+# what no own type is called; `S` is the type of a serialiser, `Following` of a row, and contracts name the two traits
 TAKEN = {name for names in USES.values() for name in names.split()} | set(HOLDERS) | {
-    "String", "Ok", "Err", "S", "PartialEq", "Ord"}
+    "String", "Ok", "Err", "S", "Following", "PartialEq", "Ord"}
 # what a module names its crates by
 CRATES = {path.split("::")[0] for path in USES} | {module.split(".")[0] for module in WORDS.values()} | {"core"}
 

@@ -185,6 +185,26 @@ pub enum Level {
     Fatal,
 }
 
+mod breadcrumb {
+    use super::*;
+
+    pub fn default_type() -> String {
+        "default".to_string()
+    }
+
+    pub fn is_default_type(ty: &str) -> bool {
+        ty == "default"
+    }
+
+    pub fn default_level() -> Level {
+        Level::Info
+    }
+
+    pub fn is_default_level(level: &Level) -> bool {
+        *level == Level::Info
+    }
+}
+
 // ==== notify_event: a file watcher, an event
 #[derive(Debug, Clone, PartialEq, Eq, Serialize, Deserialize)]
 pub struct WatchEvent {

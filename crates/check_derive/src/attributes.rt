@@ -17,6 +17,7 @@ ghost use Rattle.content_de.specs.Reads.Standard.{HasContent};
 ghost use Rattle.content_de.specs.Accesses.ByName.{fields_left};
 ghost use Rattle.content_de.specs.Reads.Read.{Reads};
 ghost use Rattle.content_de.specs.Reads.ByName.{read_by_name, missing_field, ReadByName, NoOthers};
+ghost use Rattle.content_de.specs.Reads.Tagged.{tag_then_buffered};
 ghost use Rattle.content_de.specs.Reads.Own.{enum_refusal, EnumGives, unit_variant_refusal};
 ghost use Rattle.content_de.specs.Reads.Own.{UnitVariantGives, newtype_variant_refusal};
 ghost use Rattle.content_de.specs.Reads.Own.{NewtypeVariantGives, struct_refusal, StructGives};
@@ -25,7 +26,7 @@ ghost use Rattle.serde_content.specs.Literals.{name, row_then, row_or_then, RowT
 ghost use Rattle.serde_content.specs.Literals.{others_left};
 ghost use Rattle.serde_content.specs.Skips.{fields_less, field_unless, UnreadThen, unsent_script};
 ghost use Rattle.serde_content.specs.Aliases.{aliased_then, AliasedThen};
-ghost use Rattle.serde_content.specs.Tags.{meant, meant_among, EnumGivesBy};
+ghost use Rattle.serde_content.specs.Tags.{meant, meant_among, EnumGivesBy, TagThenBufferedBy};
 ghost use Rattle.serde_content.specs.Variants.{index_among, variants};
 ghost use Rattle.serde_content.specs.RoundTrip.{ComesBack, CoercionKeeps};
 ghost use Rattle.serde_content.specs.Laws.Leaves.{heedless_keeps, natural_keeps, integer_keeps};
@@ -42,6 +43,7 @@ ghost use Rattle.serde_content.specs.Laws.Skips.{keyed_unless_back, keyed_skippe
 ghost use Rattle.serde_content.specs.Laws.Skips.{keyed_named};
 ghost use Rattle.serde_content.specs.Laws.Tags.{meant_variant_kept};
 ghost use Rattle.serde_content.specs.Laws.OwnFunctions.{false_alike, true_alike, equal_alike};
+ghost use Rattle.serde_content.specs.Laws.Tagged.{tagged_script};
 ghost use Rattle.serde_content.specs.Laws.Variants.{variant_back, other_variant, unit_variant_back};
 ghost use Rattle.serde_content.specs.Laws.Variants.{unit_variant_keeps, newtype_variant_back};
 ghost use Rattle.serde_content.specs.Laws.Variants.{newtype_variant_keeps, struct_variant_back};
@@ -58,14 +60,16 @@ ghost use Rattle.content_tree.specs.Values.Ranges as kind;
 ghost use Rattle.check_derive.specs.declared.attributes.Grade.{Grade};
 ghost use Rattle.check_derive.specs.declared.attributes.Grade.TheVariants as grade;
 ghost use Rattle.check_derive.specs.declared.attributes.Way.TheVariants as way;
+ghost use Rattle.check_derive.specs.declared.attributes.Request.TheVariants as request;
 
 use content_cbor::{CborRoundTrip, NotNull};
 use serde_content::de::{Deserialize, FieldsByName, VariantAccess};
 use serde_content::derive_support::{
     Absent, Aliases, DefaultOf, NameAt, Names, NoName, OfType, OtherAt, OthersSkipped, ReadAliased,
     ReadAliasedElse, ReadField, ReadFieldElse, ReadFieldOr, ReadFields, ReadStruct, SendEnd,
-    SendField, SendFieldIf, SendOpen, SkipIf, Variants, count_if, default_text, no_such_variant,
-    read_enum, read_enum_by, read_struct, refuse_unsent, send_row, variant_index,
+    SendField, SendFieldIf, SendOpen, SendTag, SkipIf, TaggedVariants, Variants, count_if,
+    default_text, no_such_variant, read_enum, read_enum_by, read_struct, read_tagged_by,
+    refuse_unsent, send_row, variant_index,
 };
 use serde_content::ser::{Call, Parts, Serialize, Serializer};
 use serde_content::{Deserializer, Result, RoundTrip};
@@ -1352,6 +1356,254 @@ impl<'de> Deserialize<'de> for Way {
     }
 }
 
+/// What a client asks for.
+#[derive(Drop, PartialEq, Eq)]
+pub enum Request {
+    /// To hear of a channel.
+    Listen {
+        /// Its number.
+        channel: u16,
+    },
+    /// To end.
+    Quit,
+    /// What has another tag.
+    Unknown,
+}
+
+/// The names of its fields.
+#[derive(Drop)]
+struct FieldsOfRequestListen;
+
+impl Names for FieldsOfRequestListen {
+    ghost names = { name "op" ∷ name "channel" ∷ [] };
+
+    #[tactic(auto, unfolding(serde_content::specs::Literals::name))]
+    fn names() -> &'static [&'static str] {
+        &["op", "channel"]
+    }
+}
+
+type Field1OfRequestListen = ReadField<
+    FieldsOfRequestListen,
+    1,
+    u16,
+    OthersSkipped<FieldsOfRequestListen>,
+>;
+
+/// Reads the fields, in any order.
+fn read_request_listen<'de, 'n: 'de>(alloc: Global, fields: FieldsByName<'de, 'n>) -> Result<u16>
+    ensures { Reads (
+        (row_then (name "channel") (⟦<u16 as Deserialize<'de>>⟧.refusal)
+        (others_left (name "op" ∷ name "channel" ∷ [])))
+        (fields_left fields.entry))
+        (λ z.
+        (RowThen (name "channel") (⟦<u16 as Deserialize<'de>>⟧.gives) z
+        NoOthers)
+        (fields_left fields.entry)) result }
+{
+    let row: Field1OfRequestListen = ReadFields::read(alloc, fields)?;
+    let ReadField(channel, _, _) = row;
+    Ok(channel)
+}
+
+/// The names of its fields.
+#[derive(Drop)]
+struct FieldsOfRequestQuit;
+
+impl Names for FieldsOfRequestQuit {
+    ghost names = { name "op" ∷ [] };
+
+    #[tactic(auto, unfolding(serde_content::specs::Literals::name))]
+    fn names() -> &'static [&'static str] {
+        &["op"]
+    }
+}
+
+/// The names of its fields.
+#[derive(Drop)]
+struct FieldsOfRequestUnknown;
+
+impl Names for FieldsOfRequestUnknown {
+    ghost names = { name "op" ∷ [] };
+
+    #[tactic(auto, unfolding(serde_content::specs::Literals::name))]
+    fn names() -> &'static [&'static str] {
+        &["op"]
+    }
+}
+
+/// The names of its variants.
+#[derive(Drop)]
+struct NamesOfRequest;
+
+impl Names for NamesOfRequest {
+    ghost names = { name "listen" ∷ name "quit" ∷ name "unknown" ∷ [] };
+
+    #[tactic(auto, unfolding(serde_content::specs::Literals::name))]
+    fn names() -> &'static [&'static str] {
+        &["listen", "quit", "unknown"]
+    }
+}
+
+/// Further names of its variants.
+#[derive(Drop)]
+struct AliasesOfRequest;
+
+impl Names for AliasesOfRequest {
+    ghost names = { name "join" ∷ name "hear" ∷ [] };
+
+    #[tactic(auto, unfolding(serde_content::specs::Literals::name))]
+    fn names() -> &'static [&'static str] {
+        &["join", "hear"]
+    }
+}
+
+/// What each of them stands for.
+#[derive(Drop)]
+struct MeantOfRequest;
+
+impl Names for MeantOfRequest {
+    ghost names = { name "listen" ∷ name "listen" ∷ [] };
+
+    #[tactic(auto, unfolding(serde_content::specs::Literals::name))]
+    fn names() -> &'static [&'static str] {
+        &["listen", "listen"]
+    }
+}
+
+type TagsOfRequest = OtherAt<Aliases<AliasesOfRequest, MeantOfRequest>, NamesOfRequest, 2>;
+
+impl Serialize for Request {
+    ghost script = { elim [
+      | request.Listen x1 ↦ tagged_script (name "Request") 2 (name "op") (name "listen")
+          (field_first (name "channel") (⟦<u16 as Serialize>⟧.script x1)
+          end_script)
+      | request.Quit ↦ tagged_script (name "Request") 1 (name "op") (name "quit")
+          end_script
+      | request.Unknown ↦ tagged_script (name "Request") 1 (name "op") (name "unknown")
+          end_script
+    ] };
+
+    ghost lawful = { elim [
+      | request.Listen x1 ↦ λ readable. struct_lawful
+          (field_fits (leaf_lawful refl)
+          (field_fits (leaf_lawful refl)
+          struct_end_fits))
+      | request.Quit ↦ λ readable. struct_lawful
+          (field_fits (leaf_lawful refl)
+          struct_end_fits)
+      | request.Unknown ↦ λ readable. struct_lawful
+          (field_fits (leaf_lawful refl)
+          struct_end_fits)
+    ] };
+
+    fn serialize<S: Serializer>(&self, alloc: Global, serializer: &mut S) -> Result<()> {
+        match self {
+            Request::Listen { channel } => {
+                let row = SendEnd;
+                let row = SendField(FieldsOfRequestListen, 1, channel, row);
+                let row = SendTag(FieldsOfRequestListen, NamesOfRequest, 0, row);
+                let row = SendOpen(Call::Struct(name_request(), 2), row);
+                send_row(alloc, serializer, &row)
+            }
+            Request::Quit => {
+                let row = SendEnd;
+                let row = SendTag(FieldsOfRequestQuit, NamesOfRequest, 1, row);
+                let row = SendOpen(Call::Struct(name_request(), 1), row);
+                send_row(alloc, serializer, &row)
+            }
+            Request::Unknown => {
+                let row = SendEnd;
+                let row = SendTag(FieldsOfRequestUnknown, NamesOfRequest, 2, row);
+                let row = SendOpen(Call::Struct(name_request(), 1), row);
+                send_row(alloc, serializer, &row)
+            }
+        }
+    }
+}
+
+impl<'de> TaggedVariants<'de> for Request {
+    ghost name = { name "Request" };
+
+    ghost tag_name = { name "op" };
+
+    ghost refusal = { variants ((
+      name "listen",
+      (row_then (name "channel") (⟦<u16 as Deserialize<'de>>⟧.refusal)
+          (others_left (name "op" ∷ name "channel" ∷ []))),
+    )
+        ∷ (name "quit", (others_left (name "op" ∷ [])))
+        ∷ (name "unknown", (others_left (name "op" ∷ [])))
+        ∷ []) };
+
+    ghost named = { elim [
+      | request.Listen x1 ↦ name "listen"
+      | request.Quit ↦ name "quit"
+      | request.Unknown ↦ name "unknown"
+    ] };
+
+    ghost held = { elim [
+      | request.Listen x1 ↦ (RowThen (name "channel") (⟦<u16 as Deserialize<'de>>⟧.gives)
+          x1
+          NoOthers)
+      | request.Quit ↦ NoOthers
+      | request.Unknown ↦ NoOthers
+    ] };
+
+    #[tactic(auto, unfolding(serde_content::specs::Literals::name))]
+    fn name() -> &'static str {
+        "Request"
+    }
+
+    #[tactic(auto, unfolding(serde_content::specs::Literals::name))]
+    fn tag() -> &'static str {
+        "op"
+    }
+
+    fn read_variant<'n: 'de>(
+        alloc: Global,
+        tag: &str,
+        fields: FieldsByName<'de, 'n>,
+    ) -> Result<Request> {
+        match variant_index(tag, &NamesOfRequest) {
+            Some(0) => {
+                let channel = read_request_listen(alloc, fields)?;
+                Ok(Request::Listen { channel })
+            }
+            Some(1) => {
+                let _: OthersSkipped<FieldsOfRequestQuit> = ReadFields::read(alloc, fields)?;
+                Ok(Request::Quit)
+            }
+            Some(2) => {
+                let _: OthersSkipped<FieldsOfRequestUnknown> = ReadFields::read(alloc, fields)?;
+                Ok(Request::Unknown)
+            }
+            _ => Err(no_such_variant(alloc, tag, &NamesOfRequest)),
+        }
+    }
+}
+
+impl<'de> Deserialize<'de> for Request {
+    ghost refusal = { struct_refusal (name "Request")
+        (read_by_name (tag_then_buffered (name "op")
+        (λ tag. ⟦<Request as TaggedVariants<'de>>⟧.refusal
+        (meant_among (name "listen" ∷ name "quit" ∷ name "unknown" ∷ []) (name "unknown")
+        (meant (name "join" ∷ name "hear" ∷ []) (name "listen" ∷ name "listen" ∷ [])
+        tag))))) };
+
+    ghost gives = { λ s y. StructGives (name "Request") (ReadByName
+        (TagThenBufferedBy (λ tag. (meant_among
+        (name "listen" ∷ name "quit" ∷ name "unknown" ∷ []) (name "unknown")
+        (meant (name "join" ∷ name "hear" ∷ []) (name "listen" ∷ name "listen" ∷ []) tag)))
+        (name "op")
+        (⟦<Request as TaggedVariants<'de>>⟧.named y)
+        (⟦<Request as TaggedVariants<'de>>⟧.held y))) s };
+
+    fn deserialize<'n: 'de>(alloc: Global, from: Deserializer<'de, 'n>) -> Result<Request> {
+        read_tagged_by::<TagsOfRequest, Self>(alloc, from)
+    }
+}
+
 /// The name `Grade`.
 #[tactic(auto, unfolding(serde_content::specs::Literals::name))]
 fn name_grade() -> &'static str
@@ -1462,4 +1714,12 @@ fn name_down() -> &'static str
     ensures { result.now ≡ name "Down" }
 {
     "Down"
+}
+
+/// The name `Request`.
+#[tactic(auto, unfolding(serde_content::specs::Literals::name))]
+fn name_request() -> &'static str
+    ensures { result.now ≡ name "Request" }
+{
+    "Request"
 }

@@ -26,8 +26,24 @@ pub fn attempt<'de, 'n: 'de, T: Deserialize<'de>>(
     ensures succeeds { SourceCopyTakesNoMemory (subject from.now).origin
         → T.memoryless (in_buffer (subject from.now)) → IsOk result }
 {
-    let copy = from.try_clone(alloc)?.buffered();
-    match T::deserialize(alloc, copy) {
+    attempt_last(alloc, from.try_clone(alloc)?.buffered())
+}
+
+/// Tries to read a type from what is there, which is used up: a value, or none where that is
+/// refused. It is for an option that has no sign of its own. Only the type takes memory.
+///
+/// # Errors
+///
+/// Out of memory, where an allocation failed.
+#[inline(always)]
+pub fn attempt_last<'de, 'n: 'de, T: Deserialize<'de>>(
+    alloc: Global,
+    from: Deserializer<'de, 'n>,
+) -> Result<Option<T>>
+    ensures value { Tries (T.refusal (subject from.entry)) (T.gives (subject from.entry)) result }
+    ensures succeeds { T.memoryless (subject from.entry) → IsOk result }
+{
+    match T::deserialize(alloc, from) {
         Ok(value) => Ok(Some(value)),
         Err(error) => {
             if matches!(error.kind(), ErrorKind::OutOfMemory) {

@@ -13,6 +13,7 @@
 //! | read elements in order | [`next_part`], [`finish_parts`], [`end_parts`] |
 //! | read fields in order | [`next_field`] |
 //! | read fields by name | [`FieldsByName`], [`named_field`], [`field_or`], [`deny_unknown_fields`] |
+//! | read what fields leave over | [`keep_unknown_fields`], [`attempt_last`] |
 //! | read enums with a tag field, or untagged | [`tag_field`], [`internal_tag`], [`attempt`] |
 //! | read a value in plain form | [`ValueVisitor`] |
 //! | add a part to the path of a refusal | [`Deserializer::deserialize_item`], [`Deserializer::deserialize_field`] |
@@ -47,7 +48,7 @@ mod unknown_names;
 mod variant_access;
 mod within;
 
-pub use attempts::{attempt, attempt_fitting};
+pub use attempts::{attempt, attempt_fitting, attempt_last};
 pub use by_name::FieldsByName;
 pub use deserialize::Deserialize;
 pub use deserializer::Deserializer;
@@ -55,7 +56,8 @@ pub use enum_access::EnumAccess;
 pub use into::IntoDeserializer;
 pub use map::Map;
 pub use named_fields::{
-    deny_unknown_fields, field_or, ignore_unknown_fields, internal_tag, named_field, tag_field,
+    deny_unknown_fields, field_or, ignore_unknown_fields, internal_tag, keep_unknown_fields,
+    named_field, tag_field,
 };
 pub use node::Node;
 pub use parts::{end_parts, finish_parts, next_field, next_part, two_parts};

@@ -4,9 +4,10 @@ ghost use Rattle.std.specs.Prelude.{◌≡◌, ◌≢◌, Some, None, IsOk, ⊤,
 ghost use Rattle.content_tree.specs.Errors.Cause.{out_of_memory};
 ghost use Rattle.content_tree.specs.Values.Text.{text_of};
 ghost use Rattle.content_de.specs.Outcomes.{Answers, cause};
+ghost use Rattle.content_de.specs.Sources.Deserializer.{subject};
 ghost use Rattle.content_de.specs.Reads.Tagged.{tag_at};
 ghost use Rattle.content_de.specs.Accesses.ByName.{field_named, fields_left, without_field};
-ghost use Rattle.content_de.specs.Accesses.ByName.{buffered_fields, ArePairsLeft};
+ghost use Rattle.content_de.specs.Accesses.ByName.{buffered_fields, left_over, ArePairsLeft};
 ghost use Rattle.content_de.specs.Reads.Read.{Reads};
 ghost use Rattle.content_de.specs.Reads.ByName.{found_refusal, FoundGives, FoundMemoryless};
 ghost use Rattle.content_de.specs.Reads.ByName.{missing_field};
@@ -14,6 +15,7 @@ ghost use Rattle.content_de.specs.Reads.ByName.{no_others, others_skipped};
 
 use crate::by_name::FieldsByName;
 use crate::deserialize::Deserialize;
+use crate::deserializer::Deserializer;
 use crate::field_errors::duplicate_field;
 use content_tree::{CowStr, Error, ErrorKind, Result};
 use std::alloc::Global;
@@ -140,16 +142,40 @@ pub fn ignore_unknown_fields(
     if from.is_empty() {
         return Ok(());
     }
-    skip_left(alloc, from, known)
+    none_again(alloc, &from, known)
 }
 
-/// The same where some are left.
-#[inline(never)]
-fn skip_left(alloc: Global, from: FieldsByName<'_, '_>, known: &[&str]) -> Result<()>
+/// Ends the reading of fields by name, for a type of your own that keeps others: gives what is
+/// left, to be read as a map out of a [buffer](Deserializer::buffered), as Serde reads it. No entry
+/// that is left may have a name of `known` again. It takes no memory where they are the pairs of a
+/// map.
+///
+/// # Errors
+///
+/// The first of these names that an entry has: ``duplicate field `NAME` ``; out of memory, where an
+/// allocation failed.
+pub fn keep_unknown_fields<'de, 'n: 'de>(
+    alloc: Global,
+    from: FieldsByName<'de, 'n>,
+    known: &[&str],
+) -> Result<Deserializer<'de, 'n>>
     ensures value { Reads
         (others_skipped (map (λ name. name.now) known.now) (fields_left from.entry))
-        (λ u. ⊤) result }
+        (λ d. subject d ≡ left_over (fields_left from.entry)) result }
     ensures succeeds { others_skipped (map (λ name. name.now) known.now) (fields_left from.entry)
+        ≡ None → ArePairsLeft from.entry → IsOk result }
+{
+    none_again(alloc, &from, known)?;
+    Ok(from.rest(alloc)?.buffered())
+}
+
+/// The refusal of the first of these names that an entry has.
+#[inline(never)]
+fn none_again(alloc: Global, from: &FieldsByName<'_, '_>, known: &[&str]) -> Result<()>
+    ensures value { Reads
+        (others_skipped (map (λ name. name.now) known.now) (fields_left from.now))
+        (λ u. ⊤) result }
+    ensures succeeds { others_skipped (map (λ name. name.now) known.now) (fields_left from.now)
         ≡ None → IsOk result }
 {
     for name in known {

@@ -4,3 +4,4 @@ pub mod Lookups
 pub mod Scripts
 pub mod Names
 pub mod VariantIndex
+pub mod Entries

@@ -17,3 +17,5 @@ pub mod Lookups
 pub mod OwnFunctions
 pub mod Skips
 pub mod Tags
+pub mod Entries
+pub mod EntriesLeftOut

@@ -3,7 +3,9 @@ pub mod Laws
 pub mod Names
 pub mod Choices
 pub mod Literals
+pub mod Rests
 pub mod Variants
 pub mod Skips
 pub mod Aliases
 pub mod Tags
+pub mod Entries

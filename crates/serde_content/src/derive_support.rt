@@ -2,14 +2,18 @@
 
 pub use crate::absent::Absent;
 pub use crate::aliases::{FieldNames, NameAt, NoName, OfType, ReadAliased, ReadAliasedElse};
+pub use crate::entries_sent::{
+    SendEntry, SendEntryIf, SendEntryInside, SendEntryUnless, SendTagEntry,
+};
 pub use crate::fields_read::{
     OthersRefused, OthersSkipped, PartsEnd, ReadField, ReadFieldOr, ReadFields, ReadPart,
     ReadParts, ReadStruct, read_flattened, read_struct,
 };
 pub use crate::fields_sent::{
-    SendElement, SendEnd, SendEntry, SendField, SendFieldUnless, SendInside, SendOpen, SendPart,
-    SendRow, SendTag, refuse_unsent, send_row,
+    SendElement, SendEnd, SendField, SendFieldUnless, SendInside, SendOpen, SendPart, SendRow,
+    SendTag, refuse_unsent, send_row,
 };
+pub use crate::flattened_sent::{SendAll, SendEntries, SendRest};
 pub use crate::name_lists::{Names, no_such_variant, variant_index};
 pub use crate::one_of::{
     OneOfFour, OneOfThree, OneOfTwo, first_of_four, first_of_three, first_of_two,
@@ -17,6 +21,10 @@ pub use crate::one_of::{
 pub use crate::own_functions::{
     DefaultOf, ReadFieldElse, SendFieldIf, SkipIf, count_if, default_text,
 };
+pub use crate::rests::{ReadRest, TryRest};
 pub use crate::skips::{Skip, count_unless};
 pub use crate::tags::{Aliases, OtherAt, OwnNames, Tags, read_enum_by};
-pub use crate::variants::{TaggedVariants, Variants, read_adjacent, read_enum, read_tagged};
+pub use crate::variants::{
+    TaggedVariants, Variants, read_adjacent, read_adjacent_by, read_enum, read_tagged,
+    read_tagged_by,
+};

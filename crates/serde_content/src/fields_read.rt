@@ -132,7 +132,7 @@ impl<'de, K: Names, const I: usize, T: Deserialize<'de> + Absent, R: ReadFields<
 
 /// The end of the fields with the names `K`: others are skipped, and none of these comes again.
 #[derive(Drop)]
-pub struct OthersSkipped<K>(PhantomData<K>);
+pub struct OthersSkipped<K>(pub(crate) PhantomData<K>);
 
 impl<'de, K: Names> ReadFields<'de> for OthersSkipped<K> {
     ghost refusal = { others_left K.names };

@@ -13,7 +13,6 @@ ghost use Rattle.content_ser.specs.Scripts.Standard.{call_first, element_first, 
 ghost use Rattle.content_ser.specs.Sending.Aside.{answer_of};
 ghost use Rattle.content_ser.specs.Serializers.Step.{Takes};
 ghost use Rattle.serde_content.specs.Skips.{field_unless, unsent_script};
-ghost use Rattle.serde_content.specs.Laws.Flattened.{flattened_first};
 
 use crate::name_lists::{Names, name_at};
 use crate::skips::Skip;
@@ -37,7 +36,11 @@ fn announce_field<K: Names, S: Serializer>(
 
 /// The name with this index among the names `K`, as a text.
 #[inline(always)]
-fn send_name<K: Names, S: Serializer>(index: usize, serializer: &mut S, error: &mut Error) -> Sent
+pub(crate) fn send_name<K: Names, S: Serializer>(
+    index: usize,
+    serializer: &mut S,
+    error: &mut Error,
+) -> Sent
     ensures { Takes S.step S.refuses (S.seen serializer.old)
         (event.text (slice_index_or K.names index []))
         (answer_of result error.new) (S.seen serializer.new) }
@@ -153,24 +156,6 @@ impl<K: Names, C: SendRow, R: SendRow> SendRow for SendInside<K, C, R> {
     fn send<S: Serializer>(&self, alloc: Global, serializer: &mut S, error: &mut Error) -> Sent {
         announce_field::<K, S>(self.1, serializer, error)?;
         self.2.send(alloc, serializer, error)?;
-        self.3.send(alloc, serializer, error)
-    }
-}
-
-/// An entry of a map whose key is a text, as a flattened field is sent, and those after it.
-#[derive(Drop)]
-pub struct SendEntry<'a, K, T, R>(pub K, pub usize, pub &'a T, pub R);
-
-impl<'a, K: Names, T: Serialize, R: SendRow> SendRow for SendEntry<'a, K, T, R> {
-    ghost script = { λ row. flattened_first (slice_index_or K.names row.1 []) (T.script row.2.now)
-        (R.script row.3) };
-
-    #[inline(always)]
-    fn send<S: Serializer>(&self, alloc: Global, serializer: &mut S, error: &mut Error) -> Sent {
-        serializer.call_aside(Call::Key, error)?;
-        send_name::<K, S>(self.1, serializer, error)?;
-        serializer.call_aside(Call::Value, error)?;
-        self.2.serialize_aside(alloc, serializer, error)?;
         self.3.send(alloc, serializer, error)
     }
 }

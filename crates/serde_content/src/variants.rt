@@ -12,9 +12,11 @@ ghost use Rattle.content_de.specs.Reads.Own.{enum_refusal, EnumGives, struct_ref
 ghost use Rattle.content_de.specs.Reads.Read.{Reads};
 ghost use Rattle.content_de.specs.Reads.Tagged.{tag_then, TagThen, tag_then_buffered};
 ghost use Rattle.content_de.specs.Reads.Tagged.{TagThenBuffered};
+ghost use Rattle.serde_content.specs.Tags.{TagThenBy, TagThenBufferedBy};
 ghost use Rattle.serde_content.specs.Variants.{VariantGives};
 
 use crate::name_lists::position_of;
+use crate::tags::{OwnNames, Tags};
 use content_de::{Deserializer, FieldsByName, VariantAccess, internal_tag, tag_field};
 use content_tree::{CowStr, Error, Result};
 use std::alloc::Global;
@@ -115,28 +117,32 @@ pub(crate) fn in_variant<'de, T: Variants<'de>>(
     }
 }
 
-/// The tag of an enum that is tagged internally, wherever it is, and then the variant.
-fn read_tagged_by<'de, 'n: 'de, T: TaggedVariants<'de>>(
+/// The tag of an enum that is tagged internally, wherever it is, and then the variant that it stands
+/// for.
+fn tagged_at<'de, 'n: 'de, N: Tags, T: TaggedVariants<'de>>(
     alloc: Global,
     mut fields: FieldsByName<'de, 'n>,
     name: &str,
 ) -> Result<T>
-    ensures { Reads (tag_then_buffered name.now T.refusal (fields_left fields.entry))
-        (λ y. TagThenBuffered name.now (T.named y) (T.held y) (fields_left fields.entry)) result }
+    ensures { Reads
+        (tag_then_buffered name.now (λ tag. T.refusal (N.meant tag)) (fields_left fields.entry))
+        (λ y. TagThenBufferedBy N.meant name.now (T.named y) (T.held y) (fields_left fields.entry)) result }
 {
     let tag = internal_tag(alloc, &mut fields, name)?;
-    T::read_variant(alloc, tag.as_str(), fields)
+    T::read_variant(alloc, N::meant(tag.as_str()), fields)
 }
 
 /// The same by the name of its tag.
-fn read_tagged_fields<'de, 'n: 'de, T: TaggedVariants<'de>>(
+fn tagged_fields<'de, 'n: 'de, N: Tags, T: TaggedVariants<'de>>(
     alloc: Global,
     fields: FieldsByName<'de, 'n>,
 ) -> Result<T>
-    ensures { Reads (tag_then_buffered T.tag_name T.refusal (fields_left fields.entry))
-        (λ y. TagThenBuffered T.tag_name (T.named y) (T.held y) (fields_left fields.entry)) result }
+    ensures { Reads
+        (tag_then_buffered T.tag_name (λ tag. T.refusal (N.meant tag)) (fields_left fields.entry))
+        (λ y. TagThenBufferedBy N.meant T.tag_name (T.named y) (T.held y) (fields_left fields.entry))
+        result }
 {
-    read_tagged_by(alloc, fields, T::tag())
+    tagged_at::<N, T>(alloc, fields, T::tag())
 }
 
 /// Reads an enum that is tagged internally: the tag, wherever it is, and then the variant that it
@@ -154,34 +160,57 @@ pub fn read_tagged<'de, 'n: 'de, T: TaggedVariants<'de>>(
         (λ y. StructGives T.name (ReadByName (TagThenBuffered T.tag_name (T.named y) (T.held y)))
         (subject from.entry)) result }
 {
+    read_tagged_by::<OwnNames, T>(alloc, from)
+}
+
+/// The same where the tag stands for the name of a variant.
+///
+/// # Errors
+///
+/// As those of [`read_tagged`].
+pub fn read_tagged_by<'de, 'n: 'de, N: Tags, T: TaggedVariants<'de>>(
+    alloc: Global,
+    from: Deserializer<'de, 'n>,
+) -> Result<T>
+    ensures { Reads (struct_refusal T.name
+        (read_by_name (tag_then_buffered T.tag_name (λ tag. T.refusal (N.meant tag))))
+        (subject from.entry))
+        (λ y. StructGives T.name
+        (ReadByName (TagThenBufferedBy N.meant T.tag_name (T.named y) (T.held y)))
+        (subject from.entry)) result }
+{
     let fields = from
         .deserialize_struct(alloc, T::name(), &[T::tag()])?
         .by_name();
-    read_tagged_fields(alloc, fields)
+    tagged_fields::<N, T>(alloc, fields)
 }
 
-/// The tag of an enum that is tagged adjacently, wherever it is, and then the variant.
-fn read_adjacent_by<'de, 'n: 'de, T: TaggedVariants<'de>>(
+/// The tag of an enum that is tagged adjacently, wherever it is, and then the variant that it stands
+/// for.
+fn adjacent_at<'de, 'n: 'de, N: Tags, T: TaggedVariants<'de>>(
     alloc: Global,
     mut fields: FieldsByName<'de, 'n>,
     name: &str,
 ) -> Result<T>
-    ensures { Reads (tag_then name.now T.refusal (fields_left fields.entry))
-        (λ y. TagThen name.now (T.named y) (T.held y) (fields_left fields.entry)) result }
+    ensures { Reads
+        (tag_then name.now (λ tag. T.refusal (N.meant tag)) (fields_left fields.entry))
+        (λ y. TagThenBy N.meant name.now (T.named y) (T.held y) (fields_left fields.entry)) result }
 {
     let tag = tag_field(alloc, &mut fields, name)?;
-    T::read_variant(alloc, tag.as_str(), fields)
+    T::read_variant(alloc, N::meant(tag.as_str()), fields)
 }
 
 /// The same by the name of its tag.
-fn read_adjacent_fields<'de, 'n: 'de, T: TaggedVariants<'de>>(
+fn adjacent_fields<'de, 'n: 'de, N: Tags, T: TaggedVariants<'de>>(
     alloc: Global,
     fields: FieldsByName<'de, 'n>,
 ) -> Result<T>
-    ensures { Reads (tag_then T.tag_name T.refusal (fields_left fields.entry))
-        (λ y. TagThen T.tag_name (T.named y) (T.held y) (fields_left fields.entry)) result }
+    ensures { Reads
+        (tag_then T.tag_name (λ tag. T.refusal (N.meant tag)) (fields_left fields.entry))
+        (λ y. TagThenBy N.meant T.tag_name (T.named y) (T.held y) (fields_left fields.entry))
+        result }
 {
-    read_adjacent_by(alloc, fields, T::tag())
+    adjacent_at::<N, T>(alloc, fields, T::tag())
 }
 
 /// Reads an enum that is tagged adjacently: the tag, wherever it is, and then the variant that it
@@ -199,8 +228,27 @@ pub fn read_adjacent<'de, 'n: 'de, T: TaggedVariants<'de>>(
         (λ y. StructGives T.name (ReadByName (TagThen T.tag_name (T.named y) (T.held y)))
         (subject from.entry)) result }
 {
+    read_adjacent_by::<OwnNames, T>(alloc, from)
+}
+
+/// The same where the tag stands for the name of a variant.
+///
+/// # Errors
+///
+/// As those of [`read_tagged`].
+pub fn read_adjacent_by<'de, 'n: 'de, N: Tags, T: TaggedVariants<'de>>(
+    alloc: Global,
+    from: Deserializer<'de, 'n>,
+) -> Result<T>
+    ensures { Reads (struct_refusal T.name
+        (read_by_name (tag_then T.tag_name (λ tag. T.refusal (N.meant tag))))
+        (subject from.entry))
+        (λ y. StructGives T.name
+        (ReadByName (TagThenBy N.meant T.tag_name (T.named y) (T.held y)))
+        (subject from.entry)) result }
+{
     let fields = from
         .deserialize_struct(alloc, T::name(), &[T::tag()])?
         .by_name();
-    read_adjacent_fields(alloc, fields)
+    adjacent_fields::<N, T>(alloc, fields)
 }

@@ -7,6 +7,7 @@ mod choices;
 mod cursor;
 mod inlined;
 mod more;
+mod nested;
 mod others;
 mod sorts;
 mod trees;

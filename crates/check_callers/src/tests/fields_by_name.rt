@@ -1,11 +1,12 @@
 //! Fields taken by name, in any order, and what they leave.
 
 use serde_content::de::{
-    FieldsByName, attempt, deny_unknown_fields, field_or, ignore_unknown_fields, named_field,
-    tag_field,
+    FieldsByName, attempt, attempt_last, deny_unknown_fields, field_or, ignore_unknown_fields,
+    keep_unknown_fields, named_field, tag_field,
 };
 use serde_content::{Deserializer, Result as Answer, Value};
 use std::alloc::Global;
+use std::collections::BTreeMap;
 use std::test::Fail;
 
 /// `{ "b": 2u8, "a": 1u8, "kind": "k" }`, to be taken by name.
@@ -76,5 +77,27 @@ fn what_is_left_is_refused(rt: HostRuntime) -> Result<(), Fail> {
     assert!(rt; text_of(alloc, left)?.as_str() == wanted);
     let left = ignore_unknown_fields(alloc, three_fields(alloc)?, &["a"]);
     assert!(rt; text_of(alloc, left)?.as_str() == "duplicate field `a`");
+    Ok(())
+}
+
+#[test]
+fn what_is_left_is_kept(rt: HostRuntime) -> Result<(), Fail> {
+    let alloc = rt.alloc();
+    let mut fields = three_fields(alloc)?;
+    let kind = fields.take_named("kind");
+    assert!(rt; kind.is_some());
+    let kept = keep_unknown_fields(alloc, fields, &["kind"])?;
+    let map: BTreeMap<String, u64> = kept.deserialize(alloc)?;
+    assert!(rt; map.len() == 2);
+    let again = keep_unknown_fields(alloc, three_fields(alloc)?, &["c", "a"]);
+    match again {
+        Ok(_) => assert!(rt; false),
+        Err(error) => {
+            assert!(rt; format!(in alloc; "{error}")?.as_str() == "duplicate field `a`");
+        }
+    }
+    let kept = keep_unknown_fields(alloc, three_fields(alloc)?, &[])?;
+    let refused: Option<BTreeMap<String, u64>> = attempt_last(alloc, kept)?;
+    assert!(rt; refused.is_none());
     Ok(())
 }

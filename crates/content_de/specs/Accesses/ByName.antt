@@ -10,7 +10,7 @@ use Rattle.content_tree.specs.Values.Lookups.{is_text}
 use Rattle.content_tree.specs.declared.cow.CowStr.{CowStr}
 use Rattle.content_tree.specs.declared.value.NamedValue.{NamedValue}
 use Rattle.content_de.specs.Sources.Origin.{Origin, of_tree, of_identifier, Flags, Subject}
-use Rattle.content_de.specs.Sources.Origin.{tree_under, buffering}
+use Rattle.content_de.specs.Sources.Origin.{tree_under, buffering, in_buffer}
 use Rattle.content_de.specs.Sources.Deserializer.{flags_of}
 use Rattle.content_de.specs.Accesses.Map.{MapLeft}
 use Rattle.content_de.specs.declared.by_name.Left.{Left}
@@ -78,3 +78,7 @@ ArePairsLeft f = (f.keyless ≡ None) × HoldsPairs f.left
 -- the entries that are left as a map
 abbrev pub rest_of : FieldsLeft → Subject
 rest_of f = tree_under f.flags (tree.map (pairs_of f.entries))
+
+-- the same, read out of a buffer
+abbrev pub left_over : FieldsLeft → Subject
+left_over f = in_buffer (rest_of f)

@@ -105,7 +105,7 @@ pub keyed_or_back : {A Y : Type 0} {exists : A → Type 0} {script : ScriptOf A}
 keyed_or_back name missing back x real see more = unfold row_or_then RowOrThen in keyed_entry_back name None missing back x real see more
 
 -- no entry has the name: what is read in its place passes
-entry_missing : {A Y : Type 0} {passes : A → Type 0} {such : Y → Type 0} (refusal : Refusal) (gives : Gives A) (others : FieldsLeft → Option Cause) (given : Y → FieldsLeft → Type 0)
+pub entry_missing : {A Y : Type 0} {passes : A → Type 0} {such : Y → Type 0} (refusal : Refusal) (gives : Gives A) (others : FieldsLeft → Option Cause) (given : Y → FieldsLeft → Type 0)
     (name : List ℕ) (missing : A → Type 0) (see : Y → A) (f : Flags) (es : List (Tree × Tree)) → Misses name es → ((a : A) → missing a → passes a)
     → GivesOnly (others (named_under f es)) (λ y. given y (named_under f es)) such
     → GivesOnly (entry_refusal name None refusal others (named_under f es)) (λ y. EntryGives name missing gives (see y) (given y) (named_under f es)) (λ y. passes (see y) × such y)

@@ -1,0 +1,21 @@
+use Rattle.std.proofs.Common.{◌≡◌, ◌+◌, List, ◌++◌}
+use Rattle.std.specs.Vec.{vec_len, vec_capacity}
+use Rattle.content_de.specs.Accesses.Seq.{seq_view, count}
+use Rattle.content_de.specs.Reads.Standard.{seq_refusal, SeqGives}
+use Rattle.content_nested.proofs.holders_read.read_items.Given as goal
+
+-- what is left is refused where all is, and what it may give, put after the items so far, all may give; there is room for
+-- what is left
+abbrev pub invariant-loop-item : goal.invariant-loop-item
+invariant-loop-item g l =
+    let levels = l.levels in
+    let refusal = g.L.ReadsWithin.refusal levels in
+    let gives = g.L.ReadsWithin.gives levels in
+    record {
+      refusal : seq_refusal refusal (seq_view l.from) ≡ seq_refusal refusal (seq_view l.initial.from);
+      gives : (rest : List _) → SeqGives gives (seq_view l.from) rest → SeqGives gives (seq_view l.initial.from) (l.items.items ++ rest);
+      room : vec_len l.items + count (seq_view l.from).items ≡ vec_capacity l.items;
+    }
+
+abbrev pub decreases-loop-item : goal.decreases-loop-item
+decreases-loop-item g l = count (seq_view l.from).items

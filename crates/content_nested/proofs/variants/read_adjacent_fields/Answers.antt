@@ -1,0 +1,4 @@
+use Rattle.content_nested.proofs.variants.read_adjacent_fields.Goals as goal
+
+pub returns : goal.returns
+returns g c = rw c.tag.ensures at c.read_adjacent_by.ensures

@@ -1,4 +1,0 @@
-use Rattle.serde_content.proofs.variants.read_adjacent_fields.Goals as goal
-
-pub returns : goal.returns
-returns g c = rw c.tag.ensures at c.read_adjacent_by.ensures

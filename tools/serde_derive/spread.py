@@ -1,0 +1,51 @@
+"""Which types send entries of a map where they are flattened."""
+from typing import Dict
+
+from .declarations import Field, Item, Variant
+from .types import SPREAD, Type
+
+UNSPREAD = ("is covered where it is a struct or an enum of this file, without parameters, a BTreeMap, a HashMap, or one of these"
+            " in an Option or a Box: hold one, or delete `flatten`")
+MOST_SPREAD = 8  # proofs of longer rows that go on with what follows are not found
+
+
+def is_inlined(f: Field, items: Dict[str, Item]) -> bool:
+    """Whether the fields of this flattened one are sent and read in its place: not where it takes the rest."""
+    part = items.get(f.type.name)
+    if not part or part.sort != "struct" or not set(f.serde) <= {"flatten", "default"}:
+        return False
+    return not part.covered or (part.data.named and not part.data.closed and not part.transparent()
+                                and not any(one.rest for one in part.data.fields))
+
+
+def why_unspread(t: Type, items: Dict[str, Item]) -> str:
+    """Why a flattened field of this type, which isn't inlined, can't be sent, or nothing; the types of the file that it then
+    needs are `spread`."""
+    part = items.get(t.name)
+    if t.name in ("Option", "Box"):
+        return why_unspread(t.arguments[0], items)
+    if t.name in SPREAD or (part and not part.covered):
+        return ""
+    if not part or t.arguments or not (part.variants or part.data.style in ("Struct", "Newtype")):
+        return UNSPREAD
+    most = MOST_SPREAD - ("tag" in part.serde)
+    rows = [(v.beside or v).data.leaves() for v in part.variants] or [part.data.leaves()]
+    if max(map(len, rows)) > most:
+        return f"is covered so where it has up to {most} fields: hold some in a struct that is not flattened"
+    part.spread = True
+    if part.data.style == "Newtype" or part.transparent():
+        return why_unspread(part.data.fields[0].type, items)
+    return next(filter(None, (why_variant_unspread(part, v, items) for v in part.variants)), "")
+
+
+def why_variant_unspread(part: Item, v: Variant, items: Dict[str, Item]) -> str:
+    """The same of a variant."""
+    alone, name = v.data.style == "Newtype", f"{part.name}::{v.name}"
+    if not v.sent:
+        return f"is not covered where it is an enum with a variant that isn't sent, as `{name}`: delete that"
+    if "untagged" in part.serde:
+        covered = v.data.style in ("Struct", "Unit") or (alone and not why_unspread(v.data.fields[0].type, items))
+    else:
+        covered = "tag" in part.serde or alone or v.data.named
+    return "" if covered else (f"is not covered where it is an enum with a variant as `{name}`: hold a struct there, or give the"
+                               " enum a `tag`")
