@@ -410,7 +410,7 @@ def nested() -> Dict[str, str]:
     made["nested_struct_1"] = f"{ALL}\npub struct Tried {{ pub x: Vec<Tried>, pub y: i32 }}"
     made["nested_struct_2"] = f"{ALL}\npub struct Tried {{ pub x: Option<Box<Tried>>, pub y: i32 }}"
     variants = ["A", "B(String)", "C(Box<Tried>)", "D(Vec<Tried>, bool)", "E { x: Box<Tried>, y: Option<Own> }",
-                "F(u32)", "G { x: u8 }", "H { x: Vec<Deep>, y: Vec<Tried> }"]
+                "F(u32)", "G { x: u8 }", "H { x: String, y: Vec<Tried> }"]
     for count in (2, 4, 8):
         body = ", ".join(f"{variants[i % 8][0]}{i}{variants[i % 8][1:]}" for i in range(count + 2))
         for sort, derives in (("all", ALL), ("sent", SENT), ("read", READ)):

@@ -1019,3 +1019,7 @@ struct F<T> {
 #[derive(Deserialize)]
 #[serde(untagged)]
 enum G<T> { X(T), Y { y: u8 } }
+
+// 2: A.X.y: `A` contains itself, which is not covered in a variant of two collections: hold one in another struct
+#[derive(Serialize)]
+enum A { X { x: Option<Vec<u8>>, y: Vec<A> }, Y }

@@ -416,9 +416,6 @@ class Item(Named):
             return "it contains itself, and is read to a limit of levels"
         for f in self.lost():
             return f"`{f.name}` {f.why_lost()}"
-        for f in self.data.leaves() if self.flattens() else ():
-            if f.rest:
-                return f"`{f.name}` is flattened, and no struct of this file"
         for v in self.one_way():
             if v.wire != v.known:
                 return f"variant `{v.name}` is read by another name than it is sent by"
