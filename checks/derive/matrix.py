@@ -410,14 +410,13 @@ def nested() -> Dict[str, str]:
     made["nested_struct_1"] = f"{ALL}\npub struct Tried {{ pub x: Vec<Tried>, pub y: i32 }}"
     made["nested_struct_2"] = f"{ALL}\npub struct Tried {{ pub x: Option<Box<Tried>>, pub y: i32 }}"
     variants = ["A", "B(String)", "C(Box<Tried>)", "D(Vec<Tried>, bool)", "E { x: Box<Tried>, y: Option<Own> }",
-                "F(u32)", "G { x: u8 }", "H { x: String, y: Vec<Tried> }"]
-    for count in (2, 4, 8):
-        body = ", ".join(f"{variants[i % 8][0]}{i}{variants[i % 8][1:]}" for i in range(count + 2))
+                "F(u32)"]
+    for count in (2, 4):
+        body = ", ".join(f"{variants[i][0]}{i}{variants[i][1:]}" for i in range(count + 2))
         for sort, derives in (("all", ALL), ("sent", SENT), ("read", READ)):
             made[f"nested_{sort}_{count}"] = f"{derives}\npub enum Tried {{ {body} }}"
     made["nested_long"] = f"{ALL}\npub enum Tried {{ {word(40).capitalize()}, B {{ {word(40)}: Box<Tried> }} }}"
-    part = f"{ALL}\npub struct Part {{ pub p: u8, pub q: Option<u8> }}\n\n"
-    made["nested_internal"] = (f'{part}{ALL}\n#[serde(tag = "t")]\npub enum Tried {{ A, B {{ x: Vec<Tried>, y: u32 }}, C(Part),'
+    made["nested_internal"] = (f'{ALL}\n#[serde(tag = "t")]\npub enum Tried {{ A, B {{ x: Vec<Tried>, y: u32 }}, C {{ x: u8 }},'
                                " D { x: Box<Tried> } }")
     made["nested_held"] = (f"{ALL}\npub enum Other {{ A(Vec<Other>), B }}\n\n"
                            f"{ALL}\npub struct Tried {{ pub x: Other, pub y: Vec<Other>, pub z: u8 }}")

@@ -1023,3 +1023,14 @@ enum G<T> { X(T), Y { y: u8 } }
 // 2: A.X.y: `A` contains itself, which is not covered in a variant of two collections: hold one in another struct
 #[derive(Serialize)]
 enum A { X { x: Option<Vec<u8>>, y: Vec<A> }, Y }
+
+// 2: A: `A` contains itself, which is not covered in an enum of more than 6 variants: hold some in another enum
+#[derive(Serialize)]
+enum A { X(Vec<A>), Y, Z, U, V, W, T }
+
+// 3: A.Y: `A` contains itself, which is not covered in a struct beside its tag: write its fields in the variant
+#[derive(Serialize)]
+#[serde(tag = "t")]
+enum A { X { x: Vec<A> }, Y(B) }
+#[derive(Serialize)]
+struct B { x: u8 }

@@ -10,6 +10,7 @@ from .words import NESTED_ITEMS, NESTED_WORDS
 USED = re.compile(rf"Below|Inner\d+|{'|'.join([*NESTED_ITEMS, *NESTED_WORDS])}")
 MOST_NAMED = 8  # a message names no more types
 LONGEST_NESTED = 2  # of a struct or a variant: the proofs of longer rows take too long
+MOST_VARIANTS = 6  # of an enum: those of more are not always proved
 COLLECTIONS = set(HOLDERS) - POINTERS - {"Option", "&"}
 
 
@@ -64,6 +65,8 @@ def check_nested(item: Item, items: List[Item]) -> Iterator[Refused]:
         reasons.append(f"{what} not covered through {others}: {by_hand}")
     if not item.variants and not item.data.named:
         reasons.append(f"{what} not covered in a struct without named fields: name them")
+    if len(item.variants) > MOST_VARIANTS:
+        reasons.append(f"{what} not covered in an enum of more than {MOST_VARIANTS} variants: hold some in another enum")
     if item.name in RESERVED:
         reasons.append(f"{what} not covered under a name that contracts use themselves: give the type another name, and this one by"
                        f" `#[serde(rename = \"{item.name}\")]`")
@@ -79,7 +82,7 @@ def check_nested(item: Item, items: List[Item]) -> Iterator[Refused]:
         reasons.append(f"{what} not covered where a variant has `alias`, `other` or `skip`: {by_hand}")
     yield from (Refused(item.line, reason, item.name) for reason in reasons[:1])
     for v in item.variants if not reasons else ():
-        if v.beside and any(f.type.leads_back() for f in (*v.data.fields, *v.beside.data.fields)):
+        if v.beside:
             yield Refused(v.line, f"`{item.name}` contains itself, which is not covered in a struct beside its tag: write its"
                           " fields in the variant", f"{item.name}.{v.name}")
     parts = [(v.data, v.line, f"{item.name}.{v.name}") for v in item.variants] or [(item.data, item.line, item.name)]
