@@ -409,15 +409,20 @@ def nested() -> Dict[str, str]:
         made[f"nested_enum_{place}"] = f"{ALL}\npub enum Tried {{ A, B({way}), C(u8, {way}), D {{ x: {way}, y: u32 }} }}"
     made["nested_struct_1"] = f"{ALL}\npub struct Tried {{ pub x: Vec<Tried>, pub y: i32 }}"
     made["nested_struct_2"] = f"{ALL}\npub struct Tried {{ pub x: Option<Box<Tried>>, pub y: i32 }}"
-    variants = ["A", "B(String)", "C(Box<Tried>)", "D(Vec<Tried>, bool)", "E { x: Box<Tried>, y: Option<Own> }",
-                "F(u32)"]
-    for count in (2, 4):
-        body = ", ".join(f"{variants[i][0]}{i}{variants[i][1:]}" for i in range(count + 2))
-        for sort, derives in (("all", ALL), ("sent", SENT), ("read", READ)):
-            made[f"nested_{sort}_{count}"] = f"{derives}\npub enum Tried {{ {body} }}"
+    body = "A0, B1(String), C2(Box<Tried>), D3(Vec<Tried>, bool)"
+    for sort, derives in (("all", ALL), ("sent", SENT), ("read", READ)):
+        made[f"nested_{sort}"] = f"{derives}\npub enum Tried {{ {body} }}"
     made["nested_long"] = f"{ALL}\npub enum Tried {{ {word(40).capitalize()}, B {{ {word(40)}: Box<Tried> }} }}"
     made["nested_internal"] = (f'{ALL}\n#[serde(tag = "t")]\npub enum Tried {{ A, B {{ x: Vec<Tried>, y: u32 }}, C {{ x: u8 }},'
                                " D { x: Box<Tried> } }")
+    made["nested_boxes"] = f"{ALL}\npub enum Tried {{ A(u64), B(Box<Tried>, Box<Tried>), C {{ x: Box<Tried>, y: Box<Tried> }} }}"
+    made["nested_tree"] = f"{ALL}\npub struct Tried {{ pub x: Option<Box<Tried>>, pub y: Option<Box<Tried>> }}"
+    most = ("A { x: Vec<Tried>, y: String }, B { x: Box<Tried>, y: Option<Own> }, C { x: Option<Box<Tried>>, y: Vec<u8> },"
+            " D { x: bool, y: Vec<Tried> }")
+    made["nested_most"] = f"{ALL}\npub enum Tried {{ {most} }}"
+    made["nested_most_internal"] = f'{ALL}\n#[serde(tag = "t")]\npub enum Tried {{ {most} }}'
+    made["nested_most_by_place"] = (f"{ALL}\npub enum Tried {{ A(Vec<Tried>, String), B(Box<Tried>, Option<Box<Tried>>), C(char, Vec<Tried>),"
+                                    " D(u8, String, bool, Own) }")
     made["nested_held"] = (f"{ALL}\npub enum Other {{ A(Vec<Other>), B }}\n\n"
                            f"{ALL}\npub struct Tried {{ pub x: Other, pub y: Vec<Other>, pub z: u8 }}")
     return made

@@ -1020,13 +1020,16 @@ struct F<T> {
 #[serde(untagged)]
 enum G<T> { X(T), Y { y: u8 } }
 
-// 2: A.X.y: `A` contains itself, which is not covered in a variant of two collections: hold one in another struct
+// 2: A.X.x: `A` contains itself, which is not covered where a Vec of it is next to anything but a bool, char, number or String: give the Vec a variant of its own
+// 4: B.y: `B` contains itself, which is not covered where a Vec of it is next to anything but a bool, char, number or String: write its impls by hand
 #[derive(Serialize)]
 enum A { X { x: Option<Vec<u8>>, y: Vec<A> }, Y }
-
-// 2: A: `A` contains itself, which is not covered in an enum of more than 6 variants: hold some in another enum
 #[derive(Serialize)]
-enum A { X(Vec<A>), Y, Z, U, V, W, T }
+struct B { x: Vec<B>, y: Vec<B> }
+
+// 2: A: `A` contains itself, which is not covered in an enum of more than 4 variants: hold some in another enum
+#[derive(Serialize)]
+enum A { X(Vec<A>), Y, Z, U, V }
 
 // 3: A.Y: `A` contains itself, which is not covered in a struct beside its tag: write its fields in the variant
 #[derive(Serialize)]

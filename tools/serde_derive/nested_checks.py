@@ -4,14 +4,14 @@ from typing import Iterator, List
 
 from .declarations import Data, Item, NotRust, Refused
 from .holder import LONGEST_HELD
-from .types import ELSEWHERE, HOLDERS, POINTERS, RESERVED, SIGNED, Type
+from .types import ELSEWHERE, NUMBERS, RESERVED, SIGNED, Type
 from .words import NESTED_ITEMS, NESTED_WORDS
 
 USED = re.compile(rf"Below|Inner\d+|{'|'.join([*NESTED_ITEMS, *NESTED_WORDS])}")
 MOST_NAMED = 8  # a message names no more types
 LONGEST_NESTED = 2  # of a struct or a variant: the proofs of longer rows take too long
-MOST_VARIANTS = 6  # of an enum: those of more are not always proved
-COLLECTIONS = set(HOLDERS) - POINTERS - {"Option", "&"}
+MOST_VARIANTS = 4  # of an enum: those of more are not always proved
+ALONE = {"bool", "char", "()", "String", *NUMBERS}  # next to a Vec: of others proofs are not always found
 
 
 def holds_as(t: Type) -> str:
@@ -21,11 +21,6 @@ def holds_as(t: Type) -> str:
     held = t.arguments[0] if t.name == "Option" else t
     covered = held.name == "Box" or t.name == "Vec"
     return "" if covered and held.arguments[0].nested else t.rust()
-
-
-def collects(t: Type) -> bool:
-    """Whether values of a type hold many of another."""
-    return t.name in COLLECTIONS or any(map(collects, t.arguments))
 
 
 def inside(t: Type) -> Iterator[str]:
@@ -103,10 +98,12 @@ def check_data(item: Item, data: Data, line: int, where: str) -> Iterator[Refuse
         elif item.variants and f.type.name in SIGNED:
             yield Refused(f.line, "a signed number is not covered in a variant of a type that contains itself: hold it in a struct",
                           f"{where}.{f.name}")
-    many = [f for f in data.fields if collects(f.type)]
-    if len(many) > 1 and any(f.type.leads_back() for f in many):
-        yield Refused(many[1].line, f"`{item.name}` contains itself, which is not covered in a {sort} of two collections: hold one in"
-                      " another struct", f"{where}.{many[1].name}")
+    many = [f for f in data.fields if f.type.name == "Vec" and f.type.leads_back()]
+    beside = [f for f in data.fields if many and f is not many[0] and f.type.name not in ALONE]
+    if beside:
+        advice = "give the Vec a variant of its own" if item.variants else "write its impls by hand"
+        yield Refused(beside[0].line, f"`{item.name}` contains itself, which is not covered where a Vec of it is next to anything but a"
+                      f" bool, char, number or String: {advice}", f"{where}.{beside[0].name}")
     most = LONGEST_NESTED if leads_back else LONGEST_HELD
     if len(data.fields) > most:
         yield Refused(line, f"more than {most} values are not covered in this {sort} of a type that contains itself: hold some in"
