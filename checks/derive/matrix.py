@@ -417,12 +417,6 @@ def nested() -> Dict[str, str]:
                                " D { x: Box<Tried> } }")
     made["nested_boxes"] = f"{ALL}\npub enum Tried {{ A(u64), B(Box<Tried>, Box<Tried>), C {{ x: Box<Tried>, y: Box<Tried> }} }}"
     made["nested_tree"] = f"{ALL}\npub struct Tried {{ pub x: Option<Box<Tried>>, pub y: Option<Box<Tried>> }}"
-    most = ("A { x: Vec<Tried>, y: String }, B { x: Box<Tried>, y: Option<Own> }, C { x: Option<Box<Tried>>, y: Vec<u8> },"
-            " D { x: bool, y: Vec<Tried> }")
-    made["nested_most"] = f"{ALL}\npub enum Tried {{ {most} }}"
-    made["nested_most_internal"] = f'{ALL}\n#[serde(tag = "t")]\npub enum Tried {{ {most} }}'
-    made["nested_most_by_place"] = (f"{ALL}\npub enum Tried {{ A(Vec<Tried>, String), B(Box<Tried>, Option<Box<Tried>>), C(char, Vec<Tried>),"
-                                    " D(u8, String, bool, Own) }")
     made["nested_held"] = (f"{ALL}\npub enum Other {{ A(Vec<Other>), B }}\n\n"
                            f"{ALL}\npub struct Tried {{ pub x: Other, pub y: Vec<Other>, pub z: u8 }}")
     return made

@@ -1037,3 +1037,7 @@ enum A { X(Vec<A>), Y, Z, U, V }
 enum A { X { x: Vec<A> }, Y(B) }
 #[derive(Serialize)]
 struct B { x: u8 }
+
+// 2: A.Y: `A` contains itself, which is not covered where a second variant has a Vec of it next to anything but a number: give the Vec a variant of its own
+#[derive(Serialize)]
+enum A { X(Vec<A>, String), Y { x: bool, y: Vec<A> }, Z(u8, Vec<A>) }

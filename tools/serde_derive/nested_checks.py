@@ -80,9 +80,18 @@ def check_nested(item: Item, items: List[Item]) -> Iterator[Refused]:
         if v.beside:
             yield Refused(v.line, f"`{item.name}` contains itself, which is not covered in a struct beside its tag: write its"
                           " fields in the variant", f"{item.name}.{v.name}")
+    for v in [v for v in item.variants if not reasons and has_company(v.data)][1:]:
+        yield Refused(v.line, f"`{item.name}` contains itself, which is not covered where a second variant has a Vec of it next to"
+                      " anything but a number: give the Vec a variant of its own", f"{item.name}.{v.name}")
     parts = [(v.data, v.line, f"{item.name}.{v.name}") for v in item.variants] or [(item.data, item.line, item.name)]
     for data, line, where in parts if not reasons else ():
         yield from check_data(item, data, line, where)
+
+
+def has_company(data: Data) -> bool:
+    """Whether a Vec that leads back is next to anything but a number: proofs of two such variants are not always found."""
+    others = [f for f in data.fields if not (f.type.name == "Vec" and f.type.leads_back())]
+    return len(others) < len(data.fields) and any(f.type.name not in NUMBERS for f in others)
 
 
 def check_data(item: Item, data: Data, line: int, where: str) -> Iterator[Refused]:
