@@ -88,6 +88,9 @@ def large() -> Iterator[Tuple[str, int, str]]:
             f"{left_out}x{i}: Option<u8>" for i in range(count))
     yield "1,000 variants", 2, f"{derive}enum A {{\n{''.join(f'    X{i},{chr(10)}' for i in range(1000))}}}\n"
     yield "a name of 1,000 letters", 2, f"{derive}struct A{'a' * 1000};\n"
+    for number in ("9" * 10000, " * ".join(["9"] * 10000)):
+        yield f"a number of {len(number)} signs", 2, (
+            f"{derive}struct A {{ #[serde(default = \"f\")] x: u8 }}\nfn f() -> u8 {{ {number} }}\n")
     yield "2,000 conditions", 2, f"#[{'cfg_attr(a, ' * 2000}derive(Serialize){')' * 2000}]\nstruct A;\n"
     yield "2,000 braces of a use", 2, f"use {'a::{' * 2000}b{'}' * 2000};\n"
     yield "100,000 brackets", 1, "(" * 100000 + ")" * 100000

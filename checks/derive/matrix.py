@@ -409,6 +409,18 @@ def nested() -> Dict[str, str]:
         made[f"nested_enum_{place}"] = f"{ALL}\npub enum Tried {{ A, B({way}), C(u8, {way}), D {{ x: {way}, y: u32 }} }}"
     made["nested_struct_1"] = f"{ALL}\npub struct Tried {{ pub x: Vec<Tried>, pub y: i32 }}"
     made["nested_struct_2"] = f"{ALL}\npub struct Tried {{ pub x: Option<Box<Tried>>, pub y: i32 }}"
+    variants = ["A(Box<Tried>)", "B { x: Vec<Tried>, y: String }", "C { x: bool, y: Vec<Tried> }", "D", "E { x: Part, y: Vec<Tried> }",
+                "F(Vec<Tried>, String, bool)", "G { x: Option<Box<Tried>>, y: Vec<Tried>, z: String, w: u32 }", "H(i32, Box<Tried>)",
+                "I { x: String, y: Box<Tried>, z: Option<Box<Tried>>, w: Vec<Tried> }",
+                "J(Box<Tried>, Vec<Tried>, Option<Box<Tried>>, bool)"]
+    part = f"{BOTH}\npub struct Part {{ pub p: u8, pub q: String }}\n\n"
+    for count in (2, 4, 6, 10):
+        made[f"nested_company_{count}"] = f"{part * (count > 4)}{BOTH}\npub enum Tried {{ {', '.join(variants[:count])} }}"
+    fields = ["String", "Option<Box<Tried>>", "Vec<Tried>", "i32", "bool", "Option<Box<Tried>>", "Vec<String>", "u64"]
+    for count in (4, 8):
+        made[f"nested_fields_{count}"] = f"{BOTH}\npub struct Tried {named(fields[:count])}"
+    made["nested_tagged"] = (f'{BOTH}\n#[serde(tag = "t")]\npub enum Tried {{ V0, V1 {{ x: Vec<Tried>, y: String }},'
+                             " V2 { x: bool, y: Vec<Tried> }, V3 { x: i32, y: Box<Tried> } }")
     body = "A0, B1(String), C2(Box<Tried>), D3(Vec<Tried>, bool)"
     for sort, derives in (("all", ALL), ("sent", SENT), ("read", READ)):
         made[f"nested_{sort}"] = f"{derives}\npub enum Tried {{ {body} }}"

@@ -234,3 +234,12 @@ enum A { X(A), Y }
 struct B { x: Option<C> }
 #[derive(Serialize)]
 struct C { x: (u8, B), y: Vec<C> }
+
+// 2: A: the lifetime `'b` is in no field
+// 4: B: the lifetime `'a` is in no field
+#[derive(Serialize)]
+struct A<'a, 'b: 'a> { x: Vec<Option<(u8, &'a str)>> }
+#[derive(Serialize)]
+enum B<'a> { X(&'static str) }
+#[derive(Serialize)]
+enum C<'a, 'b, T> { X(&'a T), Y(A<'a, 'b>) }

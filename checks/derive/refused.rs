@@ -71,14 +71,14 @@ union A {
     x: u8,
 }
 
-// 4: A.x: serde's `skip_serializing_if` so is not covered: Option::is_none is, and `is_empty` of String, Vec, VecDeque, maps and sets, each on a field of its type, and a function of another module that is named from `crate` on
+// 4: A.x: serde's `skip_serializing_if` so is not covered: Option::is_none is, `is_empty` of String, Vec, VecDeque, maps and sets, each on a field of its type, a function of this file that compares with one value, as `*n == 0`, and one of another module that is named from `crate` on
 #[derive(Serialize)]
 struct A {
     #[serde(skip_serializing_if = "is_zero")]
     x: u8,
 }
 
-// 4: A.x: serde's `skip_serializing_if` so is not covered: Option::is_none is, and `is_empty` of String, Vec, VecDeque, maps and sets, each on a field of its type, and a function of another module that is named from `crate` on
+// 4: A.x: serde's `skip_serializing_if` so is not covered: Option::is_none is, `is_empty` of String, Vec, VecDeque, maps and sets, each on a field of its type, a function of this file that compares with one value, as `*n == 0`, and one of another module that is named from `crate` on
 #[derive(Serialize)]
 struct A {
     #[serde(skip_serializing_if = "Vec::is_empty")]
@@ -337,13 +337,12 @@ struct A(A5);
 // 7: D: `D` contains itself, which is not covered where it derives Default: delete that
 // 9: E: `E` contains itself, which is not covered where a variant has `alias`, `other` or `skip`: write its impls by hand
 // 11: F.x: `alias`, `default`, `skip` and `skip_serializing_if` are not covered in a type that contains itself: hold the field in another struct
-// 13: G.X: more than 2 values are not covered in this variant of a type that contains itself: hold some in another struct
-// 13: G.Y: more than 4 values are not covered in this variant of a type that contains itself: hold some in another struct
-// 13: G.Z.0: a signed number is not covered in a variant of a type that contains itself: hold it in a struct
+// 13: G.X: more than 4 values are not covered in a variant of a type that contains itself: hold some in another struct
+// 13: G.Y: more than 4 values are not covered in a variant of a type that contains itself: hold some in another struct
 // 15: Inner: the name `Inner` is one that the module uses itself where a type contains itself: give the type another name, and this one by `#[serde(rename = "Inner")]`
 // 15: Inner: `Inner` contains itself, which is not covered in a struct without named fields: name them
 // 17: J: `J` contains itself, which is not covered in a type with parameters or lifetimes: write its impls by hand
-// 19: Type: `Type` contains itself, which is not covered under a name that contracts use themselves: give the type another name, and this one by `#[serde(rename = "Type")]`
+// 19: K: `K` contains itself, which is not covered in a struct without named fields: name them
 // 22: L: `L` contains itself, which is not covered beside `content`: write its impls by hand
 // 24: M: `M` contains itself, which is not covered through `N`: write its impls by hand
 // 26: N: `N` contains itself, which is not covered through `M`: write its impls by hand
@@ -359,13 +358,13 @@ enum E { #[serde(alias = "y")] X(Box<E>), Y }
 #[derive(Serialize, Deserialize)]
 struct F { #[serde(default, skip_serializing_if = "Vec::is_empty")] x: Vec<F>, y: u8 }
 #[derive(Serialize)]
-enum G { X(Box<G>, u8, u8), Y(u8, u8, u8, u8, u8), Z(i8) }
+enum G { X(Box<G>, u8, u8, u8, u8), Y(u8, u8, u8, u8, u8), Z(i8) }
 #[derive(Serialize)]
 struct Inner(Vec<Inner>);
 #[derive(Serialize)]
 enum J<'a> { X(&'a str), Y(Box<J<'a>>) }
 #[derive(Serialize)]
-struct Type { x: Vec<Type> }
+struct K(u8, Vec<K>);
 #[derive(Serialize)]
 #[serde(tag = "t", content = "c")]
 enum L { X { x: Vec<L> }, Y }
@@ -692,7 +691,7 @@ enum D { T { #[serde(default)] x: Box<u8> } }
 struct E { t: u8 }
 
 // 3: A.x: the name `\xfc` is not covered: printable ASCII but " and \ is
-// 4: A.y: serde's `skip_serializing_if` so is not covered: Option::is_none is, and `is_empty` of String, Vec, VecDeque, maps and sets, each on a field of its type, and a function of another module that is named from `crate` on
+// 4: A.y: serde's `skip_serializing_if` so is not covered: Option::is_none is, `is_empty` of String, Vec, VecDeque, maps and sets, each on a field of its type, a function of this file that compares with one value, as `*n == 0`, and one of another module that is named from `crate` on
 // 5: A.z: two are called `y`: give one another name by `rename`
 // 6: A.u: two are called `y`: give one another name by `rename`
 // 7: A.v: a type that begins with `[` is not covered: write a Vec, or a tuple of up to four
@@ -1020,16 +1019,19 @@ struct F<T> {
 #[serde(untagged)]
 enum G<T> { X(T), Y { y: u8 } }
 
-// 2: A.X.x: `A` contains itself, which is not covered where a Vec of it is next to anything but a bool, char, number or String: give the Vec a variant of its own
-// 4: B.y: `B` contains itself, which is not covered where a Vec of it is next to anything but a bool, char, number or String: write its impls by hand
+// 2: A: `A` contains itself, which is not covered in an enum of more than 10 variants: hold some in another enum
 #[derive(Serialize)]
-enum A { X { x: Option<Vec<u8>>, y: Vec<A> }, Y }
-#[derive(Serialize)]
-struct B { x: Vec<B>, y: Vec<B> }
+enum A { A(Vec<A>), B, C, D, E, F, G, H, I, J, K }
 
-// 2: A: `A` contains itself, which is not covered in an enum of more than 4 variants: hold some in another enum
+// 3: A: `A` contains itself, which is not covered in an enum with a tag of more than 4 variants: hold some in another enum
+// 6: B.X: more than 2 values are not covered in a variant next to its tag of a type that contains itself: hold some in another struct
+// 6: B.Z.x: `B` contains itself, which is not covered in an Option next to a tag: hold it in a Vec
 #[derive(Serialize)]
-enum A { X(Vec<A>), Y, Z, U, V }
+#[serde(tag = "t")]
+enum A { A { x: Box<A> }, B, C, D, E }
+#[derive(Serialize)]
+#[serde(tag = "t")]
+enum B { X { x: Box<B>, y: u8, z: bool }, Y { x: u8, y: u8, z: u8 }, Z { x: Option<Box<B>> } }
 
 // 3: A.Y: `A` contains itself, which is not covered in a struct beside its tag: write its fields in the variant
 #[derive(Serialize)]
@@ -1038,6 +1040,68 @@ enum A { X { x: Vec<A> }, Y(B) }
 #[derive(Serialize)]
 struct B { x: u8 }
 
-// 2: A.Y: `A` contains itself, which is not covered where a second variant has a Vec of it next to anything but a number: give the Vec a variant of its own
+// 2: B.x: a LinkedList is not covered: hold a VecDeque
+// 2: B: `B` contains itself, which is not covered through `C`: write its impls by hand
 #[derive(Serialize)]
-enum A { X(Vec<A>, String), Y { x: bool, y: Vec<A> }, Z(u8, Vec<A>) }
+struct B { x: LinkedList<C> }
+#[derive(Serialize)]
+struct C { x: B, y: Vec<C> }
+
+// 4: A.a: a RangeInclusive is not covered: hold a struct of its ends
+// 5: A.b: a Cow is not covered: hold a String or a Vec
+// 6: A.c: a Result is not covered: hold an enum of both
+// 7: A.d: a tuple of more than 4 values is not covered: hold a struct of them
+// 8: A.e: `str` is covered in `Box<str>` and `&'a str` alone: hold a String
+// 9: A.f: a PhantomData is not covered: delete it
+// 10: A.g: a RefCell is not covered: hold the value in it
+use std::ops::RangeInclusive as R;
+#[derive(Serialize)]
+struct A {
+    a: R<u8>,
+    b: std::borrow::Cow<'static, str>,
+    c: std::result::Result<u8, f32>,
+    d: Vec<(u8, u8, u8, u8, u8)>,
+    e: std::sync::Arc<str>,
+    f: std::marker::PhantomData<u8>,
+    g: std::cell::RefCell<u8>,
+}
+
+// 2: A: serde's `bound` on a container is not covered: each impl has the bounds that it needs: delete it
+// 2: A: serde's `crate` on a container is not covered: what is written uses `serde_content`: delete it
+// 2: A: serde's `rename_all` knows no case `Camel`: it has lowercase, UPPERCASE, PascalCase, camelCase, snake_case, SCREAMING_SNAKE_CASE, kebab-case, SCREAMING-KEBAB-CASE
+// 3: A: a default of a parameter is not covered: delete that of `T`, and write it where you use the type
+// 4: A.a: serde's `getter` on a field is not covered: only your own types are sent: declare one like it, and convert it by hand
+// 4: A.a: serde's `borrow` on a field is not covered: values are owned: delete it
+// 5: A.b: a type that begins with `dyn` is not covered: write an enum of the types that it may be
+#[derive(Serialize)]
+#[serde(bound(serialize = "", deserialize = ""), crate = "serde", rename_all = "Camel")]
+struct A<T = Vec<u8>> {
+    #[serde(getter = "x", default, borrow)] a: T,
+    b: dyn X,
+}
+
+// 2: A.a: `derive(Hash)` is not covered beside `HashMap<String, u8>`, which has none: hold a BTreeMap or BTreeSet, or delete the derive
+// 4: B.b: `derive(PartialOrd)` is not covered beside `HashSet<u8>`, which has none: hold a BTreeMap or BTreeSet, or delete the derive
+#[derive(PartialEq, Eq, Hash, Serialize)]
+struct A { a: HashMap<String, u8> }
+#[derive(PartialEq, PartialOrd, Serialize)]
+struct B { b: Vec<HashSet<u8>> }
+
+// 5: A.a: a type that begins with `T::` is not covered: write the type itself
+// 6: A.b: a type that begins with `U::` is not covered: write the type itself
+// 7: A.c: a type that begins with `u8::` is not covered: write the type itself
+// 9: A.e: what is borrowed to be changed is not covered: write `&` without `mut`
+// 10: A.f: values as arguments of a type are not covered: write a type for each that you use
+// 11: A.g: a type with `(` in it is not covered: write the type itself
+#[derive(Serialize)]
+struct U { x: u8 }
+#[derive(Serialize)]
+struct A<T> {
+    a: Vec<T::Item>,
+    b: U::X,
+    c: u8::X,
+    d: Vec<T>,
+    e: &'static mut u8,
+    f: Data<-1>,
+    g: Box<FnOnce(u8) -> u8>,
+}

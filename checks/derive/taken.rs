@@ -842,14 +842,15 @@ pub struct A {
 // 2: no RoundTrip is written for `A`: it contains itself, and is read to a limit of levels
 // 4: no RoundTrip is written for `B`: it contains itself, and is read to a limit of levels
 // 6: no RoundTrip is written for `D`: `A`, which it holds, does not come back
-// + enum A { X(Option<Box<A>>), Y { x: Vec<A>, y: u32, }, Z, }
+// + enum A { X(Option<Box<A>>), Y { x: Vec<A>, y: String, z: Box<A>, w: i8, }, Z, }
 // + type Field1OfAY = NestedField<FieldsOfAY, 0, Vec<A>, Field2OfAY>;
-// + told_a_y(x1, x2);
-// + fold-B Nested (λ p.
+// + let row = SendNestedField(FieldsOfAY, 0, x1, row);
+// + content_nested::tell(self);
+// + fold-B Nested ⟦<B as Steps>⟧.step y
 // + impl<'de> ReadWithin<'de, B> for Levels
 // - RoundTrip
 #[derive(Clone, Debug, PartialEq, Eq, Serialize, Deserialize)]
-enum A { X(Option<Box<Self>>), Y { x: Vec<A>, y: u32 }, Z }
+enum A { X(Option<Box<Self>>), Y { x: Vec<A>, y: String, z: Box<A>, w: i8 }, Z }
 #[derive(PartialEq, Eq, Serialize, Deserialize)]
 pub struct B { the_next: Vec<B> }
 #[derive(PartialEq, Eq, Serialize, Deserialize)]
@@ -953,4 +954,49 @@ struct A {
     x: u8,
     #[serde(flatten, skip)] y: BTreeMap<String, u8>,
     #[serde(flatten, skip_deserializing, default = "crate::rules::five")] z: i32,
+}
+
+// + pub struct A { pub a: LinkedList, pub b: Range, pub c: Cell, pub d: Vec<BinaryHeap>, }
+// + use crate::other::Thing as Cell;
+#[derive(Serialize, Deserialize)]
+pub struct A { pub a: LinkedList, pub b: Range, pub c: Cell, pub d: Vec<BinaryHeap> }
+#[derive(Serialize, Deserialize)]
+pub struct LinkedList { pub head: u8 }
+#[derive(Serialize, Deserialize)]
+pub struct Range { pub start: u8, pub end: u8 }
+#[derive(Serialize, Deserialize)]
+pub enum BinaryHeap { Leaf, Node(u8) }
+use crate::other::Thing as Cell;
+
+// 2: no RoundTrip is written for `A`: `B`, which it holds, does not come back
+// 4: no RoundTrip is written for `B`: `c` may be left out, and what is read in its place may be another value
+// 5: called: `C::is_empty`, which needs the contract `ensures { result ≡ c_is_empty value.now }`, by the definition `Rattle.a.specs.Types.c_is_empty`
+// 6: called: `crate::rules::is_big`, which needs the contract `ensures { result ≡ is_big value.now }`, by the definition `Rattle.a.specs.Rules.is_big`
+// 11: no RoundTrip is written for `D`: `n` may be left out, and is not read where it is missing: give it `default` too
+// - RoundTrip<'de> for A
+// - RoundTrip<'de> for B
+// + RoundTrip<'de> for C
+// - RoundTrip<'de> for D
+#[derive(PartialEq, Eq, Serialize, Deserialize)]
+enum A { X(B), Y }
+#[derive(PartialEq, Eq, Serialize, Deserialize)]
+struct B {
+    #[serde(default, skip_serializing_if = "C::is_empty")] c: C,
+    #[serde(default, skip_serializing_if = "crate::rules::is_big")] n: u8,
+}
+#[derive(Default, PartialEq, Eq, Serialize, Deserialize)]
+struct C { x: u8 }
+#[derive(PartialEq, Eq, Serialize, Deserialize)]
+struct D { #[serde(skip_serializing_if = "crate::rules::is_big")] n: u8 }
+
+// 3: no RoundTrip is written for `A`: `x` has an `alias`
+// + (AliasedThen (name "x" ∷ name "y" ∷ []) (λ (x : (Unit {0})). ⊤)
+// + (AliasedThen (name "z" ∷ name "{w}" ∷ []) (λ (x : (record {0 : ℕ}))
+// + (aliased_then (name "{v") (name "{v" ∷ name "}u" ∷ []) (Some (missing_field (name "{v")))
+#[derive(PartialEq, Eq, Serialize, Deserialize)]
+#[serde(deny_unknown_fields)]
+struct A {
+    #[serde(alias = "y", default)] x: (),
+    #[serde(alias = "{w}", default)] z: (u8,),
+    #[serde(rename = "{v", alias = "}u")] v: u8,
 }

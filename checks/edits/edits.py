@@ -1,5 +1,5 @@
 #!/usr/bin/env python3
-"""edits.py TOP [CRATE/EDIT ..]: the work of checks/edits.sh, which says what it does."""
+"""edits.py TOP [--gate | CRATE .. | CRATE/EDIT ..]: the work of checks/edits.sh, which says what it does."""
 
 import collections
 import concurrent.futures
@@ -14,6 +14,8 @@ import tempfile
 TOP, NAMES = sys.argv[1], sys.argv[2:]
 JOBS = int(os.environ.get("JOBS", 2))
 GATE = NAMES == ["--gate"]
+# whole crates are tried, or the gate's edits: what goes together is tried together
+TOGETHER = all("/" not in it for it in NAMES)
 
 # One replacement: its file, where the old text begins and ends, the new text, and where its function begins.
 Change = collections.namedtuple("Change", "path begin end new function")
@@ -184,7 +186,7 @@ def try_crate(edits):
     while left := [it for it in edits if it.left]:
         batches = []
         for edit in left:
-            fitting = [it for it in batches if (GATE or not NAMES) and all(edit.goes_with(other) for other in it)]
+            fitting = [it for it in batches if TOGETHER and all(edit.goes_with(other) for other in it)]
             if fitting:
                 fitting[0].append(edit)
             else:
@@ -193,13 +195,22 @@ def try_crate(edits):
             judge(it)
 
 
-def main():
+def chosen():
+    """The names of the edits to try: the gate's, those given, or all of the given crates or of every crate."""
+    if GATE:
+        return read(f"{TOP}/checks/edits/gate").split()
+    if not TOGETHER:
+        return NAMES
     found = [*glob.glob(f"{TOP}/checks/edits/*/*.edit"), *glob.glob(f"{TOP}/crates/*/must-fail/*.md")]
     names = [re.sub(r".*/(\w+)/(?:must-fail/)?(\w+)\.\w+$", r"\1/\2", it) for it in sorted(found)]
+    if unknown := set(NAMES) - {it.split("/")[0] for it in names}:
+        sys.exit(f"no edits of {', '.join(sorted(unknown))}")
+    return [it for it in names if not NAMES or it.split("/")[0] in NAMES]
+
+
+def main():
     crates = collections.defaultdict(list)
-    if GATE:
-        NAMES[:] = read(f"{TOP}/checks/edits/gate").split()
-    for it in NAMES or names:
+    for it in chosen():
         crates[it.split("/")[0]].append(Edit(it))
     with concurrent.futures.ThreadPoolExecutor(JOBS) as pool:
         list(pool.map(try_crate, crates.values()))

@@ -101,7 +101,7 @@ class Attributes(Cursor):
             self.listed(")", lambda: self.derive(head))
         elif name == ["serde"]:
             self.expect("(")
-            self.listed(")", lambda: self.serde(level, head.serde))
+            self.listed(")", lambda: self.one_of_serde(level, head))
         elif name == ["cfg_attr"]:
             self.conditional(level, head)
         elif name == ["doc"]:
@@ -156,6 +156,18 @@ class Attributes(Cursor):
             head.notes.append((line, f"left out: `#[{shown}]`"))
         elif name not in PASSED:
             raise Refused(line, f"the attribute `{name}` is not covered, as no derive of Rattle reads it: delete it")
+
+    def one_of_serde(self, level: str, head: Head) -> None:
+        """The same, where what is refused is kept, and the attribute passed."""
+        start = self.place
+        try:
+            self.serde(level, head.serde)
+        except NotRust:
+            raise
+        except Refused as refused:
+            head.refused.append(refused)
+            self.place = start
+            self.pass_to(",")
 
     def serde(self, level: str, into: Dict[str, str]) -> None:
         """One of Serde's attributes."""

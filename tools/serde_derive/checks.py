@@ -124,6 +124,8 @@ def check_parameters(item: Item, file: File) -> Iterator[Refused]:
                           " capital, and that nothing else has", item.name)
         elif not any(name in data.parameters() for data in item.parts()):
             yield NotRust(item.line, f"the parameter `{name}` is in no field", item.name)
+    yield from (NotRust(item.line, f"the lifetime `{name}` is in no field", item.name) for name in item.lifetimes
+                if item.covered and not any(name in f.type.borrows() for f in item.fields()))
 
 
 def check_parts(item: Item) -> Iterator[Refused]:

@@ -7,12 +7,14 @@ from .defaults import IN_MEMORY, by_type, lacking_absent
 from .files import File
 from .homes import placed
 from .tokens import ROOTS
-from .types import FLOATS, Type
+from .types import FLOATS, HASHED, Type
 
 NEEDS = {"Copy": ["Clone"], "Eq": ["PartialEq"], "PartialOrd": ["PartialEq"], "Ord": ["Eq", "PartialOrd"], "Hash": ["Eq"]}
 # derives that ask nothing of what a type holds
 NOT_INSIDE = {("Default", "Option"), ("Clone", "Rc"), ("Clone", "Arc")}
 PASSED = {"Drop", *SERDE}
+# what hash maps and sets don't have
+WITHOUT = dict.fromkeys(["Hash", "PartialOrd", "Ord"], "hold a BTreeMap or BTreeSet, or delete the derive")
 WHY = {
     "Copy": "which has memory of its own: delete Copy",
 }
@@ -28,6 +30,8 @@ def lacking(t: Type, trait: str, items: Dict[str, Item], file: File) -> Iterator
             yield f"`{t.name}` does not derive {trait}, as what holds it does: derive it there too"
         for argument in t.arguments:
             yield from lacking(argument, trait, items, file)
+    elif t.name in HASHED and trait in WITHOUT:
+        yield f"`derive({trait})` is not covered beside `{t.rust()}`, which has none: {WITHOUT[trait]}"
     elif (trait, t.name) not in NOT_INSIDE:
         for argument in t.arguments:
             yield from lacking(argument, trait, items, file)

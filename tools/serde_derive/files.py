@@ -197,7 +197,7 @@ class Reader(Parser):
             self.pass_to("{", "where", *BEGIN_ITEMS, angles=True)
             end = self.place
             self.note_impl(start)
-        elif self.next.sort == "name" and (self.after().text == "!" or self.after().text == "::"):
+        elif self.after().text in ("!", "::") if self.next.sort == "name" else word == "::" and self.after().sort == "name":
             return self.macro(start)
         else:
             raise NotRust(line, f"expected an item, found `{word}`")

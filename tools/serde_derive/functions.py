@@ -14,6 +14,7 @@ EMPTIES = r"(?:(?:std|core)::default::)?Default::default\(\)|(?:\w+::)*{}::defau
 MADE_EMPTY = {"Option": r"|None", "Vec": r"|vec!\[\]|Vec::new\(\)", **{name: rf"|{name}::new\(\)" for name in (
     "String", "PathBuf", "BTreeMap", "BTreeSet", "HashMap", "HashSet", "VecDeque")}}
 MOST_NAMED = 16  # how often a constant may name another
+MOST_DIGITS = 100  # of a number, with the signs between them
 NOT = re.compile(r"(?:(?:std|core)::ops::)?Not::not|bool::not")
 CASES = "\x04{}\x05"  # stands for what contracts call the cases of an enum, which are named later
 
@@ -142,7 +143,7 @@ class Functions:
         number = 1
         for place, word in enumerate(texts or [""]):
             digits = re.fullmatch(r"(0x[0-9a-fA-F_]+?|[0-9][0-9_]*)(?:_?[ui](?:8|16|32|64|128|size))?", word)
-            if (word != "*") if place % 2 else not digits:
+            if ((word != "*") if place % 2 else not digits) or len(word) > MOST_DIGITS or number >= 2 ** 128:
                 return None
             if digits:
                 number *= int(digits.group(1).replace("_", ""), 16 if word[:2] == "0x" else 10)

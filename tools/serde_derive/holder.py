@@ -1,4 +1,5 @@
 """What is written of what a struct or a variant holds."""
+import re
 from copy import copy
 from dataclasses import replace
 from functools import cached_property
@@ -424,9 +425,10 @@ class Holder:
         if f.rest and member in REST:
             return REST[member][f.tried]
         if f.aliases() and member in ("refusal", "gives"):
-            names, first = list_term([f.known, *f.aliases()]), name_term(f.known)
+            names, first, absent = (re.sub(r"[{}]", r"\g<0>\g<0>", text) for text in (
+                list_term([f.known, *f.aliases()]), name_term(f.known), f.absent()))
             if member == "gives":
-                return f"AliasedThen {names}{f.absent() or ' (λ b. ⊥)'} {{inner}}"
+                return f"AliasedThen {names}{absent or ' (λ b. ⊥)'} {{inner}}"
             return f"aliased_then {first} {names} {'None' if f.missing else f'(Some (missing_field {first}))'} {{inner}}"
         return self.unless_words[member] if f.skips and member in self.unless_words else self.words(member)[0]
 

@@ -26,6 +26,13 @@ NOT_COVERED = {
     **dict.fromkeys(FLOATS, "floats are not covered: hold a whole number of a smaller unit, or a String"),
     "LinkedList": "a LinkedList is not covered: hold a VecDeque",
     "BinaryHeap": "a BinaryHeap is not covered: hold a Vec",
+    "str": "`str` is covered in `Box<str>` and `&'a str` alone: hold a String",
+    "Cow": "a Cow is not covered: hold a String or a Vec",
+    "Result": "a Result is not covered: hold an enum of both",
+    "PhantomData": "a PhantomData is not covered: delete it",
+    **{name: f"a {name} is not covered: hold a struct of its ends" for name in ("Range", "RangeInclusive", "RangeFrom", "RangeTo")},
+    **{name: f"a {name} is not covered: hold the value in it" for name in (
+        "Cell", "RefCell", "OnceCell", "Mutex", "RwLock", "Wrapping", "Saturating", "Reverse", "NonZero")},
 }
 MOST_PARTS = 500
 MOST_WRITTEN_OUT = 200
@@ -353,6 +360,8 @@ class Homes:
 
     def settled(self, t: Type, holder: Item, traits: Set[str]) -> Type:
         """The type with its home, where it has to derive these for what holds it; a ValueError says why it is not covered."""
+        if traits or t.name not in FLOATS:
+            self.check_std(t)
         arguments = tuple(self.settled(a, holder, traits) for a in t.arguments)
         if t.parameter:
             return t
@@ -364,10 +373,9 @@ class Homes:
             if t.name in IN_ORDER | HASHED:
                 self.check_key(t.name, arguments[0])
             return Type(t.name, arguments, lifetimes=t.lifetimes)
-        of_std = t.name in (*HOLDERS, *LEAVES, *NOT_COVERED) or (arguments and self.path(t.name)[0] in STANDARD)
+        of_std = t.name in (*HOLDERS, *LEAVES) or (arguments and self.path(t.name)[0] in STANDARD)
         if of_std or (arguments and t.name not in self.items and len(self.path(t.name)) < 2):
-            raise ValueError(NOT_COVERED.get(t.name, f"the type `{t.rust()}` is not covered: the types that are stand"
-                                             " in docs/OWN_TYPES.md"))
+            raise ValueError(f"the type `{t.rust()}` is not covered: the types that are stand in docs/OWN_TYPES.md")
         if t.name not in self.items:
             if arguments:
                 raise ValueError(f"`{t.rust()}` is not covered: a type with arguments is where this file declares it: declare there"
@@ -380,6 +388,16 @@ class Homes:
             raise ValueError(f"a type with parameters that is made of more than {MOST_WRITTEN_OUT} types is not covered:"
                              " divide it")
         return whole
+
+    def check_std(self, t: Type) -> None:
+        """Refuses a type of std's of which it is known what to write instead, as a ValueError; one of the user's may have its
+        name."""
+        if t.name == "tuple" and len(t.arguments) > MOST_IN_TUPLE:
+            raise ValueError(f"a tuple of more than {MOST_IN_TUPLE} values is not covered: hold a struct of them")
+        if t.name in NOT_COVERED and not t.parameter and t.name not in self.items:
+            path = self.path(t.name)
+            if len(path) < 2 or path[0] in STANDARD:
+                raise ValueError(NOT_COVERED[t.name])
 
     def size(self, t: Type) -> int:
         """Of how many types' laws those of a type are made; those of other own types have names."""
@@ -422,6 +440,8 @@ class Homes:
                              " a String")
         if len(path) < 2:
             raise ValueError(f"the type `{name}` is not covered: declare it in this file, or name it by its full path")
+        if path[0] in (*self.items, *LEAVES):
+            raise ValueError(f"a type that begins with `{path[0]}::` is not covered: write the type itself")
         raw = [part for part in path if part.startswith("r#")]
         if raw:
             raise ValueError(f"the name `{raw[0]}` is not covered: give it a plain one")

@@ -78,7 +78,10 @@ def impls(item: Item, writer: Writer, cbor: bool) -> Iterator[str]:
     if item.absent:
         yield impl(item, "Absent", writer.absent(), *item.lifetimes, *item.parameters)
     if "Serialize" in item.derives and item.cycle:
+        yield impl(item, "Steps", writer.step_members())
         yield impl(item, "Nests", writer.sent_members())
+        yield impl(item, "Told", writer.told_members())
+        yield impl(item, "Tells", writer.tells_members())
         yield impl(item, "SendNested", writer.sending())
     if "Serialize" in item.derives:
         yield impl(item, "Serialize", writer.serialize(), *item.lifetimes, *bounded(item.parameters, "Serialize"))
@@ -87,6 +90,8 @@ def impls(item: Item, writer: Writer, cbor: bool) -> Iterator[str]:
         yield impl(item, "SendEntries", writer.entries(), *item.lifetimes)
     if "Deserialize" in item.derives:
         if item.cycle:
+            if writer.alone:
+                yield impl(item, "ReadsLevel<'de>", writer.level_members(), LT_DE)
             yield impl(item, "ReadsNested<'de>", writer.read_members(), LT_DE)
             yield from writer.reading()
         elif item.variants and "untagged" not in item.serde:
@@ -176,7 +181,8 @@ def uses(file: File, homes: Homes, texts: List[str]) -> List[str]:
     nested = [item for item in file.items if item.cycle]
     ghosts += words_of(words, NESTED_WORDS) if nested else []
     for item in nested:
-        seen = [in_term(item.name)] * ("Deserialize" in item.derives) + [f"fold-{item.name}", f"out-{item.name}"]
+        sends = [f"fold-{item.name}", f"fold_out-{item.name}", f"map-{item.name}"] * ("Serialize" in item.derives)
+        seen = [in_term(item.name), *sends, f"out-{item.name}"]
         ghosts += [f"ghost use {declared}.{item.name}.{{{', '.join(seen)}}};",
                    f"ghost use {declared}.{item.cycle[0].name}.TheOpen as {item.cases};"]
         if f"{item.cases}_as_view" in words:
@@ -218,9 +224,8 @@ def module(source: str, name: str, crate: str, place: str, cbor: bool = False,
             for item in file.items if item.derives_all() and not item.comes_back()]
         notes.sort()
     texts = [text for item in file.items for text in texts_of(item, writers[item.name], cbor)]
-    text = "\n".join(texts)
-    for item in file.items:
-        text = text.replace(CASES.format(item.name), item.cases)
+    cases = {item.name: item.cases for item in file.items}
+    text = re.sub(CASES.format(r"(\w+)"), lambda found: cases[found[1]], "\n".join(texts))
     body = with_names(text, [item.name for item in file.items])
     docs = file.docs or ["//! Types that are sent and read."]
     docs += ["//!", f"//! Written by `tools/derive` from `{doc_line(name)}`: change that file, and write this one anew."]

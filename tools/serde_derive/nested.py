@@ -1,7 +1,7 @@
 """The impls of types that contain themselves: they are sent by a fold, and read level by level."""
-from typing import Iterator, List
+from typing import Callable, Iterator, List
 
-from .declarations import Item, Variant
+from .declarations import Field, Item, Variant
 from .enums import EnumWriter
 from .holder import Holder
 from .literals import name_method, name_term
@@ -38,7 +38,13 @@ class NestedWriter:
         """What its values are held by."""
 
     def step(self) -> str:
-        """What a value is sent by, from what those in it are sent by."""
+        """What a level `l` is sent by, from what the values in it are sent by."""
+
+    def told(self) -> str:
+        """The script of a level `l`, by those of the values in it."""
+
+    def same(self) -> str:
+        """That both are the same of the level of a value `y`."""
 
     def level_refusal(self) -> str:
         """What is refused on a level."""
@@ -70,17 +76,34 @@ class NestedWriter:
         self.set_readers("parameter", "level")
         script = holder.script([f"{x}.now" for x in names])
         self.set_readers("fold", "level")
-        body = [f"let {x} = Inner({x});" for x, f in zip(names, fields) if f.type.leads_back()]
-        shown = [f"&{x}" if f.type.leads_back() else x for x, f in zip(names, fields)]
         if holder.many:
-            body += [*holder.send(shown)[:-1], "content_nested::send_row_aside(&row, alloc, serializer, error)"]
+            body = [*holder.send(names)[:-1], "content_nested::send_row_aside(&row, alloc, serializer, error)"]
         else:
-            body += [f"content_nested::send_around({holder.call}, {shown[0]}, alloc, serializer, error)"]
+            shown = f"&Inner({names[0]})" if fields[0].type.leads_back() else names[0]
+            body = [f"content_nested::send_around({holder.call}, {shown}, alloc, serializer, error)"]
         bounds = angled("S: Serializer", *(holder.given_types() if isinstance(holder, NestedHolder) else []))
         return [f"/// Sends its values.\nfn {name}{bounds}({ASIDE}{given}) -> {SENT}\n"
                 + clause("ensures", f"Sends S.step S.refuses (S.seen serializer.old)\n({script})\n(answer_of result error.new)"
                          " (S.seen serializer.new)")
                 + "{\n" + "\n".join(body) + "\n}\n"]
+
+    def reader_within(self, holder: NestedHolder) -> List[str]:
+        """The function that reads fields with the levels that are left, all values as one."""
+        if not holder.data.named:
+            return []
+        count, names = holder.count, [f"x{i + 1}" for i in range(holder.count)]
+        values = [f"z.{i}" for i in range(count)] if count > 1 else ["z"]
+        types = tuple(f.type for f in holder.fields)
+        result = Type("tuple", types).rust() if count > 1 else types[0].rust()
+        self.set_readers("fold", "levels.now")
+        refusal, gives = holder.refusal_row(), holder.gives_row(values)
+        self.set_readers("fold", "level")
+        body = "\n".join(holder.taken_within("fields", names) + [f"Ok({together(names)})"])
+        return [f"/// Reads the fields, in any order.\nfn {holder.reader}<'de, 'n: 'de, Below>(levels: &{BELOW}, alloc: Global,"
+                f" fields: FieldsByName<'de, 'n>) -> Result<{result}>\n{self.bounds()}"
+                + clause("ensures", f"Reads ({refusal}\n(fields_left fields.entry))\n(λ z. {gives}\n(fields_left fields.entry))"
+                         " result")
+                + f"{{\n{body}\n}}\n"]
 
     def attribute(self, way: str) -> str:
         """The name of the cycle of functions that call each other, where it is more than one."""
@@ -90,12 +113,55 @@ class NestedWriter:
         """That each type of the cycle is read with the levels that are left."""
         return "where\n" + "".join(f"{BELOW}: ReadWithin<'de, {one.name}>,\n" for one in self.item.cycle)
 
+    def steps(self) -> str:
+        """What the values of each type of the cycle are sent by, from what those in them are sent by."""
+        return " ".join(f"⟦<{one.whole} as Steps>⟧.step" for one in map(self.of, self.item.cycle))
+
+    def folded(self) -> str:
+        """What a value is sent by, but for the value."""
+        return f"fold-{self.whole} {' '.join(['Nested'] * len(self.item.cycle))} {self.steps()}"
+
+    def open(self, inside: str) -> str:
+        """One level of a value, with these in the place of the values in it."""
+        return f"{self.item.cases}.{self.item.name}-F {inside}"
+
+    def step_members(self) -> List[str]:
+        """The members that say what a level is sent by."""
+        return [ghost("Filled", self.open("Nested")), ghost("step", f"λ l. {self.step()}")]
+
     def sent_members(self) -> List[str]:
         """The member that tells what a value is sent by."""
-        steps = " ".join(self.of(one).step() for one in self.item.cycle)
-        results = " ".join(["Nested"] * len(self.item.cycle))
-        return [ghost("Layer", "Nested"), ghost("layer", f"λ y. fold-{self.whole} {results} {steps} y"), ghost("nested", "λ n. n"),
+        return [ghost("Layer", "Nested"), ghost("layer", f"λ y. {self.folded()} y"), ghost("nested", "λ n. n"),
                 ghost("is_empty", "λ n. false")]
+
+    def told_members(self) -> List[str]:
+        """The members that say by which script."""
+        return [ghost("Level", self.open(in_term(self.whole))), ghost("level", f"λ y. {self.out('y')}"),
+                ghost("told", f"λ l. {self.told()}")]
+
+    def tells_members(self) -> List[str]:
+        """The law that it is this one."""
+        return [ghost("is_told", f"λ y. told_by (fold_out-{self.whole} Nested {self.steps()} y)\n({self.same()})")]
+
+    def is_same(self, level: str) -> str:
+        """That a level is sent by the script that it tells."""
+        step = f"⟦<{self.whole} as Steps>⟧.step (map-{self.whole} {in_term(self.whole)} Nested ({self.folded()}) {level})"
+        return f"({step}).script ≡\n⟦<{self.whole} as Told>⟧.told {level}"
+
+    def same_at(self, fields: List[Field], values: List[str], level: Callable[[List[str]], str]) -> str:
+        """The proof of that for the level of these values: by cases on each Option that leads back, as no other is seen to
+        be the same before it is known whether something is there."""
+        at = next((i for i, f in enumerate(fields) if f.type.leads_back() and f.type.name == "Option"
+                   and values[i] != "None" and not values[i].startswith("(Some ")), None)
+        if at is None:
+            return "refl"
+
+        def with_this(value: str) -> List[str]:
+            return [*values[:at], value, *values[at + 1:]]
+
+        cases = elim([f"None ↦ {self.same_at(fields, with_this('None'), level)}",
+                      f"Some w{at + 1} ↦ {self.same_at(fields, with_this(f'(Some w{at + 1})'), level)}"]).removeprefix("elim ")
+        return f"elim {values[at]} as (λ o. {self.is_same(f'({level(with_this(chr(111)))})')}) {cases}"
 
     def serialize(self) -> List[str]:
         own = f"⟦<{self.whole} as Nests>⟧.layer y"
@@ -103,8 +169,16 @@ class NestedWriter:
                 function(SERIALIZE, "content_nested::send_nested(self, alloc, serializer)"),
                 function(SEND_NESTED.replace("send_nested", "serialize_aside"), "self.send_nested(alloc, serializer, error)")]
 
+    def level_members(self) -> List[str]:
+        """The members that tell what one level reads, by what the next does."""
+        return [ghost("level_refusal", f"λ r. {self.level_refusal()}"), ghost("level_gives", f"λ g. {self.level_gives()}")]
+
     def read_members(self) -> List[str]:
         """The members that tell what is read with so many levels."""
+        if self.alone:
+            of = f"⟦<{self.whole} as ReadsLevel<'de>>⟧"
+            return [ghost("refusal_in", f"λ n. refusals_within {{R = Refusal}} refuses_all {of}.level_refusal n"),
+                    ghost("gives_in", f"λ n. gives_within {{G = Gives {in_term(self.whole)}}} GivesNothing {of}.level_gives n")]
         each, count = [self.of(one) for one in self.item.cycle], len(self.item.cycle)
         ends = [("refusals_within", "{R = " + " × ".join(["Refusal"] * count) + "}", "refuses_all",
                  [one.level_refusal() for one in each], "r"),
@@ -171,10 +245,9 @@ class NestedEnumWriter(NestedWriter, EnumWriter):
             if self.sends:
                 texts += holder.sent_types()
                 texts += self.sender(holder, self.whole_name(v)) if self.has_sender(v) else []
-                texts += [self.teller(v, holder)] * self.leads_back(v)
             if self.reads:
                 texts += holder.row_types()
-                texts += self.reader_within(v, holder) if self.leads_back(v) else self.reader(v, holder)
+                texts += self.reader_within(holder) if self.leads_back(v) else self.reader(v, holder)
         return texts + self.names_list()
 
     def has_sender(self, v: Variant) -> bool:
@@ -187,28 +260,26 @@ class NestedEnumWriter(NestedWriter, EnumWriter):
         if not self.has_sender(v):
             return arm(self.made(v, []), [f"content_nested::send_only({holder.call}, serializer, error)"])
         sent = self.sent(v) if v.beside else names
-        return arm(self.made(v, names), [f"{self.teller_name(v)}({', '.join(names)});"] * self.leads_back(v) + [
-            f"{self.whole_name(v)}({', '.join(['alloc', 'serializer', 'error', *sent])})"])
-
-    def teller_name(self, v: Variant) -> str:
-        return f"told_{v.owner}"
-
-    def teller(self, v: Variant, holder: Holder) -> str:
-        """The function that tells proofs what a variant is sent by: its contract spares them a look into the fold."""
-        names = self.values(v.data)
-        given = ", ".join(f"{x}: &{f.type.rust()}" for x, f in zip(names, v.data.fields))
-        self.set_readers("told", "level")
-        script = holder.script([f"{x}.now" for x in names])
-        self.set_readers("fold", "level")
-        case = self.case(v)[:-2].split()[0].replace(".", "_as_view.", 1)
-        value = " ".join([case, *(f"{x}.now" for x in names)])
-        return (f"/// Its contract tells proofs what that variant is sent by.\nfn {self.teller_name(v)}({given})\n"
-                + clause("ensures", f"(⟦<{self.whole} as Nests>⟧.layer\n({value})).script ≡\n{script}") + "{\n}\n")
+        return arm(self.made(v, names), [f"{self.whole_name(v)}({', '.join(['alloc', 'serializer', 'error', *sent])})"])
 
     def step(self) -> str:
-        return "(" + elim([f"{self.case(v)} record {{\nscript = {holder.script(self.leaves(v))};\n"
-                           f"lawful = λ readable. {holder.lawful(self.leaves(v))};\n}}"
-                           for v, holder in self.variants]) + ")"
+        return "elim l " + elim([f"{self.case(v)} record {{\nscript = {holder.script(self.leaves(v))};\n"
+                                 f"lawful = λ readable. {holder.lawful(self.leaves(v))};\n}}"
+                                 for v, holder in self.variants]).removeprefix("elim ")
+
+    def told(self) -> str:
+        self.set_readers("told", "level")
+        scripts = elim([f"{self.case(v)} {holder.script(self.leaves(v))}" for v, holder in self.variants])
+        self.set_readers("fold", "level")
+        return f"elim l {scripts.removeprefix('elim ')}"
+
+    def same(self) -> str:
+        cases = []
+        for v, _ in self.variants:
+            of = self.case(v).split()[0]
+            cases.append(f"{self.case(v)} " + self.same_at(
+                v.data.fields, self.values(v.data), lambda values, of=of: " ".join([of, *values])))
+        return f"elim ({self.out('y')}) as (λ l. {self.is_same('l')}) {elim(cases).removeprefix('elim ')}"
 
     def maker(self, v: Variant, holder: Holder) -> List[str]:
         if not v.signed():
@@ -221,24 +292,6 @@ class NestedEnumWriter(NestedWriter, EnumWriter):
 
     def is_made(self, v: Variant, holder: Holder) -> bool:
         return v.signed()
-
-    def reader_within(self, v: Variant, holder: NestedHolder) -> List[str]:
-        """The function that reads a variant's fields with the levels that are left."""
-        if not holder.data.named:
-            return []
-        count, names = holder.count, [f"x{i + 1}" for i in range(holder.count)]
-        values = [f"z.{i}" for i in range(count)] if count > 1 else ["z"]
-        types = tuple(f.type for f in holder.fields)
-        result = Type("tuple", types).rust() if count > 1 else types[0].rust()
-        self.set_readers("fold", "levels.now")
-        refusal, gives = holder.refusal_row(), holder.gives_row(values)
-        self.set_readers("fold", "level")
-        body = "\n".join(holder.taken_within("fields", names) + [f"Ok({together(names)})"])
-        return [f"/// Reads the fields, in any order.\nfn {holder.reader}<'de, 'n: 'de, Below>(levels: &{BELOW}, alloc: Global,"
-                f" fields: FieldsByName<'de, 'n>) -> Result<{result}>\n{self.bounds()}"
-                + clause("ensures", f"Reads ({refusal}\n(fields_left fields.entry))\n(λ z. {gives}\n(fields_left fields.entry))"
-                         " result")
-                + f"{{\n{body}\n}}\n"]
 
     def arm_within(self, v: Variant, holder: Holder) -> List[str]:
         """The statements that read a variant with the levels that are left."""
@@ -257,7 +310,7 @@ class NestedEnumWriter(NestedWriter, EnumWriter):
     def sending(self) -> List[str]:
         """The members of the impl that sends a value."""
         arms = [self.sent_arm(v, holder) for v, holder in self.variants]
-        return [self.attribute("send") + function(SEND_NESTED, *self.match(arms))]
+        return [self.attribute("send") + function(SEND_NESTED, "content_nested::tell(self);", *self.match(arms))]
 
     def by_out(self, term: str) -> str:
         """A term by cases on a value."""
@@ -361,20 +414,32 @@ class NestedStructWriter(NestedWriter, StructWriter):
 
     def functions(self) -> List[str]:
         sent = self.holder.sent_types() + self.sender(self.holder, self.sender_name())
-        return self.holder.names_list() + sent * self.sends + self.holder.row_types() * self.reads
+        read = self.holder.row_types() + self.reader_within(self.holder)
+        return self.holder.names_list() + sent * self.sends + read * self.reads
 
     def sender_name(self) -> str:
         return f"send_whole_{self.item.owner}"
 
     def step(self) -> str:
-        values = self.fields_of("p")
-        return (f"(λ p. record {{\nscript = {self.holder.script(values)};\n"
-                f"lawful = λ readable. {self.holder.lawful(values)};\n}})")
+        values = self.fields_of("l")
+        return f"record {{\nscript = {self.holder.script(values)};\nlawful = λ readable. {self.holder.lawful(values)};\n}}"
+
+    def told(self) -> str:
+        self.set_readers("told", "level")
+        script = self.holder.script(self.fields_of("l"))
+        self.set_readers("fold", "level")
+        return script
+
+    def same(self) -> str:
+        names = [in_term(f.name) for f in self.data.fields]
+        return self.same_at(self.data.fields, self.fields_of(f"({self.out('y')})"), lambda values: (
+            "record {\n" + "".join(f"{name} = {value};\n" for name, value in zip(names, values)) + "}"))
 
     def sending(self) -> List[str]:
         """The members of the impl that sends a value."""
         values = ", ".join(f"&self.{f.name}" for f in self.data.fields)
-        return [self.attribute("send") + function(SEND_NESTED, f"{self.sender_name()}(alloc, serializer, error, {values})")]
+        return [self.attribute("send") + function(
+            SEND_NESTED, "content_nested::tell(self);", f"{self.sender_name()}(alloc, serializer, error, {values})")]
 
     def level_refusal(self) -> str:
         return self.holder.refusal()

@@ -5,7 +5,7 @@ from .declarations import Field, Item
 from .holder import Holder
 from .literals import name_method, name_term
 from .tagged import TaggedHolder
-from .text import bare, function, ghost
+from .text import bare, function, ghost, together
 from .types import READ, Type
 
 BELOW = "Box<Below>"  # the levels that are left, as what reads the values inside has them
@@ -101,6 +101,11 @@ class NestedHolder(Holder):
             return is_empty(f.type, value)
         return f"({self.known(place)}.is_empty ({self.known(place)}.layer {value}))"
 
+    def sent(self, f: Field, value: str) -> str:
+        """A value as a row has it; one that leads back has rows of its own."""
+        row = super().sent(f, value)
+        return row.replace("Send", "SendNested", 1) if f.type.leads_back() else row
+
     def known(self, place: int) -> str:
         """What tells what a value is sent by, in contracts that don't look into it."""
         return self.inner(place) if self.sent_as == "parameter" else f"⟦<{self.fields[place].type.rust()} as Nests>⟧"
@@ -170,13 +175,14 @@ class NestedTaggedHolder(NestedHolder, TaggedHolder):
 
 
 def struct_within(holder: NestedHolder, whole: str, wire: str, values: List[str], bounds: str) -> str:
-    """The impl that reads the fields of a struct, which contracts see as these values of `z`."""
+    """The impl that reads the fields of a struct, which contracts see as these values of `z`, by a function of their own."""
     holder.read_as = "l"
     names = [f"x{i + 1}" for i in range(holder.count)]
     ghosts = [ghost("name", bare(name_term(wire))), ghost("refusal", f"λ l. {bare(holder.refusal_row())}"),
               ghost("gives", f"λ l z. {holder.gives_row(values)}")]
     holder.read_as = "level"
     read = function(f"fn read_fields<'n: 'de>(levels: &{BELOW}, alloc: Global, fields: FieldsByName<'de, 'n>)"
-                    f" -> Result<{whole}>", *holder.taken_within("fields", names), f"Ok({holder.data.made(whole, names)})")
+                    f" -> Result<{whole}>", f"let {together(names)} = {holder.reader}(levels, alloc, fields)?;",
+                    f"Ok({holder.data.made(whole, names)})")
     return (f"impl<'de, Below> StructWithin<'de, {BELOW}> for {whole}\n{bounds}{{\n"
             + "\n\n".join([*ghosts, name_method("name", wire), read]) + "\n}\n")

@@ -60,12 +60,12 @@ class Parser(Attributes):
         path, lifetimes = self.path(), []
         if path[-1] in ROOTS - {"Self"}:
             raise NotRust(line, f"expected a type, found `{path[-1]}`")
-        if path[0] == "Self" and len(path) > 1:
-            raise Refused(line, "a type that begins with `Self::` is not covered: write the type itself")
+        if path[0] in ("Self", *self.parameters) and len(path) > 1:
+            raise Refused(line, f"a type that begins with `{path[0]}::` is not covered: write the type itself")
         if self.eat("<") or (self.next.text == "::" and self.after().text == "<" and self.take() and self.take()):
             self.listed(">", lambda: lifetimes.append(self.lifetime()) if self.next.sort == "lifetime" else
                         arguments.append(self.type(depth + 1)))
-        if self.next.text in ("::", "!", "="):
+        if self.next.text in ("::", "!", "=") or (self.next.text == "(" and path[-1] in ("Fn", "FnMut", "FnOnce")):
             raise Refused(line, f"a type with `{self.next.text}` in it is not covered: write the type itself")
         name = "::".join(path)
         if name in self.parameters and arguments:
@@ -74,8 +74,10 @@ class Parser(Attributes):
 
     def borrowed(self, depth: int) -> Type:
         """A reference, from its sign on."""
-        self.take()
+        line = self.take().line
         lifetime = self.lifetime()
+        if self.next.text == "mut":
+            raise Refused(line, "what is borrowed to be changed is not covered: write `&` without `mut`")
         if self.eat("str"):
             return Type("&str", lifetimes=(lifetime,))
         return Type("&", (self.type(depth + 1),), lifetimes=(lifetime,))
@@ -93,7 +95,7 @@ class Parser(Attributes):
         begins, sort = self.next.text, self.next.sort
         if begins in BEGINS:
             raise Refused(line, f"a type that begins with `{begins}` is not covered: {BEGINS[begins]}")
-        if begins == "{" or sort in ("number", "text"):
+        if begins in ("{", "-", "true", "false") or sort in ("number", "text", "char"):
             raise Refused(line, "values as arguments of a type are not covered: write a type for each that you use")
 
     def guarded(self, name: str, head: Head, read: Callable[[], None], angles: bool = False) -> bool:
@@ -232,8 +234,9 @@ class Parser(Attributes):
             self.pass_to(",", ">", "=", angles=True)
             self.note_bounds(start, self.place)
         if self.next.text == "=":
-            raise Refused(line, f"a default of a parameter is not covered: delete that of `{name}`, and write it where you"
-                          " use the type")
+            self.refused.append(Refused(line, f"a default of a parameter is not covered: delete that of `{name}`, and write it"
+                                        " where you use the type"))
+            self.pass_to(",", ">", angles=True)
 
     def bounds(self, *ends: str) -> None:
         """What `where` says up to one of these signs, which is left out."""

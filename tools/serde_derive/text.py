@@ -96,7 +96,7 @@ def together(values: List[str]) -> str:
     return f"({', '.join(values)})" if len(values) > 1 else "".join(values) or "tt"
 
 
-BOUND = set("b cc d e f fits free fs given h it law m o one only p people q readable real refl result s same search t"
+BOUND = set("b cc d e f fits free fs g given h it l law m n o one only p people q r readable real refl result s same search t"
             " there tt v x y z absurd grind".split())
 
 

@@ -119,12 +119,13 @@ content_de.specs.Reads.Read Refusal Gives
 content_de.specs.Reads.Standard held_refusal HeldGives seq_refusal SeqGives
 content_de.specs.Reads.Maps map_refusal MapGives
 serde_content.specs.Skips has_none
-content_nested.specs.Nested Nested option_nested seq_nested map_nested
+content_nested.specs.Nested Nested option_nested seq_nested map_nested told_by
 content_nested.specs.Levels levels_of most_levels
 content_nested.specs.Within refuses_all GivesNothing refusals_within gives_within
 """)
-NESTED_ITEMS = ("FieldsWithin Inner Levels NestedField NestedFieldOr NestedPart Nests PartsWithin ReadNested ReadWithin ReadsNested"
-                " ReadsWithin SendNested SkipNested StructWithin TaggedWithin VariantsWithin").split()
+NESTED_ITEMS = ("FieldsWithin Inner Levels NestedField NestedFieldOr NestedPart Nests PartsWithin ReadNested ReadWithin"
+                " ReadsLevel ReadsNested ReadsWithin SendNested SendNestedField SendNestedPart SkipNested Steps StructWithin"
+                " TaggedWithin Tells Told VariantsWithin").split()
 ALIASES = {"kind": "content_tree.specs.Values.Ranges", "tree": "content_tree.specs.Values.Tree"}
 SEEN = word_table("""
 std.specs.declared.alloc.Global Global
@@ -168,7 +169,8 @@ USES = {
 }
 NO_PLACES = RESERVED | {"alloc", "fields", "serializer", "result", "row", "whole"} | {
     name for names in USES.values() for name in names.split() if name.islower()}
-IN_TEXT = {"[]": r"\[\]", "form": r"\(form t\)", "custom": r"\(custom ", "Some": r"(?:\(|≡ )Some \(", "None": r"(?:≡|\[\]\)) None",
+IN_TEXT = {"[]": r"\[\]", "form": r"\(form t\)", "custom": r"\(custom ", "Some": r"(?:\(|≡ )Some \(|\| Some w\d",
+           "None": r"(?:≡|\[\]\)) None|\| None ↦",
            "true": r"(?:fits|λ b\.|≡) true", "false": r"(?:≡|λ n\.) false", "name": 'name "', "not": r"\(not ", "variants": r"variants \( \(name"}
 METHODS = {"Parts": r"\.(?:with|around)\("}
 # what no own type is called; `S` is the type of a serialiser, `Following` of a row, and contracts name the two traits

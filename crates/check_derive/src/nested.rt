@@ -23,17 +23,16 @@ ghost use Rattle.content_de.specs.Outcomes.{refusal_then};
 ghost use Rattle.content_de.specs.Accesses.Seq.{seq_at};
 ghost use Rattle.content_de.specs.Reads.Read.{Refusal, Gives};
 ghost use Rattle.content_de.specs.Reads.Standard.{seq_refusal, SeqGives};
-ghost use Rattle.content_nested.specs.Nested.{Nested, seq_nested};
+ghost use Rattle.content_nested.specs.Nested.{Nested, seq_nested, told_by};
 ghost use Rattle.content_nested.specs.Levels.{levels_of, most_levels};
 ghost use Rattle.content_nested.specs.Within.{refuses_all, GivesNothing, refusals_within};
 ghost use Rattle.content_nested.specs.Within.{gives_within};
-ghost use Rattle.check_derive.specs.declared.nested.Expr.{Expr, fold-Expr, out-Expr};
+ghost use Rattle.check_derive.specs.declared.nested.Expr.{Expr, fold-Expr, fold_out-Expr, map-Expr, out-Expr};
 ghost use Rattle.check_derive.specs.declared.nested.Expr.TheOpen as expr;
-ghost use Rattle.check_derive.specs.declared.nested.Expr.TheViews as expr_as_view;
 
 use content_nested::{
-    FieldsWithin, Inner, Levels, NestedField, Nests, ReadNested, ReadWithin, ReadsNested,
-    ReadsWithin, SendNested, VariantsWithin,
+    FieldsWithin, Inner, Levels, NestedField, Nests, ReadNested, ReadWithin, ReadsLevel,
+    ReadsNested, ReadsWithin, SendNested, SendNestedField, Steps, Tells, Told, VariantsWithin,
 };
 use serde_content::de::{Deserialize, FieldsByName, VariantAccess};
 use serde_content::derive_support::{
@@ -92,23 +91,14 @@ fn send_whole_expr_not<S: Serializer, Inner1: SendNested>(
         (Inner1.nested (Inner1.layer x1.now)).script)
         (answer_of result error.new) (S.seen serializer.new) }
 {
-    let x1 = Inner(x1);
     content_nested::send_around(
         Call::NewtypeVariant(name_expr(), 1, name_not()),
-        &x1,
+        &Inner(x1),
         alloc,
         serializer,
         error,
     )
 }
-
-/// Its contract tells proofs what that variant is sent by.
-fn told_expr_not(x1: &Box<Expr>)
-    ensures { (⟦<Expr as Nests>⟧.layer
-        (expr_as_view.Not x1.now)).script ≡
-        newtype_variant_script (name "Expr") 1 (name "Not")
-        (⟦<Box<Expr> as Nests>⟧.nested (⟦<Box<Expr> as Nests>⟧.layer x1.now)).script }
-{}
 
 /// The names of its fields.
 #[derive(Drop)]
@@ -138,24 +128,12 @@ fn send_whole_expr_call<S: Serializer, Inner2: SendNested>(
         end_script)))
         (answer_of result error.new) (S.seen serializer.new) }
 {
-    let x2 = Inner(x2);
     let row = SendEnd;
-    let row = SendField(FieldsOfExprCall, 1, &x2, row);
+    let row = SendNestedField(FieldsOfExprCall, 1, x2, row);
     let row = SendField(FieldsOfExprCall, 0, x1, row);
     let row = SendOpen(Call::StructVariant(name_expr(), 2, name_call(), 2), row);
     content_nested::send_row_aside(&row, alloc, serializer, error)
 }
-
-/// Its contract tells proofs what that variant is sent by.
-fn told_expr_call(x1: &String, x2: &Vec<Expr>)
-    ensures { (⟦<Expr as Nests>⟧.layer
-        (expr_as_view.Call x1.now x2.now)).script ≡
-        struct_variant_script (name "Expr") 2 (name "Call") 2
-        (field_first (name "name") (⟦<String as Serialize>⟧.script x1.now)
-        (field_first (name "with") (⟦<Vec<Expr> as Nests>⟧.nested
-        (⟦<Vec<Expr> as Nests>⟧.layer x2.now)).script
-        end_script)) }
-{}
 
 type Field1OfExprCall = ReadField<FieldsOfExprCall, 0, String, Field2OfExprCall>;
 
@@ -206,10 +184,10 @@ impl Names for NamesOfExpr {
     }
 }
 
-impl Nests for Expr {
-    ghost Layer = { Nested };
+impl Steps for Expr {
+    ghost Filled = { expr.Expr-F Nested };
 
-    ghost layer = { λ y. fold-Expr Nested (elim [
+    ghost step = { λ l. elim l [
       | expr.Number x1 ↦ record {
         script = newtype_variant_script (name "Expr") 0 (name "Number")
             (⟦<u64 as Serialize>⟧.script x1);
@@ -229,11 +207,46 @@ impl Nests for Expr {
             (field_fits ((seq_nested (λ y. y) x2.items).lawful readable)
             struct_end_fits));
       }
-    ]) y };
+    ] };
+}
+
+impl Nests for Expr {
+    ghost Layer = { Nested };
+
+    ghost layer = { λ y. fold-Expr Nested ⟦<Expr as Steps>⟧.step y };
 
     ghost nested = { λ n. n };
 
     ghost is_empty = { λ n. false };
+}
+
+impl Told for Expr {
+    ghost Level = { expr.Expr-F Expr };
+
+    ghost level = { λ y. out-Expr y };
+
+    ghost told = { λ l. elim l [
+      | expr.Number x1 ↦ newtype_variant_script (name "Expr") 0 (name "Number")
+          (⟦<u64 as Serialize>⟧.script x1)
+      | expr.Not x1 ↦ newtype_variant_script (name "Expr") 1 (name "Not")
+          (⟦<Box<Expr> as Nests>⟧.nested (⟦<Box<Expr> as Nests>⟧.layer x1)).script
+      | expr.Call x1 x2 ↦ struct_variant_script (name "Expr") 2 (name "Call") 2
+          (field_first (name "name") (⟦<String as Serialize>⟧.script x1)
+          (field_first (name "with") (⟦<Vec<Expr> as Nests>⟧.nested
+          (⟦<Vec<Expr> as Nests>⟧.layer x2)).script
+          end_script))
+    ] };
+}
+
+impl Tells for Expr {
+    ghost is_told = { λ y. told_by (fold_out-Expr Nested ⟦<Expr as Steps>⟧.step y)
+        (elim (out-Expr y) as (λ l. (⟦<Expr as Steps>⟧.step
+        (map-Expr Expr Nested (fold-Expr Nested ⟦<Expr as Steps>⟧.step) l)).script ≡
+        ⟦<Expr as Told>⟧.told l) [
+          | expr.Number x1 ↦ refl
+          | expr.Not x1 ↦ refl
+          | expr.Call x1 x2 ↦ refl
+        ]) };
 }
 
 impl SendNested for Expr {
@@ -243,14 +256,11 @@ impl SendNested for Expr {
         serializer: &mut S,
         error: &mut serde_content::Error,
     ) -> serde_content::ser::Sent {
+        content_nested::tell(self);
         match self {
             Expr::Number(x1) => send_whole_expr_number(alloc, serializer, error, x1),
-            Expr::Not(x1) => {
-                told_expr_not(x1);
-                send_whole_expr_not(alloc, serializer, error, x1)
-            }
+            Expr::Not(x1) => send_whole_expr_not(alloc, serializer, error, x1),
             Expr::Call { name: x1, with: x2 } => {
-                told_expr_call(x1, x2);
                 send_whole_expr_call(alloc, serializer, error, x1, x2)
             }
         }
@@ -276,9 +286,8 @@ impl Serialize for Expr {
     }
 }
 
-impl<'de> ReadsNested<'de> for Expr {
-    ghost refusal_in = { λ n. (refusals_within {R = Refusal} refuses_all
-        (λ r. ((enum_refusal (name "Expr") (variants (
+impl<'de> ReadsLevel<'de> for Expr {
+    ghost level_refusal = { λ r. enum_refusal (name "Expr") (variants (
         (name "Number", newtype_variant_refusal (⟦<u64 as Deserialize<'de>>⟧.refusal))
         ∷ (name "Not", newtype_variant_refusal r)
         ∷ (
@@ -288,10 +297,9 @@ impl<'de> ReadsNested<'de> for Expr {
               (row_then (name "with") (λ s. refusal_then (seq_at s) (seq_refusal r))
               (others_left (name "name" ∷ name "with" ∷ []))))),
         )
-        ∷ []))))) n) };
+        ∷ [])) };
 
-    ghost gives_in = { λ n. (gives_within {G = Gives Expr} GivesNothing
-        (λ g. ((λ s y. EnumGives (name "Expr")
+    ghost level_gives = { λ g. λ s y. EnumGives (name "Expr")
         (elim (out-Expr y) [
           | expr.Number x1 ↦ name "Number"
           | expr.Not x1 ↦ name "Not"
@@ -305,7 +313,15 @@ impl<'de> ReadsNested<'de> for Expr {
               (RowThen (name "with") (λ s v. IsTaken (seq_at s) (λ left. SeqGives g left v.items))
               x2
               NoOthers)))
-        ]) s))) n) };
+        ]) s };
+}
+
+impl<'de> ReadsNested<'de> for Expr {
+    ghost refusal_in = { λ n. refusals_within {R = Refusal} refuses_all
+        ⟦<Expr as ReadsLevel<'de>>⟧.level_refusal n };
+
+    ghost gives_in = { λ n. gives_within {G = Gives Expr} GivesNothing
+        ⟦<Expr as ReadsLevel<'de>>⟧.level_gives n };
 }
 
 impl<'de> ReadsWithin<'de, Expr> for Levels {

@@ -159,7 +159,7 @@ pub record TakenInPlace (e : Encoding) (c : Event) : Type 0 where
   pub silent : writes_nothing c ≡ true
   pub in_place : IsSome (step e.written c)
 
--- with which error a call is refused; what was written stays, and where memory ran out a part of the call may follow it
+-- with which error a call is refused; what was written stays, and where memory ran out more may follow it
 abbrev pub refuses : Refusal → Written → Error → Written → Type 0
 refuses after_failure old e new = (kind_of e ≡ Failed) × (new ≡ old)
 refuses out_of_place old e new = (kind_of e ≡ Misplaced) × (new ≡ old)

@@ -262,9 +262,8 @@ impl Encoder {
     }
 
     /// The bytes, moved out; after a refusal those that were written before, and where memory ran
-    /// out perhaps a part of the call that was refused. Of the calls of one whole tree, all taken,
-    /// they are its data item: the law
-    /// [`whole_trees_are_encoded`](crate::laws::whole_trees_are_encoded) says so.
+    /// out perhaps more after them. Of the calls of one whole tree, all taken, they are its data
+    /// item: the law [`whole_trees_are_encoded`](crate::laws::whole_trees_are_encoded) says so.
     pub fn into_bytes(self) -> Vec<u8>
         ensures { result.items ≡ self.written.bytes }
     {

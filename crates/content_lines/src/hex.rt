@@ -1,6 +1,6 @@
 //! Bytes as pairs of hexadecimal digits.
 
-ghost use Rattle.std.specs.Prelude.{◌≡◌, ◌<◌, ◌++◌, IfOk, OnOk, MatchOption, true, false};
+ghost use Rattle.std.specs.Prelude.{◌≡◌, ◌<◌, ◌++◌, IfOk, IsOk, OnOk, MatchOption, true, false};
 ghost use Rattle.std.specs.List.{list_all};
 ghost use Rattle.std.specs.String.{string_bytes};
 ghost use Rattle.content_lines.specs.Numerals.{is_lower_hex_digit, is_hex_digit, hex_value};
@@ -85,8 +85,9 @@ pub fn decode(alloc: Global, text: &[u8]) -> Result<Vec<u8>, AllocError>
 /// }
 /// ```
 pub fn read_hex(alloc: Global, text: &[u8]) -> Result<Option<Vec<u8>>, AllocError>
-    ensures { IfOk result (λ read. MatchOption read (is_hex text.now ≡ false)
+    ensures value { IfOk result (λ read. MatchOption read (is_hex text.now ≡ false)
         (λ bytes. (is_hex text.now ≡ true) × (bytes.items ≡ unhex text.now))) }
+    ensures succeeds { is_hex text.now ≡ false → IsOk result }
 {
     if is_paired(text) {
         Ok(Some(decode(alloc, text)?))

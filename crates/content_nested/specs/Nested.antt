@@ -1,5 +1,6 @@
 -- What a value is sent by, made from what the values in it are sent by.
-use Rattle.std.specs.Prelude.{Bool, List, Option, string_bytes, refl}
+use Rattle.std.specs.Prelude.{◌≡◌, Bool, List, Option, string_bytes, refl}
+use Rattle.std.proofs.Common.{ap, ◌∙◌}
 use Rattle.std.specs.declared.alloc.Global.{Global}
 use Rattle.std.specs.declared.string.String.{String}
 use Rattle.content_ser.specs.Calls.Event as event
@@ -11,6 +12,10 @@ use Rattle.content_ser.specs.Laws.StandardScripts.{AllLawful, leaf_lawful, optio
 pub record Nested : Type 0 where
   pub script : Bool → Script
   pub lawful : (readable : Bool) → IsLawful (script readable)
+
+-- the script of what equals what has this script
+pub told_by : {m n : Nested} {s : Bool → Script} → m ≡ n → n.script ≡ s → m.script ≡ s
+told_by e h = ap (λ (p : Nested). p.script) e ∙ h
 
 -- the script of each value
 abbrev pub script_by : {A : Type 0} → (A → Nested) → ScriptOf A

@@ -38,7 +38,7 @@ pub trait FieldsWithin<'de, L>: Sized {
 
 /// The name at an index; the empty text past the end.
 #[inline(always)]
-fn name_at<K: Names>(index: usize) -> &'static str
+pub(crate) fn name_at<K: Names>(index: usize) -> &'static str
     ensures { result.now ≡ slice_index_or K.names index [] }
 {
     match K::names().get(index) {

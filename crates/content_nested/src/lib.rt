@@ -3,7 +3,7 @@
 //!
 //! | To | Use |
 //! |---|---|
-//! | send a value of such a type | [`Nests`], [`SendNested`], [`send_nested`] |
+//! | send a value of such a type | [`Steps`], [`Nests`], [`Told`], [`SendNested`], [`send_nested`] |
 //! | read one, level by level | [`Levels`], [`ReadWithin`], [`ReadNested`], [`read_nested`] |
 //! | read what is in one | [`VariantsWithin`], [`StructWithin`], [`FieldsWithin`], [`PartsWithin`] |
 
@@ -16,6 +16,7 @@ mod levels;
 mod map_read;
 mod parts;
 mod reading;
+mod rows_sent;
 mod sending;
 mod structs;
 mod variants;
@@ -23,9 +24,13 @@ mod variants;
 pub use fields::{FieldsWithin, NestedField, NestedFieldOr};
 pub use levels::Levels;
 pub use parts::{NestedPart, PartsWithin};
-pub use reading::{ReadNested, ReadWithin, ReadsNested, ReadsWithin, read_nested, too_deep};
+pub use reading::{
+    ReadNested, ReadWithin, ReadsLevel, ReadsNested, ReadsWithin, read_nested, too_deep,
+};
+pub use rows_sent::{SendNestedField, SendNestedPart};
 pub use sending::{
-    Inner, Nests, SendNested, SkipNested, send_around, send_nested, send_only, send_row_aside,
+    Inner, Nests, SendNested, SkipNested, Steps, Tells, Told, send_around, send_nested, send_only,
+    send_row_aside, tell,
 };
 pub use structs::{StructWithin, read_struct_within};
 pub use variants::{

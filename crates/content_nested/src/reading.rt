@@ -32,6 +32,15 @@ pub trait ReadWithin<'de, T>: ReadsWithin<'de, T> {
             (Self.gives self.now (subject from.entry)) result };
 }
 
+/// What a type that contains itself reads on one level, by what is read on the next.
+pub trait ReadsLevel<'de>: Sized {
+    /// The cause of the first refusal in reading order, or none.
+    ghost level_refusal: { Refusal → Refusal };
+
+    /// The values that may be given where there is no refusal.
+    ghost level_gives: { Gives Self → Gives Self };
+}
+
 /// What a type that contains itself reads with so many levels.
 pub trait ReadsNested<'de>: Sized {
     /// The cause of the first refusal in reading order, or none.

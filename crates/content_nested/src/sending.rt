@@ -6,6 +6,7 @@
 #![tactic(auto, using(content_ser::proofs::Sending::sending))]
 
 ghost use Rattle.std.specs.Prelude.{◌≡◌, Bool};
+ghost use Rattle.content_ser.specs.Scripts.Script.{Script};
 ghost use Rattle.content_ser.specs.Scripts.Sends.{Sends};
 ghost use Rattle.content_ser.specs.Calls.Call.{event_of};
 ghost use Rattle.content_ser.specs.Scripts.Standard.{call_first, only};
@@ -45,6 +46,38 @@ pub trait SendNested: Nests {
         ensures { Sends S.step S.refuses (S.seen serializer.old) (Self.nested (Self.layer self.now)).script
             (answer_of result error.new) (S.seen serializer.new) };
 }
+
+/// What a value is sent by, made from what those of its type in it are sent by: one level of it.
+pub trait Steps {
+    /// A level with what each value of its type in it is sent by in the place of that.
+    ghost Filled: { Type 0 };
+
+    /// What such a level is sent by.
+    ghost step: { Filled → Nested };
+}
+
+/// What a value is sent by, as one of its levels tells it.
+pub trait Told {
+    /// A level with the values of its type in it as they are.
+    ghost Level: { Type 0 };
+
+    /// That of a value.
+    ghost level: { Self → Level };
+
+    /// The script of such a level.
+    ghost told: { Level → Bool → Script };
+}
+
+/// That it is sent so.
+pub trait Tells: Nests + Told {
+    /// The script that a value's level tells is the value's.
+    ghost is_told: { (y : Self) → (Self.nested (Self.layer y)).script ≡ Self.told (Self.level y) };
+}
+
+/// Tells proofs what a value is sent by: they needn't look into all its levels then.
+pub fn tell<T: Tells>(value: &T)
+    ensures { (T.nested (T.layer value.now)).script ≡ T.told (T.level value.now) }
+{}
 
 /// A value that may be left out where it is empty.
 pub trait SkipNested: Nests {

@@ -79,9 +79,9 @@ impl<'v, 'n: 'v> Store<'v, 'n> {
     }
 
     /// Reads a copy of the record of this number as a type. What the type doesn't take is refused
-    /// with what was found and what was expected; names of types aren't compared. Of a record that
-    /// was put as this type it gives an equal value, if the type is
-    /// [`RoundTrip`](serde_content::RoundTrip) ([proved](crate::laws::put_is_got)).
+    /// as the type refuses it; no request compares names of types. Of a record that was put as this
+    /// type it gives an equal value, if the type is [`RoundTrip`](serde_content::RoundTrip)
+    /// ([proved](crate::laws::put_is_got)).
     ///
     /// # Errors
     ///
