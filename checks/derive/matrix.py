@@ -3,7 +3,7 @@ type, of which the last item is the one that is tried.
 
   python3 checks/derive/matrix.py            prints the names of all types
   python3 checks/derive/matrix.py NAME       prints the declarations of one
-  python3 checks/derive/matrix.py --sample   prints crates/check_derive/sample.rs: one file of some
+  python3 checks/derive/matrix.py --sample   prints crates/check_sample/sample.rs: one file of some
 """
 import re
 import sys

@@ -35,7 +35,7 @@ class Slow(Exception):
 
 def sources() -> List[List[str]]:
     """The tokens of each block of declarations, blanks among them."""
-    texts = [path.read_text(encoding="utf-8") for path in sorted((top / "crates" / "check_derive").glob("*.rs"))]
+    texts = [path.read_text(encoding="utf-8") for path in sorted((top / "crates").glob("check_*/*.rs"))]
     for path in sorted((top / "checks" / "derive").glob("*.rs")):
         texts += path.read_text(encoding="utf-8").split("\n\n")
     return [re.findall(r"\s+|\w+|.", text) for text in texts]

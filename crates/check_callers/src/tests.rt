@@ -2,23 +2,13 @@
 //! written by hand.
 //! All else is rows, which `check_rows` runs.
 
-mod cbor;
 mod collections;
-mod derived;
 mod fields_by_name;
 mod for_people;
 mod hostile;
-mod left_over;
 mod literals;
-mod located;
-mod merges;
-mod nested;
 mod own_structs;
 mod own_types;
 mod path_edits;
 mod readme;
 mod round_trips;
-mod spread;
-mod uses;
-mod values;
-mod written;

@@ -1,35 +1,66 @@
 //! Sets, hash maps, queues, paths and what several own.
 
 use crate::tests::round_trips::comes_back;
-use serde_content::{Deserializer, value};
+use serde_content::{Deserializer, Result as Answer, value};
+use std::alloc::Global;
 use std::collections::{BTreeSet, HashMap, VecDeque};
 use std::path::PathBuf;
 use std::rc::Rc;
 use std::test::Fail;
 
+/// A set of which one item is sent twice.
+fn read_set(alloc: Global) -> Answer<BTreeSet<u8>> {
+    Deserializer::new(value!(in alloc; [2u8, 1u8, 2u8])?).deserialize(alloc)
+}
+
+/// A map of which one key is sent twice.
+fn read_map(alloc: Global) -> Answer<HashMap<u8, char>> {
+    Deserializer::new(value!(in alloc; { 2u8: 'a', 1u8: 'b', 2u8: 'c' })?).deserialize(alloc)
+}
+
 #[test]
-fn equal_keys_are_read_once(rt: HostRuntime) -> Result<(), Fail> {
-    let alloc = rt.alloc();
-    let items = value!(in alloc; [2u8, 1u8, 2u8])?;
-    let set: BTreeSet<u8> = Deserializer::new(items).deserialize(alloc)?;
+fn equal_items_are_read_once(rt: HostRuntime) -> Result<(), Fail> {
+    let set = read_set(rt.alloc())?;
     assert!(rt; set.len() == 2 && set.first() == Some(&1));
-    let entries = value!(in alloc; { 2u8: 'a', 1u8: 'b', 2u8: 'c' })?;
-    let map: HashMap<u8, char> = Deserializer::new(entries).deserialize(alloc)?;
+    Ok(())
+}
+
+#[test]
+fn of_equal_keys_the_last_is_kept(rt: HostRuntime) -> Result<(), Fail> {
+    let map = read_map(rt.alloc())?;
     assert!(rt; map.len() == 2 && map.get(&2) == Some(&'c'));
     Ok(())
+}
+
+/// Two letters.
+fn letters(alloc: Global) -> Answer<BTreeSet<char>> {
+    let mut set = BTreeSet::new(alloc);
+    set.insert('b')?;
+    set.insert('a')?;
+    Ok(set)
+}
+
+/// A queue under a path.
+fn queue_at_path(alloc: Global) -> Answer<HashMap<PathBuf, VecDeque<u8>>> {
+    let queue = VecDeque::from_vec(vec![in alloc; 1, 2]?);
+    let mut map = HashMap::new(alloc);
+    map.insert(PathBuf::from_str(alloc, "/a/b")?, queue)?;
+    Ok(map)
 }
 
 #[test]
 fn collections_come_back(rt: HostRuntime) -> Result<(), Fail> {
     let alloc = rt.alloc();
-    let mut set = BTreeSet::new(alloc);
-    set.insert('b')?;
-    set.insert('a')?;
-    let queue = VecDeque::from_vec(vec![in alloc; 1u8, 2]?);
-    let mut map = HashMap::new(alloc);
-    map.insert(PathBuf::from_str(alloc, "/a/b")?, queue)?;
+    assert!(rt; comes_back(alloc, &letters(alloc)?)?);
+    assert!(rt; comes_back(alloc, &queue_at_path(alloc)?)?);
+    Ok(())
+}
+
+#[test]
+fn a_shared_text_comes_back(rt: HostRuntime) -> Result<(), Fail> {
+    let alloc = rt.alloc();
     let text = String::from_str(alloc, "c")?;
     let shared = Rc::new(alloc, text.into_boxed_str())?;
-    assert!(rt; comes_back(alloc, &(set, map, shared))?);
+    assert!(rt; comes_back(alloc, &shared)?);
     Ok(())
 }

@@ -1,6 +1,5 @@
 //! A builder that a caller uses badly: a text after a refusal, and a stop that it swallows.
 
-use super::written::spelled;
 use serde_content::ser::{Builder, Serialize, Serializer};
 use serde_content::{CowStr, Data, ErrorKind, Result as Answer, Struct, Value};
 use std::alloc::Global;
@@ -62,6 +61,16 @@ fn a_swallowed_stop_has_made_its_calls(rt: HostRuntime) -> Result<(), Fail> {
     Ok(())
 }
 
+/// A sequence of a struct without fields.
+fn of_empty_struct(alloc: Global) -> Answer<Value<'static>> {
+    let data = Data::Struct {
+        fields: Vec::new(alloc),
+    };
+    let name = CowStr::Borrowed("Foo");
+    let node = Box::new(alloc, Struct { name, data })?;
+    Ok(Value::Seq(vec![in alloc; Value::Struct(node)]?))
+}
+
 #[test]
 fn after_a_swallowed_stop_the_open_nodes_end(rt: HostRuntime) -> Result<(), Fail> {
     let alloc = rt.alloc();
@@ -69,9 +78,7 @@ fn after_a_swallowed_stop_the_open_nodes_end(rt: HostRuntime) -> Result<(), Fail
     assert!(rt; swallow(&mut builder, alloc)?);
     builder.end()?;
     builder.end()?;
-
-    // A struct without fields, in a sequence.
-    let wanted = spelled(alloc, "seq; element; struct Foo 0; end; end")?;
+    let wanted = of_empty_struct(alloc)?;
     assert!(rt; builder.finish()? == wanted);
     Ok(())
 }

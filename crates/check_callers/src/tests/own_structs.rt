@@ -64,27 +64,35 @@ impl<'de> Deserialize<'de> for Pair {
     }
 }
 
+/// Reads a pair of values by place.
+fn read_pair(alloc: Global, values: &[u32], buffered: bool) -> Answer<Pair> {
+    let mut items = Vec::new(alloc);
+    for value in values {
+        items.push(Value::from(*value))?;
+    }
+    let from = Deserializer::new(Value::Seq(items));
+    match buffered {
+        true => from.buffered().deserialize(alloc),
+        false => from.deserialize(alloc),
+    }
+}
+
 #[test]
 fn structs_of_other_sorts_are_read(rt: HostRuntime) -> Result<(), Fail> {
     let alloc = rt.alloc();
     let Marker = Deserializer::new(Value::Unit).deserialize(alloc)?;
     let metres: Metres = Deserializer::new(Value::from(7u32)).deserialize(alloc)?;
     assert!(rt; metres.0 == 7);
-    let items = vec![in alloc; Value::from(1u32), Value::from(2u32)]?;
-    let pair: Pair = Deserializer::new(Value::Seq(items)).deserialize(alloc)?;
-    assert!(rt; pair.0 == 1);
-    assert!(rt; pair.1 == 2);
+    let pair = read_pair(alloc, &[1, 2], false)?;
+    assert!(rt; pair.0 == 1 && pair.1 == 2);
     Ok(())
 }
 
 #[test]
 fn values_left_over_are_refused_in_a_buffer(rt: HostRuntime) -> Result<(), Fail> {
     let alloc = rt.alloc();
-    let items = vec![in alloc; Value::from(1u32), Value::from(2u32), Value::from(3u32)]?;
-    let from = Deserializer::new(Value::Seq(items));
-    let pair: Pair = from.try_clone(alloc)?.deserialize(alloc)?;
-    assert!(rt; pair.1 == 2);
-    let read: Answer<Pair> = from.buffered().deserialize(alloc);
-    assert!(rt; read.err() == Some(Error::custom(alloc, "too many elements: expected 2")));
+    assert!(rt; read_pair(alloc, &[1, 2, 3], false)?.1 == 2);
+    let refused = read_pair(alloc, &[1, 2, 3], true).err();
+    assert!(rt; refused == Some(Error::custom(alloc, "too many elements: expected 2")));
     Ok(())
 }

@@ -1,7 +1,7 @@
 //! A type that contains itself.
 
 use super::written::{shown, value_of};
-use check_derive::nested::Expr;
+use check_sample::nested::Expr;
 use serde_content::{Deserializer, ErrorKind, Result as Answer, Serializer};
 use std::alloc::Global;
 use std::test::Fail;

@@ -77,18 +77,18 @@ ghost use Rattle.std.specs.declared.string.String.{String};
 ghost use Rattle.std.specs.declared.vec.Vec.{Vec};
 ghost use Rattle.std.specs.declared.collections.BTreeSet.{BTreeSet};
 ghost use Rattle.content_tree.specs.Values.Ranges as kind;
-ghost use Rattle.check_derive.specs.declared.sample.Inside.{Inside};
-ghost use Rattle.check_derive.specs.declared.sample.Level.{Level};
-ghost use Rattle.check_derive.specs.declared.sample.Deeper.TheVariants as deeper;
-ghost use Rattle.check_derive.specs.declared.sample.AdjacentMixed4.TheVariants as adjacent_mixed4;
-ghost use Rattle.check_derive.specs.declared.sample.Untagged4.TheVariants as untagged4;
-ghost use Rattle.check_derive.specs.declared.sample.UntaggedPlaces.TheVariants as untagged_places;
-ghost use Rattle.check_derive.specs.declared.sample.SkippedInVariant2.TheVariants as skipped_in_variant2;
-ghost use Rattle.check_derive.specs.declared.sample.SkippedBesideTag2.TheVariants as skipped_beside_tag2;
-ghost use Rattle.check_derive.specs.declared.sample.Level.TheVariants as level;
-ghost use Rattle.check_derive.specs.declared.sample.NamesOfVariants40.TheVariants as names_of_variants40;
-ghost use Rattle.check_derive.specs.declared.sample.NameOfTag20.TheVariants as name_of_tag20;
-ghost use Rattle.check_derive.specs.declared.sample.WordInVariantRecord.TheVariants as word_in_variant_record;
+ghost use Rattle.check_sample.specs.declared.sample.Inside.{Inside};
+ghost use Rattle.check_sample.specs.declared.sample.Level.{Level};
+ghost use Rattle.check_sample.specs.declared.sample.Deeper.TheVariants as deeper;
+ghost use Rattle.check_sample.specs.declared.sample.AdjacentMixed4.TheVariants as adjacent_mixed4;
+ghost use Rattle.check_sample.specs.declared.sample.Untagged4.TheVariants as untagged4;
+ghost use Rattle.check_sample.specs.declared.sample.UntaggedPlaces.TheVariants as untagged_places;
+ghost use Rattle.check_sample.specs.declared.sample.SkippedInVariant2.TheVariants as skipped_in_variant2;
+ghost use Rattle.check_sample.specs.declared.sample.SkippedBesideTag2.TheVariants as skipped_beside_tag2;
+ghost use Rattle.check_sample.specs.declared.sample.Level.TheVariants as level;
+ghost use Rattle.check_sample.specs.declared.sample.NamesOfVariants40.TheVariants as names_of_variants40;
+ghost use Rattle.check_sample.specs.declared.sample.NameOfTag20.TheVariants as name_of_tag20;
+ghost use Rattle.check_sample.specs.declared.sample.WordInVariantRecord.TheVariants as word_in_variant_record;
 
 use serde_content::de::{Deserialize, FieldsByName, VariantAccess};
 use serde_content::derive_support::{
@@ -226,7 +226,7 @@ impl Names for NamesOfDeeper {
 }
 
 impl Serialize for Deeper {
-    ghost use Rattle.check_derive.specs.contracts.sample.OwnSerialize.TheImpl.Laws as own_serialize;
+    ghost use Rattle.check_sample.specs.contracts.sample.OwnSerialize.TheImpl.Laws as own_serialize;
 
     ghost script = { elim [
       | deeper.A ↦ unit_variant_script (name "Deeper") 0 (name "A")
@@ -306,7 +306,7 @@ impl<'de> Deserialize<'de> for Deeper {
 }
 
 impl<'de> RoundTrip<'de> for Deeper {
-    ghost use Rattle.check_derive.specs.contracts.sample.OwnRoundTrip.TheImpl.Laws as own_round_trip;
+    ghost use Rattle.check_sample.specs.contracts.sample.OwnRoundTrip.TheImpl.Laws as own_round_trip;
 
     fn known(&self) {}
 
@@ -396,8 +396,8 @@ impl<'de> ReadStruct<'de> for Deep {
 }
 
 impl Serialize for Deep {
-    ghost use Rattle.check_derive.specs.contracts.sample.OwnSerialize.TheImpl.Laws as own_serialize;
-    ghost use Rattle.check_derive.specs.contracts.sample.DeeperSerialize.TheImpl.Laws as deeper_serialize;
+    ghost use Rattle.check_sample.specs.contracts.sample.OwnSerialize.TheImpl.Laws as own_serialize;
+    ghost use Rattle.check_sample.specs.contracts.sample.DeeperSerialize.TheImpl.Laws as deeper_serialize;
 
     ghost script = { λ p. struct_script (name "Deep") 2
         (field_first (name "own") (⟦<Own as Serialize>⟧.script p.own)
@@ -436,8 +436,8 @@ impl<'de> Deserialize<'de> for Deep {
 }
 
 impl<'de> RoundTrip<'de> for Deep {
-    ghost use Rattle.check_derive.specs.contracts.sample.OwnRoundTrip.TheImpl.Laws as own_round_trip;
-    ghost use Rattle.check_derive.specs.contracts.sample.DeeperRoundTrip.TheImpl.Laws as deeper_round_trip;
+    ghost use Rattle.check_sample.specs.contracts.sample.OwnRoundTrip.TheImpl.Laws as own_round_trip;
+    ghost use Rattle.check_sample.specs.contracts.sample.DeeperRoundTrip.TheImpl.Laws as deeper_round_trip;
 
     ghost exists = { λ p. ⟦<Vec<Deeper> as RoundTrip<'de>>⟧.exists p.deeper };
 
@@ -3747,8 +3747,8 @@ impl Absent for DefaultWhole4 {
 }
 
 impl Serialize for DefaultWhole4 {
-    ghost use Rattle.check_derive.specs.contracts.sample.InsideSerialize.TheImpl.Laws as inside_serialize;
-    ghost use Rattle.check_derive.specs.contracts.sample.LevelSerialize.TheImpl.Laws as level_serialize;
+    ghost use Rattle.check_sample.specs.contracts.sample.InsideSerialize.TheImpl.Laws as inside_serialize;
+    ghost use Rattle.check_sample.specs.contracts.sample.LevelSerialize.TheImpl.Laws as level_serialize;
 
     ghost script = { λ p. struct_script (name "DefaultWhole4") 4
         (field_first (name "f0") (⟦<u8 as Serialize>⟧.script p.f0)
@@ -3799,8 +3799,8 @@ impl<'de> Deserialize<'de> for DefaultWhole4 {
 }
 
 impl<'de> RoundTrip<'de> for DefaultWhole4 {
-    ghost use Rattle.check_derive.specs.contracts.sample.InsideRoundTrip.TheImpl.Laws as inside_round_trip;
-    ghost use Rattle.check_derive.specs.contracts.sample.LevelRoundTrip.TheImpl.Laws as level_round_trip;
+    ghost use Rattle.check_sample.specs.contracts.sample.InsideRoundTrip.TheImpl.Laws as inside_round_trip;
+    ghost use Rattle.check_sample.specs.contracts.sample.LevelRoundTrip.TheImpl.Laws as level_round_trip;
 
     ghost exists = { λ p. ⟦<Inside as RoundTrip<'de>>⟧.exists p.f2 };
 

@@ -1,12 +1,12 @@
 //! Types that `tools/derive` wrote: fields in another order, choices, and values that come back.
 
-use super::cbor;
 use super::written::{shown, value_of};
 use check_derive::choices::{Color, Command, Setting};
 use check_derive::inlined::{Amount, Change, Line};
 use check_derive::sorts::{Message, Stop};
 use check_derive::types::Order;
-use content_cbor::to_bytes;
+use content_cbor::laws::write_and_read_back;
+use content_cbor::{CborRoundTrip, to_bytes};
 use serde_content::{Deserializer, Result as Answer, RoundTrip, round_trip, value};
 use std::alloc::Global;
 use std::process::Abort;
@@ -23,6 +23,16 @@ fn check<'de, T: RoundTrip<'de>>(
     assert!(rt; text.as_str() == wanted, "{text}, not {wanted}");
     assert!(rt; round_trip(alloc, sent, false, false)? == *sent);
     Ok(())
+}
+
+/// Whether something is written and read back equal.
+fn comes_back<'de, T: CborRoundTrip<'de>>(
+    alloc: Global,
+    value: &T,
+    room: &'de mut Vec<u8>,
+    depth_limit: usize,
+) -> Answer<bool> {
+    Ok(write_and_read_back(alloc, value, room, depth_limit)? == *value)
 }
 
 /// An order with something in each field.
@@ -47,7 +57,7 @@ fn an_order_comes_back(rt: HostRuntime) -> Result<(), Fail> {
     let alloc = rt.alloc();
     let order = order(alloc)?;
     check(&rt, alloc, &order, PRINTED)?;
-    assert!(rt; cbor::comes_back(alloc, &order, &mut Vec::new(alloc), 16)?);
+    assert!(rt; comes_back(alloc, &order, &mut Vec::new(alloc), 16)?);
     Ok(())
 }
 
@@ -90,10 +100,10 @@ fn choices_come_back(rt: HostRuntime) -> Result<(), Fail> {
     let there = Command::Move { x: 3, y: None };
     let text = "Command { kind: \"move\", x: 3i32, y: None }";
     check(&rt, alloc, &there, text)?;
-    assert!(rt; cbor::comes_back(alloc, &there, &mut Vec::new(alloc), 16)?);
+    assert!(rt; comes_back(alloc, &there, &mut Vec::new(alloc), 16)?);
     let range = Setting::Range(1, 2);
     check(&rt, alloc, &range, "(1u8, 2u8)")?;
-    assert!(rt; cbor::comes_back(alloc, &range, &mut Vec::new(alloc), 16)?);
+    assert!(rt; comes_back(alloc, &range, &mut Vec::new(alloc), 16)?);
     check(&rt, alloc, &Setting::Flag(true), "true")?;
     check(&rt, alloc, &Setting::Level(-1), "-1i32")?;
     check(
@@ -131,7 +141,7 @@ fn inlined_fields_stand_among_the_others(rt: HostRuntime) -> Result<(), Fail> {
     };
     let text = "{ \"goods\": \"nuts\", \"count\": -3i32, \"unit\": None, \"price\": 20u64 }";
     check(&rt, alloc, &line, text)?;
-    assert!(rt; cbor::comes_back(alloc, &line, &mut Vec::new(alloc), 16)?);
+    assert!(rt; comes_back(alloc, &line, &mut Vec::new(alloc), 16)?);
     // Keys that are sent apart from their values are encoded by way of a tree.
     let wanted = b"\xa4\x65goods\x64nuts\x65count\x22\x64unit\xf6\x65price\x14";
     assert!(rt; to_bytes(alloc, &line)?.as_slice() == wanted.as_slice());

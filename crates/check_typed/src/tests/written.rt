@@ -1,10 +1,8 @@
-//! Values written as text, and values as they print.
+//! Values written as text, and what is sent as it prints.
 
-use content_lines::read_line;
 use serde_content::ser::{Builder, Call, Serialize, Serializer as _};
 use serde_content::{CowStr, Number, Result as Answer, Serializer, Value};
 use std::alloc::Global;
-use std::test::Fail;
 
 /// What a token says that is no key and closes nothing.
 fn call_of(token: &str) -> Call<'_> {
@@ -78,30 +76,8 @@ pub fn value_of(alloc: Global, text: &str) -> Answer<Value<'static>> {
     changed(alloc, text, "", "")
 }
 
-/// Makes the calls of lines.
-fn put_lines(builder: &mut Builder<'static>, alloc: Global, calls: &str) -> Result<(), Fail> {
-    for line in calls.split("; ") {
-        if let Some(line) = read_line(line.as_bytes()) {
-            builder.call(line.into_call(alloc)?)?;
-        }
-    }
-    Ok(())
-}
-
-/// The value that lines of calls spell.
-pub fn spelled(alloc: Global, calls: &str) -> Result<Value<'static>, Fail> {
-    let mut builder: Builder<'static> = Builder::new(alloc, false);
-    put_lines(&mut builder, alloc, calls)?;
-    Ok(builder.finish()?)
-}
-
-/// What a value prints.
-pub fn printed(alloc: Global, value: &Value<'_>) -> Answer<String> {
-    Ok(format!(in alloc; "{}", value.display())?)
-}
-
 /// What the value prints that something is sent as.
 pub fn shown<T: Serialize>(alloc: Global, sent: &T) -> Answer<String> {
     let value = Serializer::new().serialize(alloc, sent)?;
-    printed(alloc, &value)
+    Ok(format!(in alloc; "{}", value.display())?)
 }

@@ -169,13 +169,3 @@ fn lists_and_maps_come_back(rt: HostRuntime) -> Result<(), Fail> {
     assert!(rt; write_and_read_back(alloc, &map, &mut room, 2)? == map);
     Ok(())
 }
-
-/// Whether something is written and read back equal.
-pub fn comes_back<'de, T: content_cbor::CborRoundTrip<'de>>(
-    alloc: Global,
-    value: &T,
-    room: &'de mut Vec<u8>,
-    depth_limit: usize,
-) -> serde_content::Result<bool> {
-    Ok(write_and_read_back(alloc, value, room, depth_limit)? == *value)
-}
