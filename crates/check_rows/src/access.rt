@@ -63,8 +63,8 @@ fn write_value(out: &mut Answer, flags: Flags, entries: &mut Map<'_, 'static>) {
 fn enum_of<'de>(out: &mut Answer, node: Node<'de, 'static>) -> Option<EnumAccess<'de, 'static>> {
     match node {
         Node::Enum(access) => Some(access),
-        _ => {
-            out.fail(Failure::NoRow);
+        other => {
+            out.unfit(other);
             None
         }
     }
@@ -132,7 +132,10 @@ fn refusal_of<'de>(
 ) -> (Result<()>, Option<Deserializer<'de, 'static>>) {
     match same.newtype_deserializer(alloc) {
         Ok(inner) => (variant.unit_variant(alloc), Some(inner)),
-        Err(error) => (Err(error), None),
+        Err(error) => {
+            drop(variant);
+            (Err(error), None)
+        }
     }
 }
 

@@ -37,6 +37,12 @@ impl Answer {
         }
     }
 
+    /// Fails since no row has this there.
+    pub fn unfit<T: Drop>(&mut self, other: T) {
+        drop(other);
+        self.fail(Failure::NoRow);
+    }
+
     /// Adds a text.
     pub fn push_str(&mut self, text: &str) {
         if !self.is_refused && self.text.push_str(text).is_err() {

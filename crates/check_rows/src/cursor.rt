@@ -72,6 +72,13 @@ impl<'a, T> Cursor<'a, T> {
         }
     }
 
+    /// This in place of something else, which no row has there.
+    pub fn instead<U: Drop, V>(&mut self, other: U, instead: V) -> V {
+        drop(other);
+        self.note(Err(Failure::NoRow));
+        instead
+    }
+
     /// What the text spells.
     pub fn parsed<U: FromStr + Default + Drop>(&mut self, text: &str) -> U
     where

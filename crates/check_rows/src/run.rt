@@ -20,13 +20,25 @@ fn parts_of(line: &str) -> Option<(&str, &str, &str)> {
 /// What is to be said of a line, or nothing where its answer is the wanted one.
 fn finding(alloc: Global, line: &str) -> Result<Option<String>> {
     let (operation, arguments, wanted) = parts_of(line).ok_or(Failure::NoRow)?;
-    let arguments = unfold(alloc, arguments)?;
-    let got = answer(alloc, operation, arguments.as_str())?;
-    if got.as_str() == unfold(alloc, wanted)?.as_str() {
-        return Ok(None);
+    let got = unfolded_answer(alloc, operation, arguments)?;
+    match is_wanted(alloc, got.as_str(), wanted)? {
+        true => Ok(None),
+        false => format!(in alloc; "{operation}: got {got}, wanted {wanted}")
+            .map(Some)
+            .map_err(|_| Failure::OutOfMemory),
     }
-    let finding = format!(in alloc; "{operation}: got {got}, wanted {wanted}");
-    finding.map(Some).map_err(|_| Failure::OutOfMemory)
+}
+
+/// The answer of an operation to its arguments, written out.
+fn unfolded_answer(alloc: Global, operation: &str, arguments: &str) -> Result<String> {
+    let arguments = unfold(alloc, arguments)?;
+    answer(alloc, operation, arguments.as_str())
+}
+
+/// Whether an answer is the wanted one, written out.
+fn is_wanted(alloc: Global, got: &str, wanted: &str) -> Result<bool> {
+    let wanted = unfold(alloc, wanted)?;
+    Ok(got == wanted.as_str())
 }
 
 /// The same, where a line that is no row is said to be none.

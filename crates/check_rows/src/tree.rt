@@ -20,7 +20,7 @@ pub fn read_tree<'a>(pieces: &mut Pieces<'a>) -> Value<'a> {
 pub fn read_text<'a>(pieces: &mut Pieces<'a>) -> CowStr<'a> {
     match read_tree(pieces) {
         Value::String(text) => text,
-        _ => pieces.found_or(None, CowStr::Borrowed("")),
+        other => pieces.instead(other, CowStr::Borrowed("")),
     }
 }
 

@@ -52,12 +52,12 @@ fn write_parts(
 
 /// Adds what may be held.
 fn write_option(out: &mut Answer, held: Result<Option<Deserializer<'_, 'static>>>) {
-    match out.given(held) {
-        Some(Some(held)) => {
+    match out.given(held).flatten() {
+        Some(held) => {
             out.push_str("some ");
             write_handed(out, held);
         }
-        _ => out.push_str("none"),
+        None => out.push_str("none"),
     }
 }
 
@@ -85,7 +85,7 @@ fn write_leaf(out: &mut Answer, request: Request<'_>, from: Deserializer<'_, 'st
         "unit" => write_datum(out, from.deserialize_unit(alloc)),
         "unit_struct" => write_datum(out, from.deserialize_unit_struct(alloc, request.name)),
         "ignored_any" => write_datum(out, from.deserialize_ignored_any(alloc)),
-        _ => out.fail(Failure::NoRow),
+        _ => out.unfit(from),
     }
 }
 
@@ -116,7 +116,7 @@ fn write_node(out: &mut Answer, flags: Flags, node: Node<'_, 'static>) {
         }
         Node::Seq(items) => write_seq(out, flags, Ok(items)),
         Node::Map(entries) => write_map(out, flags, Ok(entries)),
-        Node::Enum(_access) => out.fail(Failure::NoRow),
+        Node::Enum(access) => out.unfit(access),
     }
 }
 
@@ -146,6 +146,6 @@ fn write_variant(
         "newtype_deserializer" => write_handed_out(out, variant.newtype_deserializer(alloc)),
         "tuple_variant" => write_seq(out, flags, variant.tuple_variant(alloc, request.length)),
         "struct_variant" => write_map(out, flags, variant.struct_variant(alloc, &[])),
-        _ => out.fail(Failure::NoRow),
+        _ => out.unfit(variant),
     }
 }

@@ -48,7 +48,7 @@ fn from_text(out: &mut Answer, typ: &str, text: CowStr<'_>) {
         ("&str", text) => write_whole(out, Value::from(text.as_str())),
         ("&String", CowStr::Owned(text)) => write_whole(out, Value::from(&text)),
         ("String", CowStr::Owned(text)) => write_whole(out, Value::from(text)),
-        _ => out.fail(Failure::NoRow),
+        (_, other) => out.unfit(other),
     }
 }
 
@@ -58,7 +58,7 @@ fn from_bytes(out: &mut Answer, typ: &str, bytes: CowBytes<'_>) {
         ("&slice", bytes) => write_whole(out, Value::from(bytes.as_bytes())),
         ("&Vec", CowBytes::Owned(bytes)) => write_whole(out, Value::from(&bytes)),
         ("Vec", CowBytes::Owned(bytes)) => write_whole(out, Value::from(bytes)),
-        _ => out.fail(Failure::NoRow),
+        (_, other) => out.unfit(other),
     }
 }
 
@@ -91,7 +91,7 @@ pub fn part(out: &mut Answer, pieces: &mut Pieces<'_>) {
         ("option", value) => write_part(out, <Option<Box<Value<'_>>>>::try_from(value)),
         ("box", Value::Struct(node)) => write_whole(out, Value::from(node)),
         ("box", Value::Enum(node)) => write_whole(out, Value::from(node)),
-        _ => out.fail(Failure::NoRow),
+        (_, other) => out.unfit(other),
     }
 }
 
@@ -146,6 +146,6 @@ fn of_tree<'a>(pieces: &mut Pieces<'a>, form: &str) -> Result<Deserializer<'a, '
         ("value", value) => value.into_deserializer(alloc),
         ("number", Value::Number(number)) => number.into_deserializer(alloc),
         ("enum", Value::Enum(node)) => Box::into_inner(node).into_deserializer(alloc),
-        _ => Ok(pieces.found_or(None, Deserializer::new(Value::Unit))),
+        (_, other) => Ok(pieces.instead(other, Deserializer::new(Value::Unit))),
     }
 }

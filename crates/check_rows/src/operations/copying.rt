@@ -29,7 +29,7 @@ pub fn own_parts(out: &mut Answer, pieces: &mut Pieces<'_>) {
         Value::Bytes(bytes) => write_given(out, bytes.into_owned(alloc)),
         Value::Struct(node) => write_given_struct(out, Box::into_inner(node).into_owned(alloc)),
         Value::Enum(node) => write_given_enum(out, Box::into_inner(node).into_owned(alloc)),
-        _ => out.fail(Failure::NoRow),
+        other => out.unfit(other),
     }
 }
 
@@ -62,7 +62,7 @@ fn read_data<'a>(pieces: &mut Pieces<'a>) -> Data<'a> {
     match read_tree(pieces) {
         Value::Struct(node) => Box::into_inner(node).data,
         Value::Enum(node) => Box::into_inner(node).data,
-        _ => pieces.found_or(None, Data::Unit),
+        other => pieces.instead(other, Data::Unit),
     }
 }
 

@@ -85,6 +85,6 @@ pub fn unexpected_part(out: &mut Answer, pieces: &mut Pieces<'_>) {
         Value::Number(number) => write_refusal(out, "", number.unexpected(alloc, expected)),
         Value::Struct(node) => write_refusal(out, "", node.unexpected(alloc, expected)),
         Value::Enum(node) => write_refusal(out, "", node.unexpected(alloc, expected)),
-        _ => out.fail(Failure::NoRow),
+        other => out.unfit((other, expected)),
     }
 }

@@ -2,7 +2,6 @@
 
 use crate::answer::Answer;
 use crate::deserializer::read_deserializer;
-use crate::failure::Failure;
 use crate::flags::{Flags, read_flags};
 use crate::named::with_type;
 use crate::piece::{Pieces, take_word};
@@ -58,7 +57,7 @@ fn write_as_printed(out: &mut Answer, typ: &str, from: Deserializer<'_, 'static>
         &[u8], Box<u8>, Option<()>, Option<i16>, Option<String>, Option<&str>, Option<Option<()>>,
         Vec<()>, Vec<bool>, Vec<u8>, Vec<i16>, (bool,), (u8,), (bool, bool), (bool, usize),
         (u8, u8), (u8, bool), (bool, (), u8), (u8, u8, u8, u8),
-    ], out.fail(Failure::NoRow))
+    ], out.unfit(from))
 }
 
 /// Adds a value of this type as it prints.

@@ -8,7 +8,7 @@ use crate::piece::{Pieces, take_word};
 use crate::printable::write_listed;
 use crate::request::read_request;
 use serde_content::de::{Deserialize, Map, Seq};
-use serde_content::{ErrorKind, Result};
+use serde_content::{Deserializer, ErrorKind, Result};
 use std::alloc::{AllocError, Global};
 use std::fmt::Debug;
 
@@ -26,7 +26,7 @@ pub fn access(out: &mut Answer, pieces: &mut Pieces<'_>) {
             let entries = from.deserialize_struct(alloc, request.name, &[]);
             write_map_steps(out, steps, entries);
         }
-        _ => out.fail(Failure::NoRow),
+        _ => out.unfit(from),
     }
 }
 
@@ -44,12 +44,13 @@ fn write_step(out: &mut Answer, place: usize, answer: Result<String>) {
 
 /// Adds `refused` and why, unless memory is the cause.
 fn write_refused(out: &mut Answer, kind: &ErrorKind) {
+    if matches!(kind, ErrorKind::OutOfMemory) {
+        out.fail(Failure::OutOfMemory);
+    }
+    out.push_str("refused ");
     match format!(in out.alloc(); "{kind}") {
-        Ok(text) if !matches!(kind, ErrorKind::OutOfMemory) => {
-            out.push_str("refused ");
-            write_listed(out, text.as_str());
-        }
-        _ => out.fail(Failure::OutOfMemory),
+        Ok(text) => write_listed(out, text.as_str()),
+        Err(_) => out.fail(Failure::OutOfMemory),
     }
 }
 
@@ -126,9 +127,18 @@ fn map_step(out: &mut Answer, entries: &mut Map<'_, 'static>, step: &str) -> Res
 
 /// The next entry as what reads its key and what reads its value.
 fn next_deserializers(alloc: Global, entries: &mut Map<'_, 'static>) -> Result<String> {
-    let Some((key, value)) = entries.next_entry_deserializers(alloc)? else {
-        return Ok(String::from_str(alloc, "None")?);
-    };
+    match entries.next_entry_deserializers(alloc)? {
+        None => Ok(String::from_str(alloc, "None")?),
+        Some((key, value)) => handed_entry(alloc, key, value),
+    }
+}
+
+/// An entry as what reads its key and what reads its value.
+fn handed_entry(
+    alloc: Global,
+    key: Deserializer<'_, 'static>,
+    value: Deserializer<'_, 'static>,
+) -> Result<String> {
     let mut out = Answer::new(alloc);
     out.push_str("Some(");
     write_handed(&mut out, key);
