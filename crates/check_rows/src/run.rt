@@ -21,11 +21,12 @@ fn parts_of(line: &str) -> Option<(&str, &str, &str)> {
 fn finding(alloc: Global, line: &str) -> Result<Option<String>> {
     let (operation, arguments, wanted) = parts_of(line).ok_or(Failure::NoRow)?;
     let got = unfolded_answer(alloc, operation, arguments)?;
-    match is_wanted(alloc, got.as_str(), wanted)? {
-        true => Ok(None),
-        false => format!(in alloc; "{operation}: got {got}, wanted {wanted}")
+    if is_wanted(alloc, got.as_str(), wanted)? {
+        Ok(None)
+    } else {
+        format!(in alloc; "{operation}: got {got}, wanted {wanted}")
             .map(Some)
-            .map_err(|_| Failure::OutOfMemory),
+            .map_err(|_| Failure::OutOfMemory)
     }
 }
 

@@ -25,3 +25,4 @@ pub mod GrowsItems
 pub mod Told
 pub mod Fits
 pub mod Wider
+pub mod Deeper

@@ -93,6 +93,18 @@ OnlyFrontDepthIsLimited = (limit greater : ℕ) (bytes : List ℕ) (at : ℕ) (f
     → StopsAt bytes (error.Refused at f) (item_at limit bytes)
     → StopsAt bytes (error.Refused at f) (item_at greater bytes)
 
+-- two levels more take bytes further that nested too deep: they are refused later, if at all
+abbrev pub DeeperGoesFurther : Type 0
+DeeperGoesFurther = (limit greater : ℕ) (bytes : List ℕ) (at later : ℕ) (f : Fault)
+    → limit + 2 ≤ greater → StopsAt bytes (error.Refused at fault.TooDeep) (whole_at limit bytes)
+    → StopsAt bytes (error.Refused later f) (whole_at greater bytes) → at < later
+
+-- the same of the item at their front
+abbrev pub DeeperFrontGoesFurther : Type 0
+DeeperFrontGoesFurther = (limit greater : ℕ) (bytes : List ℕ) (at later : ℕ) (f : Fault)
+    → limit + 2 ≤ greater → StopsAt bytes (error.Refused at fault.TooDeep) (item_at limit bytes)
+    → StopsAt bytes (error.Refused later f) (item_at greater bytes) → at < later
+
 -- no head is shorter than the one that is written
 abbrev pub HeadsAreShort : Type 0
 HeadsAreShort = (m : Major) (n : ℕ) (bytes : List ℕ) → IsHead m n bytes → length (head m n) ≤ length bytes

@@ -10,7 +10,8 @@ use std::fmt;
 ///
 /// A byte with several faults has the first of them, in the order below. So what RFC 8949 calls not
 /// well-formed comes before what is only not supported, and the kind of an item before its depth:
-/// a greater limit helps at `TooDeep` alone ([proved](crate::laws::only_depth_is_limited)).
+/// a greater limit helps at `TooDeep` ([proved](crate::laws::deeper_goes_further)) and at no other
+/// fault ([proved](crate::laws::only_depth_is_limited)).
 #[derive(Clone, Copy, Debug, PartialEq, Eq)]
 pub enum Fault {
     /// They end inside an item.

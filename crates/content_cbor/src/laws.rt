@@ -9,6 +9,7 @@ ghost use Rattle.content_ser.specs.Scripts.Script.{calls_of};
 ghost use Rattle.content_cbor.specs.Decoded.{IsFaultOf};
 ghost use Rattle.content_cbor.specs.Form.{depth, form};
 ghost use Rattle.content_cbor.specs.Item.{item};
+ghost use Rattle.content_cbor.specs.Laws.{DeeperFrontGoesFurther, DeeperGoesFurther};
 ghost use Rattle.content_cbor.specs.Laws.{FaultsFitBytes, FittingTreesAreTaken, FormsHaveItems};
 ghost use Rattle.content_cbor.specs.Laws.{FormsKeepLimits, FormsStay, FrontFaultsFitBytes};
 ghost use Rattle.content_cbor.specs.Laws.{HeadsAreShort, ItemsCodeForms, LimitsAreKept};
@@ -74,6 +75,15 @@ pub fn faults_fit_bytes()
 pub fn only_depth_is_limited()
     ensures whole { OnlyDepthIsLimited }
     ensures front { OnlyFrontDepthIsLimited }
+{}
+
+/// At `TooDeep` a limit greater by 2 or more goes further: `decode` and `decode_prefix` take the
+/// bytes within it, or refuse them at a later place. One level more may not be enough: `81 00`, an
+/// array of one item, is refused at its first byte within 0, as too deep itself, and within 1, as
+/// its item would be.
+pub fn deeper_goes_further()
+    ensures whole { DeeperGoesFurther }
+    ensures front { DeeperFrontGoesFurther }
 {}
 
 /// No head is shorter than the one that is written.

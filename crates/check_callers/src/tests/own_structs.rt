@@ -71,9 +71,10 @@ fn read_pair(alloc: Global, values: &[u32], buffered: bool) -> Answer<Pair> {
         items.push(Value::from(*value))?;
     }
     let from = Deserializer::new(Value::Seq(items));
-    match buffered {
-        true => from.buffered().deserialize(alloc),
-        false => from.deserialize(alloc),
+    if buffered {
+        from.buffered().deserialize(alloc)
+    } else {
+        from.deserialize(alloc)
     }
 }
 

@@ -3,7 +3,7 @@ use Rattle.std.specs.Prelude.{◌≡◌, Bool, true, false, List, [], ◌∷◌}
 use Rattle.std.specs.Cmp.{IsEquivalence}
 use Rattle.std.specs.Cmp.Lexicographic.{pointwise}
 use Rattle.std.specs.HashMap as table
-use Rattle.std.specs.HashMap.{HashMap, hash_map_eq}
+use Rattle.std.specs.HashMap.{hash_map_eq}
 use Rattle.std.specs.List.{AllByRecursion}
 use Rattle.content_tree.specs.Values.Tree as tree
 use Rattle.content_tree.specs.Values.Tree.{Pairs}
