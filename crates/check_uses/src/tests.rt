@@ -1,5 +1,6 @@
-//! The tests, by what they show, and the lines in which they write values.
+//! The tests, by what they show, what calls answer, and the lines in which they write values.
 
+mod answers;
 mod cbor;
 mod merges;
 mod uses;

@@ -1,36 +1,45 @@
 //! What no row of `cbor_cli` says: values that come back, several as one item, what can be
 //! serialised, and characters past ASCII, whose bytes RFC 8949 gives in its appendix A.
 
+use super::answers::{fails, fails_as, fails_with, gives, gives_bytes};
+use super::written::spelled;
 use content_cbor::laws::write_and_read_back;
 use content_cbor::{
     DecodeError, decode, decode_prefix, encode, encode_array, from_bytes, read_back, through_cbor,
     to_bytes,
 };
-use serde_content::{Error, Value};
+use serde_content::{Error, Result as Answer, Value};
 use std::alloc::Global;
 use std::collections::BTreeMap;
 use std::test::Fail;
 
-#[test]
-fn bytes_of_values(rt: HostRuntime) -> Result<(), Fail> {
-    let alloc = rt.alloc();
+/// A map of a number and a list, as lines of calls.
+const MAP: &str = "map 2; key; str a; value; u8 1; key; str b; \
+    value; seq 2; element; u8 2; element; u16 300; end; end";
 
-    // A map of a number and a list.
-    let sizes = Value::Seq(vec![in alloc; Value::from(2u8), Value::from(300u16)]?);
-    let pairs = vec![in alloc;
-        (Value::from("a"), Value::from(1u8)),
-        (Value::from("b"), sizes),
-    ]?;
-    let bytes = encode(alloc, &Value::Map(pairs))?;
+/// The bytes of a value that lines of calls spell.
+fn bytes_of(alloc: Global, calls: &str) -> Answer<Vec<u8>> {
+    encode(alloc, &spelled(alloc, calls)?)
+}
+
+#[test]
+fn bytes_of_values(rt: HostRuntime) {
+    let alloc = rt.alloc();
     let wanted = [
         0xa2, 0x61, b'a', 0x01, 0x61, b'b', 0x82, 0x02, 0x19, 0x01, 0x2c,
     ];
-    assert!(rt; bytes.as_slice() == wanted.as_slice());
+    assert!(rt; gives_bytes(bytes_of(alloc, MAP), &wanted));
 
-    // And back.
-    let value = decode(alloc, &[0x82, 0x01, 0x61, b'a'], 16)?;
-    let wanted = Value::Seq(vec![in alloc; Value::from(1u64), Value::from("a")]?);
-    assert!(rt; value == wanted);
+    // Several values are one array.
+    let bytes = encode_array(alloc, &[Value::from(1u8), Value::from("a")]);
+    assert!(rt; gives_bytes(bytes, &[0x82, 0x01, 0x61, b'a']));
+}
+
+#[test]
+fn values_of_bytes(rt: HostRuntime) -> Result<(), Fail> {
+    let alloc = rt.alloc();
+    let wanted = spelled(alloc, "seq 2; element; u64 1; element; str a; end")?;
+    assert!(rt; gives(decode(alloc, &[0x82, 0x01, 0x61, b'a'], 16), wanted));
 
     // One item after another.
     let (value, length) = decode_prefix(alloc, &[0x61, b'a', 0x01], 16)?;
@@ -49,82 +58,69 @@ fn bytes_of_typed_data(rt: HostRuntime) -> Result<(), Fail> {
     assert!(rt; three == (Some(7), "a", false));
 
     // Characters past ASCII, which no line of calls names.
-    let bytes = to_bytes(alloc, &('\u{fc}', '\u{6c34}', '\u{10151}'))?;
+    let bytes = to_bytes(alloc, &('\u{fc}', '\u{6c34}', '\u{10151}'));
     let wanted = [
         0x83, 0x62, 0xc3, 0xbc, 0x63, 0xe6, 0xb0, 0xb4, 0x64, 0xf0, 0x90, 0x85, 0x91,
     ];
-    assert!(rt; bytes.as_slice() == wanted.as_slice());
+    assert!(rt; gives_bytes(bytes, &wanted));
     Ok(())
 }
 
 #[test]
 fn what_is_kept_of_values(rt: HostRuntime) -> Result<(), Fail> {
     let alloc = rt.alloc();
-    let value = Value::Tuple(vec![in alloc; Value::from(7u8), Value::Unit]?);
-    let wanted = Value::Seq(vec![in alloc; Value::from(7u64), Value::Option(None)]?);
-    assert!(rt; through_cbor(alloc, &value, 2)? == wanted);
+    let wanted = spelled(alloc, "seq 2; element; u64 7; element; none; end")?;
+    let value = spelled(alloc, "tuple 2; element; u8 7; element; unit; end")?;
+    assert!(rt; gives(through_cbor(alloc, &value, 2), wanted));
 
     // The array is deeper than its items.
-    match through_cbor(alloc, &value, 1) {
-        Ok(_) => assert!(rt; false),
-        Err(error) => {
-            let text = format!(in alloc; "{error}")?;
-            assert!(rt; text.as_str() == "refused at byte 0: items nest too deep");
-        }
-    }
+    let refused = through_cbor(alloc, &value, 1);
+    assert!(rt; fails_as(alloc, refused, "refused at byte 0: items nest too deep"));
     Ok(())
 }
 
 #[test]
-fn several_values_are_one_array(rt: HostRuntime) -> Result<(), Fail> {
+fn other_bytes_are_no_typed_data(rt: HostRuntime) {
     let alloc = rt.alloc();
-    let bytes = encode_array(alloc, &[Value::from(1u8), Value::from("a")])?;
-    assert!(rt; bytes.as_slice() == [0x82, 0x01, 0x61, b'a'].as_slice());
-    Ok(())
-}
+    let refused: Answer<u8> = from_bytes(alloc, &[0xf9, 0, 0], 16);
+    assert!(rt; fails_as(alloc, refused, "refused at byte 0: a float"));
 
-#[test]
-fn other_bytes_are_no_typed_data(rt: HostRuntime) -> Result<(), Fail> {
-    let alloc = rt.alloc();
-    let refused: serde_content::Result<u8> = from_bytes(alloc, &[0xf9, 0, 0], 16);
-    match refused {
-        Ok(_) => assert!(rt; false),
-        Err(error) => {
-            let text = format!(in alloc; "{error}")?;
-            assert!(rt; text.as_str() == "refused at byte 0: a float");
-        }
-    }
-    Ok(())
+    // Numbers of another kind that have no room, and bytes that code nothing.
+    assert!(rt; fails(read_back::<u8>(alloc, &[0x19, 1, 0], 1)));
+    assert!(rt; fails(read_back::<u8>(alloc, &[0x19, 1], 1)));
 }
 
 /// Whether the fault is malformed with which bytes are refused within the limit 1, if they are.
 fn malformed(alloc: Global, bytes: &[u8]) -> Option<bool> {
-    match decode(alloc, bytes, 1) {
-        Err(DecodeError::Refused { fault, .. }) => Some(fault.is_malformed()),
+    match decode(alloc, bytes, 1).err() {
+        Some(DecodeError::Refused { fault, .. }) => Some(fault.is_malformed()),
         _ => None,
     }
 }
 
+/// A first byte without meaning, a break alone, an item that is no chunk, a second item.
+static MALFORMED: [&[u8]; 4] = [&[0x1c], &[0xff], &[0x5f, 0x00], &[0x00, 0x00]];
+
+/// What can still become an item; a float, a simple value, tags, depth, a large number, a text.
+static NOT_MALFORMED: [&[u8]; 8] = [
+    &[0x18],
+    &[0xf9],
+    &[0xf8, 0x20],
+    &[0xc1, 0x00],
+    &[0xc2, 0x00],
+    &[0x81, 0x00],
+    &[0xc2, 0x51, 0x01],
+    &[0x61, 0xff],
+];
+
 #[test]
-fn malformed_bytes_are_told_apart(rt: HostRuntime) -> Result<(), Fail> {
-    let alloc = rt.alloc();
-
-    // A first byte without meaning, a break alone, an item that is no chunk, a second item.
-    assert!(rt; malformed(alloc, &[0x1c]) == Some(true));
-    assert!(rt; malformed(alloc, &[0xff]) == Some(true));
-    assert!(rt; malformed(alloc, &[0x5f, 0x00]) == Some(true));
-    assert!(rt; malformed(alloc, &[0x00, 0x00]) == Some(true));
-
-    // What can still become an item; a float, a simple value, tags, depth, a large number, a text.
-    assert!(rt; malformed(alloc, &[0x18]) == Some(false));
-    assert!(rt; malformed(alloc, &[0xf9]) == Some(false));
-    assert!(rt; malformed(alloc, &[0xf8, 0x20]) == Some(false));
-    assert!(rt; malformed(alloc, &[0xc1, 0x00]) == Some(false));
-    assert!(rt; malformed(alloc, &[0xc2, 0x00]) == Some(false));
-    assert!(rt; malformed(alloc, &[0x81, 0x00]) == Some(false));
-    assert!(rt; malformed(alloc, &[0xc2, 0x51, 0x01]) == Some(false));
-    assert!(rt; malformed(alloc, &[0x61, 0xff]) == Some(false));
-    Ok(())
+fn malformed_bytes_are_told_apart(rt: HostRuntime) {
+    for bytes in &MALFORMED {
+        assert!(rt; malformed(rt.alloc(), bytes) == Some(true), "{bytes:?}");
+    }
+    for bytes in &NOT_MALFORMED {
+        assert!(rt; malformed(rt.alloc(), bytes) == Some(false), "{bytes:?}");
+    }
 }
 
 #[test]
@@ -135,37 +131,39 @@ fn typed_data_come_back(rt: HostRuntime) -> Result<(), Fail> {
     let bytes = to_bytes(alloc, &(Some(7u8), -1i64))?;
     let back: (Option<u8>, i64) = read_back(alloc, &bytes, 2)?;
     assert!(rt; back == (Some(7), -1));
-
-    let far = (u64::MAX, i64::MIN, u128::MAX, i128::MIN);
-    let mut room = Vec::new(alloc);
-    assert!(rt; write_and_read_back(alloc, &far, &mut room, 2)? == far);
-
-    // Numbers of another kind that have no room, and bytes that code nothing.
-    let refused: serde_content::Result<u8> = read_back(alloc, &[0x19, 1, 0], 1);
-    assert!(rt; refused.is_err());
-    let refused: serde_content::Result<u8> = read_back(alloc, &[0x19, 1], 1);
-    assert!(rt; refused.is_err());
     Ok(())
 }
 
 #[test]
-fn lists_and_maps_come_back(rt: HostRuntime) -> Result<(), Fail> {
+fn numbers_and_lists_come_back(rt: HostRuntime) -> Result<(), Fail> {
     let alloc = rt.alloc();
-    let mut room = Vec::new(alloc);
     let list = vec![in alloc; Some(true), None]?;
-    assert!(rt; write_and_read_back(alloc, &list, &mut room, 2)? == list);
-    let mut full = vec![in alloc; 0]?;
-    let refused = write_and_read_back(alloc, &list, &mut full, 1);
-    let too_deep = Error::custom(alloc, "refused at byte 0: items nest too deep");
-    assert!(rt; refused.err() == Some(too_deep));
-
-    let mut map = BTreeMap::new(alloc);
-    map.insert(
-        String::from_str(alloc, "a")?,
-        Box::new(alloc, 1u128 << 100)?,
-    )?;
-    map.insert(String::from_str(alloc, "b")?, Box::new(alloc, 0)?)?;
     let mut room = Vec::new(alloc);
-    assert!(rt; write_and_read_back(alloc, &map, &mut room, 2)? == map);
+    let far = (u64::MAX, i64::MIN, u128::MAX, i128::MIN);
+    assert!(rt; gives(write_and_read_back(alloc, &far, &mut room, 2), far));
+
+    // Now the room is taken.
+    let refused = write_and_read_back(alloc, &list, &mut room, 1);
+    let too_deep = Error::custom(alloc, "refused at byte 0: items nest too deep");
+    assert!(rt; fails_with(refused, too_deep));
+    assert!(rt; gives(write_and_read_back(alloc, &list, &mut room, 2), list));
+    Ok(())
+}
+
+/// A map of two numbers, in boxes.
+fn boxes(alloc: Global) -> Result<BTreeMap<String, Box<u128>>, Fail> {
+    let mut map = BTreeMap::new(alloc);
+    for (key, number) in [("a", 1u128 << 100), ("b", 0)] {
+        map.insert(String::from_str(alloc, key)?, Box::new(alloc, number)?)?;
+    }
+    Ok(map)
+}
+
+#[test]
+fn maps_come_back(rt: HostRuntime) -> Result<(), Fail> {
+    let alloc = rt.alloc();
+    let map = boxes(alloc)?;
+    let mut room = Vec::new(alloc);
+    assert!(rt; gives(write_and_read_back(alloc, &map, &mut room, 2), map));
     Ok(())
 }

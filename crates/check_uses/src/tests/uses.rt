@@ -1,5 +1,6 @@
 //! Records and configurations: the examples of the pages, and cases that they don't show.
 
+use super::answers::{fails, fails_as, fails_with, gives};
 use content_cbor::{DecodeError, Fault};
 use content_uses::laws::{put_and_get, put_and_reload, save_twice};
 use content_uses::{Store, merge};
@@ -7,6 +8,7 @@ use serde_content::samples::Point;
 use serde_content::{
     CowStr, Data, Deserializer, Error, Result as Answer, Serializer, Struct, Value, value,
 };
+use std::alloc::Global;
 use std::test::Fail;
 
 #[test]
@@ -19,38 +21,39 @@ fn records_are_kept(rt: HostRuntime) -> Result<(), Fail> {
     let second = store.put(alloc, &Some(7u8))?;
     let point: Point = store.get(alloc, first)?;
     assert!(rt; point == Point { x: 1, y: 2 });
-    let number: Option<u8> = store.get(alloc, second)?;
-    assert!(rt; number == Some(7));
+    assert!(rt; gives(store.get(alloc, second), Some(7u8)));
 
     // What the type doesn't take is refused.
-    let other: serde_content::Result<bool> = store.get(alloc, first);
-    let text = match other {
-        Ok(_) => String::new(alloc),
-        Err(error) => format!(in alloc; "{error}")?,
-    };
+    let other: Answer<bool> = store.get(alloc, first);
     let wanted = "failed to deserialize; expected a boolean, found Point { x: 1i32, y: 2i32 }";
-    assert!(rt; text.as_str() == wanted);
+    assert!(rt; fails_as(alloc, other, wanted));
     Ok(())
+}
+
+/// A struct of one field, whose name is owned.
+fn with_owned_key(alloc: Global) -> Answer<Struct<'static>> {
+    let key = CowStr::Owned(String::from_str(alloc, "k")?);
+    let fields = vec![in alloc; (key, Value::Unit)]?;
+    Ok(Struct {
+        name: CowStr::Borrowed("S"),
+        data: Data::Struct { fields },
+    })
 }
 
 #[test]
 fn what_is_put_is_got(rt: HostRuntime) -> Result<(), Fail> {
     let alloc = rt.alloc();
+    let owned = with_owned_key(alloc)?;
     let mut store = Store::new(alloc);
-    assert!(rt; put_and_get(alloc, &mut store, &'c')? == 'c');
+    assert!(rt; gives(put_and_get(alloc, &mut store, &'c'), 'c'));
     assert!(rt; store.len() == 1);
     let none: Answer<bool> = store.get(alloc, 1);
-    assert!(rt; none.err() == Some(Error::custom(alloc, "no such record")));
+    assert!(rt; fails_with(none, Error::custom(alloc, "no such record")));
 
     // What a record itself refuses.
-    let fields = vec![in alloc; (CowStr::Owned(String::from_str(alloc, "k")?), Value::Unit)]?;
-    let owned = Struct {
-        name: CowStr::Borrowed("S"),
-        data: Data::Struct { fields },
-    };
     let refused = store.put(alloc, &owned);
     let text = r#"failed to deserialize; expected a static string slice, found "k""#;
-    assert!(rt; refused.err() == Some(Error::custom(alloc, text)));
+    assert!(rt; fails_with(refused, Error::custom(alloc, text)));
     assert!(rt; store.len() == 1);
     Ok(())
 }
@@ -69,48 +72,49 @@ fn records_are_saved(rt: HostRuntime) -> Result<(), Fail> {
     let loaded = Store::load(alloc, &bytes, 64)?;
     let point: Point = loaded.get_coerced(alloc, first)?;
     assert!(rt; point == Point { x: 1, y: 2 });
-    let none: Answer<Point> = loaded.get_coerced(alloc, 2);
-    assert!(rt; none.is_err());
+    assert!(rt; fails(loaded.get_coerced::<Point>(alloc, 2)));
     Ok(())
+}
+
+/// Whether a store is saved as these bytes, and what is loaded from them too.
+fn is_saved_twice_as<'v, 'n: 'v>(alloc: Global, store: &Store<'v, 'n>, wanted: &[u8]) -> bool {
+    match save_twice(alloc, store, 2) {
+        Ok((first, second)) => first.as_slice() == wanted && second.as_slice() == wanted,
+        Err(_) => false,
+    }
 }
 
 #[test]
 fn loaded_records_are_read_and_joined(rt: HostRuntime) -> Result<(), Fail> {
     let alloc = rt.alloc();
     let mut loaded = Store::load(alloc, &[0x81, 0x07], 2)?;
-    let wide: Option<u64> = loaded.get_coerced(alloc, 0)?;
-    assert!(rt; wide == Some(7));
-    let since = loaded.put(alloc, &Some(9u16))?;
-    let number: Option<u16> = loaded.get_coerced(alloc, since)?;
-    assert!(rt; number == Some(9));
-
-    let (first, second) = save_twice(alloc, &loaded, 2)?;
-    assert!(rt; first.as_slice() == [0x82, 0x07, 0x09].as_slice());
-    assert!(rt; first.as_slice() == second.as_slice());
+    assert!(rt; gives(loaded.get_coerced(alloc, 0), Some(7u64)));
+    assert!(rt; gives(loaded.put(alloc, &Some(9u16)), 1));
+    assert!(rt; gives(loaded.get_coerced(alloc, 1), Some(9u16)));
+    assert!(rt; is_saved_twice_as(alloc, &loaded, &[0x82, 0x07, 0x09]));
     Ok(())
 }
 
 #[test]
-fn what_is_put_is_reloaded(rt: HostRuntime) -> Result<(), Fail> {
+fn what_is_put_is_reloaded(rt: HostRuntime) {
     let alloc = rt.alloc();
     let mut store = Store::new(alloc);
-    let point = Point { x: -3, y: 4 };
     let mut room = Vec::new(alloc);
-    assert!(rt; put_and_reload(alloc, &mut store, &point, &mut room, 3)? == point);
+    let point = Point { x: -3, y: 4 };
+    let reloaded = put_and_reload(alloc, &mut store, &point, &mut room, 3);
+    assert!(rt; gives(reloaded, Point { x: -3, y: 4 }));
     assert!(rt; store.len() == 1);
-    let mut full = vec![in alloc; 0]?;
-    let refused = put_and_reload(alloc, &mut store, &point, &mut full, 2);
+
+    // Now the room is taken.
+    let refused = put_and_reload(alloc, &mut store, &point, &mut room, 2);
     let fault = Fault::TooDeep;
-    assert!(rt;
-        refused.err()
-            == Some(content_uses::LoadError::Decode(DecodeError::Refused { at: 1, fault }))
-    );
+    let wanted = content_uses::LoadError::Decode(DecodeError::Refused { at: 1, fault });
+    assert!(rt; fails_with(refused, wanted));
     assert!(rt; store.len() == 2);
-    Ok(())
 }
 
 #[test]
-fn other_bytes_are_no_records(rt: HostRuntime) -> Result<(), Fail> {
+fn other_bytes_are_no_records(rt: HostRuntime) {
     let alloc = rt.alloc();
     let cases = [
         ([0x07, 0xf6], "refused at byte 1: bytes after the item"),
@@ -121,15 +125,11 @@ fn other_bytes_are_no_records(rt: HostRuntime) -> Result<(), Fail> {
         ),
     ];
     for (bytes, wanted) in &cases {
-        match Store::load(alloc, bytes, 64) {
-            Ok(_) => assert!(rt; false),
-            Err(error) => {
-                let text = format!(in alloc; "{error}")?;
-                assert!(rt; text.as_str() == *wanted);
-            }
-        }
+        assert!(rt;
+            fails_as(alloc, Store::load(alloc, bytes, 64), wanted),
+            "{wanted}"
+        );
     }
-    Ok(())
 }
 
 #[test]
@@ -147,21 +147,21 @@ fn configurations_are_merged(rt: HostRuntime) -> Result<(), Fail> {
     Ok(())
 }
 
-#[test]
-fn defaults_are_put_under_fields(rt: HostRuntime) -> Result<(), Fail> {
-    let alloc = rt.alloc();
-
-    // A struct of one field over typed defaults.
-    let defaults = Serializer::new().serialize(alloc, &Point { x: 1, y: 2 })?;
+/// Reads a struct of one field, put over typed defaults.
+fn read_over_defaults(alloc: Global) -> Answer<Point> {
     let fields = vec![in alloc; (CowStr::Borrowed("y"), Value::from(7i32))]?;
     let user = Struct {
         name: CowStr::Borrowed("Point"),
         data: Data::Struct { fields },
     };
-    let merged = merge(alloc, defaults, Value::Struct(Box::new(alloc, user)?))?;
-    let point: Point = Deserializer::new(merged).deserialize(alloc)?;
-    assert!(rt; point == Point { x: 1, y: 7 });
-    Ok(())
+    let user = Value::Struct(Box::new(alloc, user)?);
+    let defaults = Serializer::new().serialize(alloc, &Point { x: 1, y: 2 })?;
+    Deserializer::new(merge(alloc, defaults, user)?).deserialize(alloc)
+}
+
+#[test]
+fn defaults_are_put_under_fields(rt: HostRuntime) {
+    assert!(rt; gives(read_over_defaults(rt.alloc()), Point { x: 1, y: 7 }));
 }
 
 #[test]
