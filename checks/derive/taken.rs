@@ -1000,3 +1000,11 @@ struct A {
     #[serde(alias = "{w}", default)] z: (u8,),
     #[serde(rename = "{v", alias = "}u")] v: u8,
 }
+
+// + requires { whole.now ≡ the_whole.B x.now y.now }
+#[derive(Serialize)]
+#[serde(tag = "t", content = "c")]
+enum Whole {
+    A,
+    B { x: u8, y: String },
+}

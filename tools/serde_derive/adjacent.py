@@ -1,16 +1,18 @@
 """What is written of an enum that is tagged adjacently: structs of a field that names the variant, and of one with its content,
 where it holds something."""
-from typing import List
+from typing import Callable, List
 
+from .cases import pascal
 from .declarations import Data, Field, Item, Variant
-from .entries import Entries, entry_around
+from .entries import FOLLOWING, Entries, entry_around
 from .held import HeldWriter
 from .holder import BY_PLACE, Holder, row_of
 from .literals import name_term
 from .tagged import TaggedHolder, TaggedWriter
-from .text import all_hold, facts, fields_reader, together
-from .types import DEFAULTS, READ, Type, angled, in_term, nest
+from .text import all_hold, bare, clause, facts, fields_reader, ghost, together
+from .types import DEFAULTS, READ, Type, angled, bounded, in_term, nest
 
+LONGEST_BESIDE = 5  # as many values by name are sent in one row with the tag: proofs of longer ones are not found
 ELEMENTS = BY_PLACE._replace(
     script=("element_first {inner}", "end_script"),
     lawful=("element_fits {inner}", "end_fits"),
@@ -34,6 +36,11 @@ class TupleHolder(Holder):
         return f"SendElement({value}, row)"
 
 
+def told_by(item: Item) -> str:
+    """The trait that tells the script of an enum."""
+    return f"ToldOf{pascal(item.owner)}"
+
+
 class ContentHolder(TaggedHolder):
     """What stands beside the tag of a variant of several values: its content, a struct or a tuple of them."""
 
@@ -45,6 +52,7 @@ class ContentHolder(TaggedHolder):
         if self.struct:
             self.held = Type(self.struct.item.name + angled(*v.data.arguments(0)))
         self.sees = [f"(λ q. q.{in_term(f.name)})" for f in v.data.fields]
+        self.told = told_by(item)
         super().__init__(item, item.serde["tag"], v, [Field("x1", v.line, [], {}, content, content, type=self.held)])
 
     def term(self, values: List[str]) -> str:
@@ -67,12 +75,42 @@ class ContentHolder(TaggedHolder):
     def exists(self, values: List[str]) -> str:
         return self.inside.exists(values)
 
+    @property
+    def parted(self) -> bool:
+        """Whether another function sends what is around the values, so that no proof looks into both at once."""
+        return bool(self.struct) and not self.inside.skips and self.inside.sent_count() > LONGEST_BESIDE
+
+    def sent_types(self) -> List[str]:
+        return super().sent_types() + [self.inside.run_sent(0), self.around()] * self.parted
+
+    def around_name(self) -> str:
+        """The function that sends what is around the values, and these."""
+        return self.inside.reader.replace("read_", "send_whole_", 1)
+
+    def around(self) -> str:
+        """That function. It is told that the script of the whole is what it sends: the proof that this is so looks into the
+        values, and nowhere else."""
+        script = self.script_of([f"(struct_script {self.inside.names} {self.inside.sent_count()} (Following.script row))"], [""])
+        body = "\n".join(["let _whole = whole;", *self.send_around(self.inside.call)])
+        return (f"/// Sends the values of such a content, and what is around them.\nfn {self.around_name()}<S: Serializer,"
+                f" Whole: {self.told}, {FOLLOWING} + Drop>(alloc: Global, serializer: &mut S,"
+                " whole: &Whole, row: Following) -> Result<()>\n"
+                + clause("requires", f"Whole.told whole.now ≡ {script}")
+                + clause("ensures", "Sends S.step S.refuses (S.seen serializer.old) (Whole.told whole.now)\n"
+                         "result (S.seen serializer.new)")
+                + f"{{\n{body}\n}}\n")
+
+    def send_around(self, opening: str) -> List[str]:
+        """The statements that send a row of what is in the content, and what is around it."""
+        content = f"SendInside({self.announced(self.fields[0])}, row, SendEnd)"
+        rows = [f"SendOpen({opening}, row)", content, *reversed(self.before), f"SendOpen({self.call}, row)"]
+        return [*(f"let row = {row};" for row in rows), "send_row(alloc, serializer, &row)"]
+
     def send(self, values: List[str]) -> List[str]:
         inside = self.inside
-        content = f"SendInside({self.announced(self.fields[0])}, row, SendEnd)"
-        rows = [f"SendOpen({inside.opening(values)}, row)", content, *reversed(self.before), f"SendOpen({self.call}, row)"]
-        return [*row_of(inside.sent_row(values, 0), inside.sent_last(values, 0)), *(f"let row = {row};" for row in rows),
-                "send_row(alloc, serializer, &row)"]
+        if self.parted:
+            return [f"let row = {inside.sent_run(0)}({', '.join(values)});", f"{self.around_name()}(alloc, serializer, whole, row)"]
+        return row_of(inside.sent_row(values, 0), inside.sent_last(values, 0)) + self.send_around(inside.opening(values))
 
     def field_reader(self) -> str:
         """The function that reads the content."""
@@ -86,12 +124,19 @@ class ContentHolder(TaggedHolder):
         return nest([f"content_{member} {name_term(self.fields[0].wire)} {known}\n({law})"], self.end(member))
 
     def back_row(self, values: List[str], sees: List[str]) -> str:
-        law = f"λ g. {self.inside.word}_back{self.inside.back(values, self.sees)}\ng (λ q h. h)"
-        return self.content_row("back", law, *self.scripts(values))
+        law = f"λ g. {self.inside.word}_back{{}}\ng (λ q h. h)"
+        return self.content_row("back", self.named_first(law, self.inside.back, values), *self.scripts(values))
 
     def kept_row(self, values: List[str], sees: List[str]) -> str:
-        law = f"{self.inside.word}_kept{self.inside.kept(values, self.sees)}\n(λ q h. h)"
-        return self.content_row("kept", law, *self.scripts(values))
+        law = f"{self.inside.word}_kept{{}}\n(λ q h. h)"
+        return self.content_row("kept", self.named_first(law, self.inside.kept, values), *self.scripts(values))
+
+    def named_first(self, law: str, rows: Callable[[List[str], List[str]], str], values: List[str]) -> str:
+        """This law of these rows. Where they are many they are named first, and so compared with what is asked but once."""
+        if not self.parted:
+            return law.format(rows(values, self.sees))
+        sees = [see.replace("λ q.", f"λ (q : {self.struct.item.name}).") for see in self.sees]
+        return f"let law = {bare(rows(values, sees))} in {law.format(' law')}"
 
     def keeps_row(self, sees: List[str]) -> str:
         return self.content_row("keeps", f"{self.inside.word}_keeps{self.inside.head}{self.inside.keeps(self.sees)}")
@@ -114,7 +159,15 @@ class AdjacentWriter(TaggedWriter):
 
     def functions(self) -> List[str]:
         held = [holder.struct for _, holder in self.variants if isinstance(holder, ContentHolder) and holder.struct]
-        return [text for struct in held for text in struct.texts()] + super().functions()
+        parted = any(v.sent and isinstance(holder, ContentHolder) and holder.parted for v, holder in self.variants)
+        return [text for struct in held for text in struct.texts()] + [self.told()] * (self.sends and parted) + super().functions()
+
+    def told(self) -> str:
+        """The trait by which functions know the script of this enum that don't know the enum."""
+        trait = told_by(self.item)
+        given = angled(*self.item.lifetimes, *bounded(self.item.parameters, "Serialize"))
+        return (f"/// What it is sent by.\ntrait {trait} {{\n/// Its script.\nghost told: {{ Self → Bool → Script }};\n}}\n\n"
+                f"impl{given} {trait} for {self.whole} {{\n{ghost('told', f'λ y. ⟦<{self.whole} as Serialize>⟧.script y')}\n}}\n")
 
     def is_apart(self, v: Variant, holder: Holder) -> bool:
         return isinstance(holder, ContentHolder) or super().is_apart(v, holder)

@@ -24,7 +24,7 @@ from .tagged import TaggedWriter, check_tagged
 from .types import CBOR, LT_DE, NOT_NULL, READ, TRIP, Type, angled, bounded, in_term
 from .unique import KINDS, name_cases, name_functions
 from .untagged import UntaggedWriter, check_untagged
-from .words import ALIASES, METHODS, NESTED_ITEMS, NESTED_WORDS, SEEN, USES, WORDS, words_in, words_of
+from .words import ALIASES, METHODS, NESTED_ITEMS, NESTED_WORDS, SEEN, TOLD, TOLD_WORDS, USES, WORDS, words_in, words_of
 
 Writer = Union[StructWriter, EnumWriter]
 TRAITS = dict(zip(KINDS, ("Serialize", "SendEntries", "RoundTrip", "CborRoundTrip", "NotNull", "Ord", "Eq")))
@@ -176,10 +176,13 @@ def uses(file: File, homes: Homes, texts: List[str]) -> List[str]:
                for own in owns if not own.module() and own.declared in named]
     ghosts += [f"ghost use {own.home.format('declared')}.{own.declared} as {own.module()};" for own in owns if own.module() in named]
     declared = homes.here.format("declared")
+    held = dict.fromkeys(found for text in texts for found in re.findall(r"\(λ\s\(q\s:\s(\w+)\)\.", text))
+    ghosts += [f"ghost use {declared}.{name}.{{{name}}};" for name in held]
     ghosts += [f"ghost use {declared}.{item.name}.TheVariants as {item.cases};"
                for item in file.items if item.variants and not item.cycle]
     nested = [item for item in file.items if item.cycle]
     ghosts += words_of(words, NESTED_WORDS) if nested else []
+    ghosts += words_of(words, TOLD_WORDS) if any(map(TOLD.search, texts)) else []
     for item in nested:
         sends = [f"fold-{item.name}", f"fold_out-{item.name}", f"map-{item.name}"] * ("Serialize" in item.derives)
         seen = [in_term(item.name), *sends, f"out-{item.name}"]

@@ -59,8 +59,12 @@ class TaggedHolder(Holder):
         return LONGEST_HELD
 
     def script(self, values: List[str]) -> str:
+        return self.script_of(self.scripts(values), values)
+
+    def script_of(self, inners: List[str], values: List[str]) -> str:
+        """The calls that are made, of those that each value makes."""
         head = f"tagged_script {self.names} {self.length(values, 1)} {name_term(self.tag)} {name_term(self.variant)}"
-        return head + self.row("script", self.scripts(values), values=values)
+        return head + self.row("script", inners, values=values)
 
     def lawful(self, values: List[str]) -> str:
         laws = filter(None, self.parts("lawful", self.laws(values), values=values))

@@ -97,7 +97,7 @@ def together(values: List[str]) -> str:
 
 
 BOUND = set("b cc d e f fits free fs g given h it l law m n o one only p people q r readable real refl result s same search t"
-            " there tt v x y z absurd grind".split())
+            " there tt v whole x y z absurd grind".split())
 
 
 def alias(name: str) -> str:

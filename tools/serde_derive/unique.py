@@ -10,7 +10,7 @@ from .types import snake
 from .words import USES, WORDS
 
 FUNCTIONS = {name for names in USES.values() for name in names.split() if name.islower()}
-ROW = re.compile(r"(?:fields|names|aliases|meant|tags|sent|(?:field|part|from|sent|default|unless)\d+)of(.+)")  # what is called after an owner
+ROW = re.compile(r"(?:fields|names|aliases|meant|tags|sent|told|(?:field|part|from|sent|default|unless)\d+)of(.+)")  # what is called after an owner
 KINDS = ("serialize", "send_entries", "round_trip", "cbor_round_trip", "not_null", "ord", "eq")
 
 

@@ -123,6 +123,8 @@ content_nested.specs.Nested Nested option_nested seq_nested map_nested told_by
 content_nested.specs.Levels levels_of most_levels
 content_nested.specs.Within refuses_all GivesNothing refusals_within gives_within
 """)
+# that of files with a trait that tells a script
+TOLD, TOLD_WORDS = re.compile(r"^trait ToldOf", re.M), word_table("content_ser.specs.Scripts.Script Script")
 NESTED_ITEMS = ("FieldsWithin Inner Levels NestedField NestedFieldOr NestedPart Nests PartsWithin ReadNested ReadWithin"
                 " ReadsLevel ReadsNested ReadsWithin SendNested SendNestedField SendNestedPart SkipNested Steps StructWithin"
                 " TaggedWithin Tells Told VariantsWithin").split()
