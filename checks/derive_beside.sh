@@ -1,8 +1,8 @@
 #!/usr/bin/env bash
-# checks/derive_beside.sh CRATE ROOM [SEED]: makes 20,000 random trees for the types of crates/check_derive, of
-# crates/check_sample/nested.rs, checks/serde_texts/more.rs and checks/derive_beside/others.rs, whole and damaged, reads each
-# as its type by what Serde derives over the Rust crate serde-content 0.1.2, whose source is in the folder CRATE, and by what
-# tools/derive writes, and sends each value again. It prints how many answers are the same, how many differ as a line of docs/DIFFERENCES.md
+# checks/derive_beside.sh CRATE ROOM [SEED]: makes 20,000 random trees for types of crates/check_derive, crates/check_fields,
+# checks/serde_texts/more.rs and checks/derive_beside/others.rs, whole and damaged, reads each as its type by what Serde
+# derives over the Rust crate serde-content 0.1.2, whose source is in the folder CRATE, and by what tools/derive writes,
+# and sends each value again. It prints how many answers are the same, how many differ as a line of docs/DIFFERENCES.md
 # says, for each line, and how many differ otherwise: the first ten of these, and status 1, as where no case falls under
 # a line. It works in the folder ROOM, which it makes and keeps. It is outside the gate, proves nothing, needs what
 # checks/beside.sh does, and takes three minutes.
@@ -14,7 +14,7 @@ mkdir -p "$2"
 room=$(cd "$2" && pwd)
 # in Rust a HashMap has another order in each run: here it is a BTreeMap
 sed 's/HashMap/BTreeMap/g' "$top/crates/check_derive/types.rs" > "$room/types.rs"
-files=("$room/types.rs" "$top"/crates/check_derive/{choices,sorts,inlined,attributes}.rs "$top/crates/check_sample/nested.rs" "$top/checks/serde_texts/more.rs" "$parts/others.rs")
+files=("$room/types.rs" "$top"/crates/check_derive/{choices,sorts,inlined}.rs "$top"/crates/check_fields/{attributes,nested}.rs "$top/checks/serde_texts/more.rs" "$parts/others.rs")
 cases=("$room" "${3:-1}" 20000 "${files[@]}")
 
 # shellcheck source=bench/common.sh

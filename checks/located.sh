@@ -1,12 +1,12 @@
 #!/usr/bin/env bash
-# checks/located.sh [--write]: compares the paths at which the cases of crates/check_typed/src/tests/located.rt are refused,
+# checks/located.sh [--write]: compares the paths at which the cases of crates/check_located/src/tests/located.rt are refused,
 # and those that Serde's derives and serde_path_to_error give, with the table checks/located/paths.tsv, or writes them there. It
 # stands outside the gate, proves and runs nothing of ours (the tests do), and takes half a minute. It needs cargo, python3 and
 # Debian's librust-serde-dev, librust-serde-derive-dev, librust-serde-json-dev and librust-serde-path-to-error-dev.
 set -euo pipefail
 top=$(cd "$(dirname "$0")/.." && pwd)
 parts=$top/checks/located
-cases=$top/crates/check_typed/src/tests/located.rt
+cases=$top/crates/check_located/src/tests/located.rt
 room=$(mktemp -d)
 trap 'rm -rf "$room"' EXIT
 
@@ -14,9 +14,7 @@ trap 'rm -rf "$room"' EXIT
 . "$top/bench/common.sh"
 
 place_driver "$parts/beside"
-for module in attributes choices inlined places sorts types; do
-    cp "$top/crates/check_derive/$module.rs" "$room/driver/src/"
-done
+cp "$top"/crates/check_derive/{choices,inlined,places,sorts,types}.rs "$top/crates/check_fields/attributes.rs" "$room/driver/src/"
 python3 "$parts/located.py" cases "$cases" > "$room/cases"
 (cd "$room/driver" && cargo run --offline --quiet) < "$room/cases" > "$room/serde"
 version=$(sed -n '/name = "serde_path_to_error"/{n;s/.*"\(.*\)"/\1/p}' "$room/driver/Cargo.lock")

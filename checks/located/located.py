@@ -1,4 +1,4 @@
-"""Takes the cases out of crates/check_typed/src/tests/located.rt, and compares their paths with Serde's.
+"""Takes the cases out of crates/check_located/src/tests/located.rt, and compares their paths with Serde's.
 
   located.py cases CASES.rt                  prints each case as a line: the type, a tab, JSON
   located.py table CASES.rt SERDE VERSION    prints the table, with Serde's path of each case out of the file SERDE

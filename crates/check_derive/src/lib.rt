@@ -1,11 +1,8 @@
-//! Types that `tools/derive` wrote.
+//! Types that `tools/derive` wrote: structs and enums of every sort.
 #![tactic(auto)]
 
-pub mod attributes;
 pub mod choices;
 pub mod inlined;
-pub mod left_over;
 pub mod places;
 pub mod sorts;
-pub mod spread;
 pub mod types;

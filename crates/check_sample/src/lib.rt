@@ -1,5 +1,4 @@
-//! Types that `tools/derive` wrote: one that contains itself, and some of each sort and size.
+//! Types that `tools/derive` wrote: some of each sort and size.
 #![tactic(auto)]
 
-pub mod nested;
 pub mod sample;

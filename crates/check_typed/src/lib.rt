@@ -1,5 +1,5 @@
-//! Tests of types that `tools/derive` wrote: what is sent, what comes back, and where a value is
-//! refused, with expected values written by hand.
+//! Tests of types that `tools/derive` wrote: what is sent and what comes back, with expected values
+//! written by hand.
 #![tactic(auto)]
 
 #[cfg(test)]

@@ -1,9 +1,7 @@
-//! The tests, by what they show, and the texts in which they write values.
+//! The tests, by what they show.
 
 mod derived;
 mod left_over;
-mod located;
 mod nested;
 mod spread;
 mod values;
-mod written;

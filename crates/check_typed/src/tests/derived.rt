@@ -1,10 +1,10 @@
 //! Types that `tools/derive` wrote: fields in another order, choices, and values that come back.
 
-use super::written::{shown, value_of};
 use check_derive::choices::{Color, Command, Setting};
 use check_derive::inlined::{Amount, Change, Line};
 use check_derive::sorts::{Message, Stop};
 use check_derive::types::Order;
+use check_written::{shown, value_of};
 use content_cbor::laws::write_and_read_back;
 use content_cbor::{CborRoundTrip, to_bytes};
 use serde_content::{Deserializer, Result as Answer, RoundTrip, round_trip, value};

@@ -1,6 +1,6 @@
 //! Structs that `tools/derive` wrote, of which one field takes what no other field does.
 
-use check_derive::left_over::{Algorithm, Chat, Key, Lock, Package, Post};
+use check_fields::left_over::{Algorithm, Chat, Key, Lock, Package, Post};
 use serde_content::{Deserializer, Result as Answer, value};
 use std::alloc::Global;
 use std::process::Abort;

@@ -1,7 +1,7 @@
 //! A type that contains itself.
 
-use super::written::{shown, value_of};
-use check_sample::nested::Expr;
+use check_fields::nested::Expr;
+use check_written::{shown, value_of};
 use serde_content::{Deserializer, ErrorKind, Result as Answer, Serializer};
 use std::alloc::Global;
 use std::test::Fail;

@@ -1,8 +1,8 @@
 //! Flattened values that are not inlined, as `tools/derive` wrote how they are sent. The texts are
 //! what Serde's derive sends, printed here.
 
-use super::written::shown;
-use check_derive::spread::{Page, Record, Seen, Seer, Sight, Sky};
+use check_fields::spread::{Page, Record, Seen, Seer, Sight, Sky};
+use check_written::shown;
 use serde_content::Result as Answer;
 use std::alloc::Global;
 use std::collections::{BTreeMap, HashMap};

@@ -1,6 +1,6 @@
 //! The examples of the page on values.
 
-use check_derive::attributes::Server;
+use check_fields::attributes::Server;
 use content_uses::merge;
 use serde_content::{Deserializer, Value, value};
 use std::collections::BTreeMap;

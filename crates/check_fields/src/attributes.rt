@@ -57,10 +57,10 @@ ghost use Rattle.std.specs.declared.alloc.Global.{Global};
 ghost use Rattle.std.specs.declared.string.String.{String};
 ghost use Rattle.std.specs.declared.vec.Vec.{Vec};
 ghost use Rattle.content_tree.specs.Values.Ranges as kind;
-ghost use Rattle.check_derive.specs.declared.attributes.Grade.{Grade};
-ghost use Rattle.check_derive.specs.declared.attributes.Grade.TheVariants as grade;
-ghost use Rattle.check_derive.specs.declared.attributes.Way.TheVariants as way;
-ghost use Rattle.check_derive.specs.declared.attributes.Request.TheVariants as request;
+ghost use Rattle.check_fields.specs.declared.attributes.Grade.{Grade};
+ghost use Rattle.check_fields.specs.declared.attributes.Grade.TheVariants as grade;
+ghost use Rattle.check_fields.specs.declared.attributes.Way.TheVariants as way;
+ghost use Rattle.check_fields.specs.declared.attributes.Request.TheVariants as request;
 
 use content_cbor::{CborRoundTrip, NotNull};
 use serde_content::de::{Deserialize, FieldsByName, VariantAccess};
@@ -599,7 +599,7 @@ impl<'de> ReadStruct<'de> for Server {
 }
 
 impl Serialize for Server {
-    ghost use Rattle.check_derive.specs.contracts.attributes.GradeSerialize.TheImpl.Laws as grade_serialize;
+    ghost use Rattle.check_fields.specs.contracts.attributes.GradeSerialize.TheImpl.Laws as grade_serialize;
 
     ghost script = { λ p. struct_script (name "Server")
         (fields_less (not p.quiet) (fields_less p.«open»
@@ -682,7 +682,7 @@ impl<'de> Deserialize<'de> for Server {
 }
 
 impl<'de> RoundTrip<'de> for Server {
-    ghost use Rattle.check_derive.specs.contracts.attributes.GradeRoundTrip.TheImpl.Laws as grade_round_trip;
+    ghost use Rattle.check_fields.specs.contracts.attributes.GradeRoundTrip.TheImpl.Laws as grade_round_trip;
 
     fn known(&self) {}
 
@@ -1201,7 +1201,7 @@ impl<'de> ReadStruct<'de> for Sticker {
 }
 
 impl Serialize for Sticker {
-    ghost use Rattle.check_derive.specs.contracts.attributes.WaySerialize.TheImpl.Laws as way_serialize;
+    ghost use Rattle.check_fields.specs.contracts.attributes.WaySerialize.TheImpl.Laws as way_serialize;
 
     ghost script = { λ p. struct_script (name "Sticker") 3
         (field_first (name "firstLine") (⟦<String as Serialize>⟧.script p.first_line)

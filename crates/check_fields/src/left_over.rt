@@ -18,8 +18,8 @@ ghost use Rattle.serde_content.specs.Variants.{variants};
 ghost use Rattle.serde_content.specs.Laws.Flattened.{flattened_refusal, FlattenedGives};
 ghost use Rattle.std.specs.declared.alloc.Global.{Global};
 ghost use Rattle.std.specs.declared.string.String.{String};
-ghost use Rattle.check_derive.specs.declared.left_over.Algorithm.TheVariants as algorithm;
-ghost use Rattle.check_derive.specs.declared.left_over.Chat.TheVariants as chat;
+ghost use Rattle.check_fields.specs.declared.left_over.Algorithm.TheVariants as algorithm;
+ghost use Rattle.check_fields.specs.declared.left_over.Chat.TheVariants as chat;
 
 use serde_content::de::{Deserialize, FieldsByName};
 use serde_content::derive_support::{

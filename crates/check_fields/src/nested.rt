@@ -27,8 +27,8 @@ ghost use Rattle.content_nested.specs.Nested.{Nested, seq_nested, told_by};
 ghost use Rattle.content_nested.specs.Levels.{levels_of, most_levels};
 ghost use Rattle.content_nested.specs.Within.{refuses_all, GivesNothing, refusals_within};
 ghost use Rattle.content_nested.specs.Within.{gives_within};
-ghost use Rattle.check_sample.specs.declared.nested.Expr.{Expr, fold-Expr, fold_out-Expr, map-Expr, out-Expr};
-ghost use Rattle.check_sample.specs.declared.nested.Expr.TheOpen as expr;
+ghost use Rattle.check_fields.specs.declared.nested.Expr.{Expr, fold-Expr, fold_out-Expr, map-Expr, out-Expr};
+ghost use Rattle.check_fields.specs.declared.nested.Expr.TheOpen as expr;
 
 use content_nested::{
     FieldsWithin, Inner, Levels, NestedField, Nests, ReadNested, ReadWithin, ReadsLevel,

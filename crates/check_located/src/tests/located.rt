@@ -2,13 +2,13 @@
 //!
 //! `checks/located.sh` compares the paths of a depot with those that Serde's derives give.
 
-use crate::tests::written::{changed, value_of};
-use check_derive::attributes::{Grade, Task};
 use check_derive::choices::Setting;
 use check_derive::inlined::Change;
 use check_derive::places::Depot;
 use check_derive::sorts::{Code, Ledger, Stop};
 use check_derive::types::Step;
+use check_fields::attributes::{Grade, Task};
+use check_written::{changed, value_of};
 use serde_content::de::Deserialize;
 use serde_content::samples::{Point, Shape};
 use serde_content::ser::{Call, from_calls};

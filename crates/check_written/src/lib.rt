@@ -1,4 +1,5 @@
-//! Values written as text, and what is sent as it prints.
+//! Values written as text, and what is sent as it prints: what tests of typed data share.
+#![tactic(auto)]
 
 use serde_content::ser::{Builder, Call, Serialize, Serializer as _};
 use serde_content::{CowStr, Number, Result as Answer, Serializer, Value};

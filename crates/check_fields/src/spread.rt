@@ -24,10 +24,10 @@ ghost use Rattle.serde_content.specs.Laws.Flattened.{flattened_lawful};
 ghost use Rattle.serde_content.specs.Laws.Entries.{flattened_unless_fits, pairs_fit, optional_fit};
 ghost use Rattle.serde_content.specs.Laws.Tagged.{tagged_script};
 ghost use Rattle.content_tree.specs.Values.Ranges as kind;
-ghost use Rattle.check_derive.specs.declared.spread.Sight.TheVariants as sight;
-ghost use Rattle.check_derive.specs.declared.spread.Sky.TheVariants as sky;
-ghost use Rattle.check_derive.specs.declared.spread.Seer.TheVariants as seer;
-ghost use Rattle.check_derive.specs.declared.spread.Record.TheVariants as the_record;
+ghost use Rattle.check_fields.specs.declared.spread.Sight.TheVariants as sight;
+ghost use Rattle.check_fields.specs.declared.spread.Sky.TheVariants as sky;
+ghost use Rattle.check_fields.specs.declared.spread.Seer.TheVariants as seer;
+ghost use Rattle.check_fields.specs.declared.spread.Record.TheVariants as the_record;
 
 use serde_content::derive_support::{
     Names, SendAll, SendElement, SendEnd, SendEntries, SendEntry, SendEntryInside, SendEntryUnless,
@@ -163,7 +163,7 @@ fn send_whole_sight_birds<S: Serializer>(
 }
 
 impl Serialize for Sight {
-    ghost use Rattle.check_derive.specs.contracts.spread.SeenSerialize.TheImpl.Laws as seen_serialize;
+    ghost use Rattle.check_fields.specs.contracts.spread.SeenSerialize.TheImpl.Laws as seen_serialize;
 
     ghost script = { elim [
       | sight.Birds x1 x2 ↦ struct_script (name "Sight") 2
@@ -220,7 +220,7 @@ fn send_entries_of_sight_birds<Following: serde_content::derive_support::SendRow
 }
 
 impl SendEntries for Sight {
-    ghost use Rattle.check_derive.specs.contracts.spread.SeenSendEntries.TheImpl.Laws as seen_send_entries;
+    ghost use Rattle.check_fields.specs.contracts.spread.SeenSendEntries.TheImpl.Laws as seen_send_entries;
 
     ghost entries = { elim [
       | sight.Birds x1 x2 ↦ λ rest.
@@ -781,11 +781,11 @@ impl Names for FieldsOfPage {
 }
 
 impl Serialize for Page {
-    ghost use Rattle.check_derive.specs.contracts.spread.SeenSendEntries.TheImpl.Laws as seen_send_entries;
-    ghost use Rattle.check_derive.specs.contracts.spread.SightSendEntries.TheImpl.Laws as sight_send_entries;
-    ghost use Rattle.check_derive.specs.contracts.spread.SkySendEntries.TheImpl.Laws as sky_send_entries;
-    ghost use Rattle.check_derive.specs.contracts.spread.SeerSendEntries.TheImpl.Laws as seer_send_entries;
-    ghost use Rattle.check_derive.specs.contracts.spread.RecordSendEntries.TheImpl.Laws as record_send_entries;
+    ghost use Rattle.check_fields.specs.contracts.spread.SeenSendEntries.TheImpl.Laws as seen_send_entries;
+    ghost use Rattle.check_fields.specs.contracts.spread.SightSendEntries.TheImpl.Laws as sight_send_entries;
+    ghost use Rattle.check_fields.specs.contracts.spread.SkySendEntries.TheImpl.Laws as sky_send_entries;
+    ghost use Rattle.check_fields.specs.contracts.spread.SeerSendEntries.TheImpl.Laws as seer_send_entries;
+    ghost use Rattle.check_fields.specs.contracts.spread.RecordSendEntries.TheImpl.Laws as record_send_entries;
 
     ghost script = { λ p. flattened_script
         (flattened_first (name "day") (⟦<i32 as Serialize>⟧.script p.day)
