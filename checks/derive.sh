@@ -1,10 +1,10 @@
 #!/usr/bin/env bash
-# checks/derive.sh: compares what tools/derive writes for each file of declarations in crates/check_derive, crates/check_fields,
-# crates/check_sample (a sample of checks/derive/matrix.py) and crates/shapes with the module that `rt ci` proves; and what it
-# answers to the declarations in checks/derive, which it takes, refuses or finds no Rust, and to 5,000 mutants of them. The modules of what
-# it takes, and of 40 mutants, are compiled by `rt try`, which checks Rust's types and proves nothing. Its status is 1 where one
-# differs. It needs python3, git and the kit, and takes a processor minute. `python3 checks/derive/mutants.py . SEED` tries
-# other mutants.
+# checks/derive.sh: compares what tools/derive writes for each file of declarations in crates/check_derive,
+# crates/check_fields, crates/check_sample (a sample of checks/derive/matrix.py) and crates/shapes with the module that
+# `rt ci` proves; and what it answers to the declarations in checks/derive, which it takes, refuses or finds no Rust, and to
+# 5,000 mutants of them. The modules of what it takes, and of 40 mutants, are compiled by `rt try`, which checks Rust's types
+# and proves nothing. Its status is 1 where one differs. It needs python3, git and the kit, and takes a processor minute.
+# `python3 checks/derive/mutants.py . SEED` tries other mutants.
 set -eu
 top=$(cd "$(dirname "$0")/.." && pwd)
 cd "$top/crates/check_derive"

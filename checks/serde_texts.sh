@@ -15,7 +15,7 @@ place_ours serde_texts "$parts/here" 'serde_texts: anyhow content_de content_ser
 here=$room/ours/crates/serde_texts
 place_driver "$parts/beside"
 python3 "$parts/texts.py" cases "$parts/texts.md" "$room/driver/src/cases.rs" "$here/src/cases.rt"
-for types in "$top"/crates/check_derive/*.rs "$top"/crates/check_fields/{attributes,left_over,spread}.rs "$parts/more.rs"; do
+for types in "$top"/crates/check_derive/{choices,inlined,sorts,types}.rs "$parts/more.rs"; do
     module=$(basename "$types" .rs)
     cp "$types" "$room/driver/src/"
     "$top/tools/derive" --crate serde_texts --module "$module" "$types" > "$here/src/$module.rt"

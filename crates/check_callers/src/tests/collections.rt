@@ -51,16 +51,9 @@ fn queue_at_path(alloc: Global) -> Answer<HashMap<PathBuf, VecDeque<u8>>> {
 #[test]
 fn collections_come_back(rt: HostRuntime) -> Result<(), Fail> {
     let alloc = rt.alloc();
-    assert!(rt; comes_back(alloc, &letters(alloc)?)?);
-    assert!(rt; comes_back(alloc, &queue_at_path(alloc)?)?);
-    Ok(())
-}
-
-#[test]
-fn a_shared_text_comes_back(rt: HostRuntime) -> Result<(), Fail> {
-    let alloc = rt.alloc();
     let text = String::from_str(alloc, "c")?;
     let shared = Rc::new(alloc, text.into_boxed_str())?;
-    assert!(rt; comes_back(alloc, &shared)?);
+    let all = (letters(alloc)?, queue_at_path(alloc)?, shared);
+    assert!(rt; comes_back(alloc, &all)?);
     Ok(())
 }

@@ -60,8 +60,11 @@ fn fields_are_taken_in_any_order(rt: HostRuntime) -> Result<(), Fail> {
 
 #[test]
 fn a_field_is_taken_once(rt: HostRuntime) -> Result<(), Fail> {
-    let mut fields = without(rt.alloc(), "a")?;
-    assert!(rt; fields.take_named("a").is_none());
+    let alloc = rt.alloc();
+    let mut fields = three_fields(alloc)?;
+    let a: u8 = named_field(alloc, &mut fields, "a")?;
+    assert!(rt; a == 1 && fields.take_named("a").is_none());
+    assert!(rt; fields.take_named("kind").is_some());
     Ok(())
 }
 
@@ -86,7 +89,7 @@ fn what_is_not_taken_is_left(rt: HostRuntime) -> Result<(), Fail> {
 #[test]
 fn what_is_left_may_be_refused_as_one_type(rt: HostRuntime) -> Result<(), Fail> {
     let alloc = rt.alloc();
-    let rest = numbers(alloc)?;
+    let rest = without(alloc, "kind")?.rest(alloc)?;
     assert!(rt; attempt::<bool>(alloc, &rest)?.is_none());
     Ok(())
 }
