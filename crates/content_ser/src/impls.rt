@@ -12,6 +12,7 @@ mod numbers;
 mod path;
 mod rc;
 mod set;
+mod slice;
 mod text;
 mod tuple;
 mod vec;

@@ -81,6 +81,14 @@ impl<T> Skip for VecDeque<T> {
     }
 }
 
+impl<'a, T> Skip for &'a [T] {
+    ghost is_empty = { λ x. has_none x.now };
+
+    fn is_skipped(&self) -> bool {
+        matches!(*self, [])
+    }
+}
+
 /// So many fields, less one where this value is left out.
 pub fn count_unless<T: Skip>(value: &T, count: usize) -> usize
     ensures { result ≡ fields_less (T.is_empty value.now) count }

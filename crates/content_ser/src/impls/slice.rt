@@ -1,0 +1,37 @@
+//! Slices, as sequences.
+
+#![tactic(auto, using(crate::proofs::Sending::sending))]
+
+ghost use Rattle.content_ser.specs.Scripts.Standard.{seq_script};
+ghost use Rattle.content_ser.specs.Laws.StandardScripts.{seq_lawful};
+
+use crate::aside::{Sent, answered};
+use crate::send::calls::{end, serialize_element, serialize_seq};
+use crate::serialize::Serialize;
+use crate::serializer::Serializer;
+use content_tree::{Error, Result};
+use std::alloc::Global;
+
+impl<'a, T: Serialize> Serialize for &'a [T] {
+    ghost script = { λ s. seq_script T.script s.now };
+
+    ghost lawful = { λ s. seq_lawful T.lawful s.now };
+
+    fn serialize<S: Serializer>(&self, alloc: Global, serializer: &mut S) -> Result<()> {
+        answered!(error => self.serialize_aside(alloc, serializer, &mut error))
+    }
+
+    fn serialize_aside<S: Serializer>(
+        &self,
+        alloc: Global,
+        serializer: &mut S,
+        error: &mut Error,
+    ) -> Sent {
+        serialize_seq(self.len(), serializer, error)?;
+        for item in *self {
+            serialize_element(serializer, error)?;
+            item.serialize_aside(alloc, serializer, error)?;
+        }
+        end(serializer, error)
+    }
+}
