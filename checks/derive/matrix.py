@@ -383,6 +383,9 @@ def borrowed() -> Dict[str, str]:
                              " C { x: Option<&'a str>, y: Option<u64> }, D(&'a str, i8) }",
         "borrowed_internal": f'{part}{SENT}\n#[serde(tag = "t")]\npub enum Tried<\'a> {{ A, B(Part<\'a>), C {{ x: &\'a str, y: u8 }} }}',
         "borrowed_untagged": f"{part}{SENT}\n#[serde(untagged)]\npub enum Tried<'a> {{ A(Part<'a>), B(&'a str, u8), C {{ x: &'a str }} }}",
+        "borrowed_slices": f"{part}{SENT}\npub struct Tried<'a> {{ pub x: &'a [u8],"
+                           " #[serde(skip_serializing_if = \"<[_]>::is_empty\")] pub y: &'a [Part<'a>], pub z: Option<&'a [&'a str]> }",
+        "borrowed_slices_in_variant": f"{part}{SENT}\npub enum Tried<'a> {{ A(&'a [Part<'a>]), B {{ x: &'a [u8], y: Vec<&'a [i8]> }} }}",
         "borrowed_24": f"{SENT}\npub struct Tried<'a> {named(['&' + chr(39) + 'a str', 'u8'] * 12)}",
     }
 

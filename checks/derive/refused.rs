@@ -6,7 +6,7 @@ struct A {
     x: Vec<f64>,
 }
 
-// 2: A.0: a type that begins with `[` is not covered: write a Vec, or a tuple of up to four
+// 2: A.1: a type that begins with `[` is not covered: write a Vec, or a tuple of up to four
 // 4: B: a parameter that is a value is not covered: write a type for each that you use
 // 6: C: a default of a parameter is not covered: delete that of `T`, and write it where you use the type
 // 8: D: the name `S` of a parameter is not covered: give it one that begins with a capital, and that nothing else has
@@ -30,7 +30,7 @@ struct A {
 // 33: N.Y.1: of an untagged enum, a value of a parameter's type is covered alone in its variant: hold `Box<T>`
 // 35: O: `derive(Copy)` is not covered on a type with parameters, as one that isn't Copy has to be dropped: delete Copy
 #[derive(Serialize)]
-struct A<'a, T>(&'a [T]);
+struct A<'a, T>(&'a [T], Box<[T]>);
 #[derive(Serialize)]
 struct B<const N: usize>(u8);
 #[derive(Serialize)]
@@ -71,14 +71,14 @@ union A {
     x: u8,
 }
 
-// 4: A.x: serde's `skip_serializing_if` so is not covered: Option::is_none is, `is_empty` of String, Vec, VecDeque, maps and sets, each on a field of its type, a function of this file that compares with one value, as `*n == 0`, and one of another module that is named from `crate` on
+// 4: A.x: serde's `skip_serializing_if` so is not covered: Option::is_none is, `is_empty` of String, Vec, VecDeque, slices, maps and sets, each on a field of its type, a function of this file that compares with one value, as `*n == 0`, and one of another module that is named from `crate` on
 #[derive(Serialize)]
 struct A {
     #[serde(skip_serializing_if = "is_zero")]
     x: u8,
 }
 
-// 4: A.x: serde's `skip_serializing_if` so is not covered: Option::is_none is, `is_empty` of String, Vec, VecDeque, maps and sets, each on a field of its type, a function of this file that compares with one value, as `*n == 0`, and one of another module that is named from `crate` on
+// 4: A.x: serde's `skip_serializing_if` so is not covered: Option::is_none is, `is_empty` of String, Vec, VecDeque, slices, maps and sets, each on a field of its type, a function of this file that compares with one value, as `*n == 0`, and one of another module that is named from `crate` on
 #[derive(Serialize)]
 struct A {
     #[serde(skip_serializing_if = "Vec::is_empty")]
@@ -691,7 +691,7 @@ enum D { T { #[serde(default)] x: Box<u8> } }
 struct E { t: u8 }
 
 // 3: A.x: the name `\xfc` is not covered: printable ASCII but " and \ is
-// 4: A.y: serde's `skip_serializing_if` so is not covered: Option::is_none is, `is_empty` of String, Vec, VecDeque, maps and sets, each on a field of its type, a function of this file that compares with one value, as `*n == 0`, and one of another module that is named from `crate` on
+// 4: A.y: serde's `skip_serializing_if` so is not covered: Option::is_none is, `is_empty` of String, Vec, VecDeque, slices, maps and sets, each on a field of its type, a function of this file that compares with one value, as `*n == 0`, and one of another module that is named from `crate` on
 // 5: A.z: two are called `y`: give one another name by `rename`
 // 6: A.u: two are called `y`: give one another name by `rename`
 // 7: A.v: a type that begins with `[` is not covered: write a Vec, or a tuple of up to four
@@ -901,13 +901,19 @@ fn small(x: &u8) -> bool { *x < 5 }
 
 // 2: A.x: what is borrowed is covered where it is only sent: hold the value itself, as String for &str
 // 4: B.a: `A` has 0 lifetimes here, and is declared with 1
-// 6: C.c: a type that begins with `[` is not covered: write a Vec, or a tuple of up to four
+// 6: C.c: a reference to an array is not covered: write one to a slice, without the length
+// 8: D.x: what is borrowed is covered where it is only sent: hold the value itself, as String for &str
+// 10: E.x: serde's `skip_serializing_if` so is not covered: Option::is_none is, `is_empty` of String, Vec, VecDeque, slices, maps and sets, each on a field of its type, a function of this file that compares with one value, as `*n == 0`, and one of another module that is named from `crate` on
 #[derive(Serialize, Deserialize)]
 struct A<'a> { x: &'a str }
 #[derive(Serialize)]
 struct B { a: A }
 #[derive(Serialize)]
-struct C<'a> { b: Option<&'a str>, c: &'a [u8] }
+struct C<'a> { b: Option<&'a str>, c: &'a [u8; 4] }
+#[derive(Deserialize)]
+struct D<'a> { x: &'a [u8] }
+#[derive(Serialize)]
+struct E<'a> { #[serde(skip_serializing_if = "Vec::is_empty")] x: &'a [u8] }
 
 // 2: A.b: what is borrowed is covered where it is only sent: hold the value itself, as String for &str
 // 5: B.Y: of an untagged enum no value by place is skipped: give the values names

@@ -775,6 +775,12 @@ pub enum Found<'a> { Text(&'a str), Part { part: Part<'a>, more: Option<&'a Part
 #[derive(Serialize)]
 pub struct Part<'a>(&'a str, &'static str);
 
+// + pub struct A<'a> { pub x: &'a [u8], pub y: Vec<&'static [&'a str]>, }
+// + SendFieldUnless(FieldsOfA, 0, &self.x, row)
+// + (seq_lawful (λ x h. seq_lawful (λ x h. leaf_lawful refl) x.now h) p.y.items readable)
+#[derive(Serialize)]
+pub struct A<'a> { #[serde(skip_serializing_if = "<[_]>::is_empty")] pub x: &'a [u8], pub y: Vec<&'static [&'a str]> }
+
 // + let ANContent { a, b, c } = read_a_n(alloc, fields)?;
 // + SendOpen(Call::Struct(name_n(), 1), row)
 // + SendTag(FieldsOfAN, NamesOfA, 1, row)

@@ -172,7 +172,7 @@ class Field(Named):
     def lost(self) -> bool:
         """Whether what is read in its place may not equal what was left out; of what a function of another module leaves out
         nothing is known."""
-        return self.skips and (bool(self.tester) or self.missing != (self.test.fact if self.test else DEFAULTS[self.type.name]))
+        return self.skips and (bool(self.tester) or self.missing != (self.test.fact if self.test else DEFAULTS.get(self.type.name)))
 
     def why_lost(self) -> str:
         """Why it may not come back."""

@@ -4,9 +4,9 @@ from typing import Dict, Iterator, List, Set
 from .declarations import Field, Item, Value
 from .files import File
 from .functions import Functions, said_of
-from .types import DEFAULTS, ELSEWHERE, Type, in_term
+from .types import BORROWED, DEFAULTS, ELSEWHERE, Type, in_term
 
-IN_MEMORY = {"String", "BoxedStr", "PathBuf"} | ELSEWHERE - {"&"}
+IN_MEMORY = {"String", "BoxedStr", "PathBuf"} | ELSEWHERE - BORROWED
 
 
 def takes_memory(t: Type, holding: Set[str]) -> bool:

@@ -116,6 +116,8 @@ def check_skipped(where: str, f: Field, data: Data, functions: Functions) -> Ite
     """Finds the test of what is left out, and refuses one that isn't that of the field's type, and is no function of the file."""
     test = re.sub(r"^(?:::)?(?:std|core|alloc)::(?:\w+::)+(?=[A-Z])", "", f.serde["skip_serializing_if"].replace(" ", ""))
     known = SKIPS.get(f.type.name)
+    if f.type.name == "&[]" and re.fullmatch(r"<\[.+\]>::is_empty", test):
+        test = SKIPS["&[]"]
     f.test = functions.tested(f.serde["skip_serializing_if"], f.type)
     if not data.named:
         yield Refused(f.line, "serde's `skip_serializing_if` is covered in fields with names: give them names", where)
@@ -124,7 +126,7 @@ def check_skipped(where: str, f: Field, data: Data, functions: Functions) -> Ite
             f.tester = test
         else:
             yield Refused(f.line, "serde's `skip_serializing_if` so is not covered: Option::is_none is, `is_empty` of String, Vec,"
-                          " VecDeque, maps and sets, each on a field of its type, a function of this file that compares with one"
+                          " VecDeque, slices, maps and sets, each on a field of its type, a function of this file that compares with one"
                           " value, as `*n == 0`, and one of another module that is named from `crate` on", where)
 
 

@@ -80,6 +80,12 @@ class Parser(Attributes):
             raise Refused(line, "what is borrowed to be changed is not covered: write `&` without `mut`")
         if self.eat("str"):
             return Type("&str", lifetimes=(lifetime,))
+        if self.eat("["):
+            item = self.type(depth + 1)
+            if self.next.text == ";":
+                raise Refused(line, "a reference to an array is not covered: write one to a slice, without the length")
+            self.expect("]")
+            return Type("&[]", (item,), lifetimes=(lifetime,))
         return Type("&", (self.type(depth + 1),), lifetimes=(lifetime,))
 
     def lifetime(self) -> str:

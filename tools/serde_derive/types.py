@@ -75,6 +75,7 @@ HOLDERS = {
     "Rc": pointer("Rc"),
     "Arc": pointer("Arc"),
     "&": Laws("{0}", "", "", ""),
+    "&[]": Laws("seq_lawful {0} {x}.now {h}", "", "", ""),
     "BTreeMap": Laws("map_lawful {0} {1} {x}.entries {h}",
                      "(seen_back (λ m. m.entries) (map_back {total} {ties} {0} {1}))",
                      "(seen_keeps (λ m. m.entries) (map_keeps ({order}) {0} {1}))",
@@ -95,7 +96,7 @@ HOLDERS = {
 SPREAD = {**dict.fromkeys(("BTreeMap", "HashMap"), "pairs_fit {0} {1} {x}.entries"), "Option": "optional_fit {fit} {x}"}
 # how many arguments each has; those that hold one value as itself; those that hold what they do elsewhere in memory
 ARGUMENTS = {name: 2 if name in ("BTreeMap", "HashMap") else 1 for name in HOLDERS}
-POINTERS = {"Box", "Rc", "Arc"}
+POINTERS, BORROWED = {"Box", "Rc", "Arc"}, {"&", "&[]"}
 ELSEWHERE = set(HOLDERS) - {"Option"}
 # those whose first argument is in order in them, or is hashed
 IN_ORDER, HASHED = {"BTreeMap", "BTreeSet"}, {"HashMap", "HashSet"}
@@ -117,11 +118,12 @@ DEFAULTS = {
 }
 # what `skip_serializing_if` may name, by the type of the field, and that what is read in place of an empty {x} equals it
 SKIPS = {"Option": "Option::is_none", **{name: f"{name}::is_empty" for name in (
-    "String", "Vec", "BTreeMap", "BTreeSet", "HashMap", "HashSet", "VecDeque")}}
+    "String", "Vec", "BTreeMap", "BTreeSet", "HashMap", "HashSet", "VecDeque")}, "&[]": "<[_]>::is_empty"}
 ALIKE = {"Option": "none_alike _ {x} e y a", "String": "no_items_alike _ (string_bytes {x}) e (string_bytes y) a",
          **dict.fromkeys(("Vec", "VecDeque"), "no_items_alike _ {x}.items e y.items a"),
          "BTreeMap": "no_items_alike _ {x}.entries e y.entries a", "BTreeSet": "no_items_alike _ {x}.keys e y.keys a",
-         "HashMap": "no_entries_alike _ _ {x} e y a", "HashSet": "no_keys_alike _ {x} e y a"}
+         "HashMap": "no_entries_alike _ _ {x} e y a", "HashSet": "no_keys_alike _ {x} e y a",
+         "&[]": "no_items_alike _ {x}.now e y.now a"}
 OWN = Laws("{own}_serialize.lawful-law {x} {h}", "{own}_round_trip.comes_back-law",
            "{own}_round_trip.keeps-law", "{declared}",
            "{own}_cbor_round_trip.kept-law", "{own}_not_null.refuses_null-law")
@@ -247,8 +249,9 @@ class Type:
         inside = ", ".join([*self.lifetimes, *(a.rust() for a in self.arguments)])
         if self.name == "&str":
             return f"&{inside} str"
-        if self.name == "&":
-            return f"&{self.lifetimes[0]} {self.arguments[0].rust()}"
+        if self.name in BORROWED:
+            one = self.arguments[0].rust()
+            return f"&{self.lifetimes[0]} {one if self.name == '&' else f'[{one}]'}"
         if self.name == "tuple":
             return f"({inside}{',' * (len(self.arguments) == 1)})"
         return f"{self.name}<{inside}>" if inside else self.name

@@ -1,7 +1,7 @@
 //! Sets, hash maps, queues, paths and what several own.
 
 use crate::tests::round_trips::comes_back;
-use serde_content::{Deserializer, Result as Answer, value};
+use serde_content::{Deserializer, Result as Answer, Serializer, Value, value};
 use std::alloc::Global;
 use std::collections::{BTreeSet, HashMap, VecDeque};
 use std::path::PathBuf;
@@ -55,5 +55,21 @@ fn collections_come_back(rt: HostRuntime) -> Result<(), Fail> {
     let shared = Rc::new(alloc, text.into_boxed_str())?;
     let all = (letters(alloc)?, queue_at_path(alloc)?, shared);
     assert!(rt; comes_back(alloc, &all)?);
+    Ok(())
+}
+
+/// What a slice of two slices is sent as.
+fn sent_slices(alloc: Global) -> Answer<Value<'static>> {
+    let letters: &[&str] = &["a", "b"];
+    let none: &[&str] = &[];
+    let both: &[&[&str]] = &[letters, none];
+    Serializer::new().serialize(alloc, &both)
+}
+
+#[test]
+fn slices_are_sent_as_sequences(rt: HostRuntime) -> Result<(), Fail> {
+    let alloc = rt.alloc();
+    let sent = sent_slices(alloc)?;
+    assert!(rt; sent == value!(in alloc; [["a", "b"], []])?);
     Ok(())
 }
