@@ -24,9 +24,13 @@ pub record GivesOnly {A : Type 0} (refusal : Option Cause) (gives such : A → T
   pub free : refusal ≡ None
   pub only : (x : A) → gives x → such x
 
--- a value that exists is sent as a tree that, read as human readable where it was sent so, with or without coercion, gives an equal value
+-- this value is sent as a tree that, read as human readable where it was sent so, with or without coercion, gives an equal value
+abbrev pub ComesBackAt : {A : Type 0} → ScriptOf A → Refusal → Gives A → (A → A → Bool) → A → Type 0
+ComesBackAt script refusal gives eq x = (f : Flags) → SpellsSuch (λ t. GivesOnly (refusal (tree_under f t)) (gives (tree_under f t)) (λ y. eq x y ≡ true)) (script x f.human_readable)
+
+-- so does each value that exists
 pub record ComesBack {A : Type 0} (exists : A → Type 0) (script : ScriptOf A) (refusal : Refusal) (gives : Gives A) (eq : A → A → Bool) : Type 0 where
-  pub of_value : (x : A) → exists x → (f : Flags) → SpellsSuch (λ t. GivesOnly (refusal (tree_under f t)) (gives (tree_under f t)) (λ y. eq x y ≡ true)) (script x f.human_readable)
+  pub of_value : (x : A) → exists x → ComesBackAt script refusal gives eq x
 
 -- there is no refusal, and this value may be given
 pub record MayGive {A : Type 0} (refusal : Option Cause) (gives : A → Type 0) (x : A) : Type 0 where
