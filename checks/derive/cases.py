@@ -95,6 +95,7 @@ def large() -> Iterator[Tuple[str, int, str]]:
     yield "2,000 braces of a use", 2, f"use {'a::{' * 2000}b{'}' * 2000};\n"
     yield "100,000 brackets", 1, "(" * 100000 + ")" * 100000
     yield "100,000 open comments", 1, "/*" * 100000
+    yield "100,000 lines of structs", 2, "".join(f"{derive}struct A{i} {{\n    x: u8,\n}}\n" for i in range(25000))
     yield "100,000 lines of functions", 0, f"{derive}struct A;\n" + "fn f() {\n    g(1);\n}\n\n" * 25000
 
 

@@ -20,7 +20,7 @@ HELD = ["Option<u8>", "Option<String>", "Option<Vec<u8>>", "Vec<String>", "Vec<i
         "Vec<(i32, i32)>", "BTreeMap<String, (u8, bool)>", "((u8, u8), (u8, String))", "Option<(u8, u8)>", "Box<(u8, u8)>",
         "Vec<Own>", "Option<Own>", "Box<Own>", "BTreeMap<String, Own>", "(Own, u8)", "Deep", "Vec<Deep>", "Option<Vec<Deeper>>"]
 KEY = f"{ALL.replace('derive(', 'derive(PartialOrd, Ord, Hash, ')}\npub enum Key {{ A, B(u8) }}\n\n"
-LENGTHS = [1, 9, 10, 20, 40]
+LENGTHS, BORROWED_TEXT = [1, 9, 10, 20, 40], "&'a str"
 WORDS = ["name", "codes", "data", "record", "variants", "tree", "kind", "gives", "refusal", "result", "now", "entry", "open",
          "module", "elim", "tag", "fields", "alloc", "names", "refl", "script", "value", "parts", "serializer", "variant"]
 COLLECTED = ["BTreeSet<String>", "BTreeSet<u8>", "BTreeSet<Key>", "HashMap<String, u8>", "HashMap<Key, Vec<u8>>", "HashSet<i32>",
@@ -243,6 +243,39 @@ def own_rules() -> Dict[str, str]:
     return made
 
 
+def with_functions() -> Dict[str, str]:
+    """Fields that functions of the user's send or read, beside each attribute, and wherever a field may be."""
+    reads, sends, both = 'deserialize_with = "crate::rules::deserialize"', 'serialize_with = "crate::rules::serialize"', 'with = "crate::rules"'
+    text = 'deserialize_with = "crate::rules::read_text", serialize_with = "crate::rules::send_text"'
+    some = f'{text}, default, skip_serializing_if = "Option::is_none"'
+    inside = f"{ALL}\npub struct Inside {{ #[serde({both})] pub a: bool, pub b: i32 }}\n\n"
+    made = {}
+    for sort, said, one in (
+            ("read", reads, "bool"), ("sent", sends, "bool"), ("both", both, "bool"), ("optional", text, "Option<String>"),
+            ("default", f"{both}, default", "bool"), ("default_text", f"{text}, default", "Option<String>"), ("skipped", some, "Option<String>"),
+            ("default_own", f'{both}, default = "yes"', "bool"), ("test", f'{both}, skip_serializing_if = "std::ops::Not::not"', "bool"),
+            ("alias", f'{both}, alias = "a", alias = "b"', "bool"), ("alias_default", f'{both}, alias = "a", default', "bool"),
+            ("unread", f"{sends}, skip_deserializing", "bool"), ("unsent", f"{reads}, skip_serializing", "bool")):
+        functions = "\n\nfn yes() -> bool { true }" * ("yes" in said)
+        made[f"with_{sort}"] = f"{ALL}\npub struct Tried {{ pub x: u8, #[serde({said})] pub y: {one}, pub z: i32 }}{functions}"
+    kinds = [("", "u8"), (both, "bool"), ("", "String"), ("", "i32"), (some, "Option<String>"), ("", "Vec<u8>"), ("", "char")]
+    for count in (2, 5, 9, 12, 24):
+        public, inner = (", ".join(f"{f'#[serde({said})] ' * bool(said)}{visible}f{i}: {one}" for i, (said, one) in enumerate(
+            islice(cycle(kinds), count))) for visible in ("pub ", ""))
+        made[f"with_{count}"] = f"{ALL}\npub struct Tried {{ {public} }}"
+        for sort, tag in (("variant", ""), ("internal", 'tag = "kind"'), ("adjacent", 'tag = "kind", content = "of"')):
+            made[f"with_in_{sort}_{count}"] = f"{ALL}\n{f'#[serde({tag})]{chr(10)}' * bool(tag)}pub enum Tried {{ A {{ {inner} }}, B }}"
+    made["with_in_untagged"] = f"{ALL}\n#[serde(untagged)]\npub enum Tried {{ A {{ x: u8, #[serde({both})] y: bool }}, B }}"
+    made["with_closed"] = f"{BOTH}\n#[serde(deny_unknown_fields)]\npub struct Tried {{ pub x: u8, #[serde({both})] pub y: bool }}"
+    made["with_flat"] = f"{inside}{ALL}\npub struct Tried {{ pub x: u8, #[serde(flatten)] pub inside: Inside, #[serde({some})] pub y: Option<String> }}"
+    made["with_spread"] = f"{inside}{SENT}\npub struct Tried {{ pub x: u8, #[serde(flatten)] pub inside: Option<Inside> }}"
+    made["with_rest"] = f"{BOTH}\npub struct Tried {{ #[serde({both})] pub x: bool, #[serde(flatten)] pub more: BTreeMap<String, u8> }}"
+    made["with_beside"] = f'{inside}{ALL}\n#[serde(tag = "kind")]\npub enum Tried {{ A(Inside), B }}'
+    made["with_held"] = f"{inside}{ALL}\npub struct Tried {{ pub inside: Inside, pub more: Vec<Inside> }}"
+    made["with_borrowed"] = f"{SENT}\npub struct Tried<'a> {{ pub x: &'a str, #[serde({sends})] pub y: bool }}"
+    return made
+
+
 def flattened() -> Dict[str, str]:
     """Structs with flattened values that aren't inlined, or beside which fields are left out."""
     inside = f"{SENT}\npub struct Inside {{ #[serde(skip_serializing_if = \"Option::is_none\")] pub a: Option<u8>, pub b: String }}\n\n"
@@ -376,7 +409,10 @@ def generics() -> Dict[str, str]:
 def borrowed() -> Dict[str, str]:
     """Types that are only sent, and hold borrowed texts."""
     part = f"{SENT}\npub struct Part<'a> {{ pub name: &'a str, pub more: Option<&'a str> }}\n\n"
+    ten = f"pub enum Tried<'a> {{ A, B{held([BORROWED_TEXT, 'u8'] * 5, 'named')} }}"
     return {
+        "borrowed_external_10": f"{SENT}\n{ten}",
+        "borrowed_adjacent_10": f'{SENT}\n#[serde(tag = "t", content = "c")]\n{ten}',
         "borrowed": f"{part}{SENT}\npub struct Tried<'a>(pub &'a str, pub Vec<Part<'a>>, pub u8, pub BTreeMap<String, &'static str>);",
         "borrowed_external": f"{part}{SENT}\npub enum Tried<'a> {{ A, B(&'a str), C {{ x: &'a str, y: i8, z: Part<'a> }}, D(Part<'a>, u8) }}",
         "borrowed_adjacent": f'{part}{SENT}\n#[serde(tag = "t", content = "c")]\npub enum Tried<\'a> {{ A, B(Part<\'a>),'
@@ -386,7 +422,7 @@ def borrowed() -> Dict[str, str]:
         "borrowed_slices": f"{part}{SENT}\npub struct Tried<'a> {{ pub x: &'a [u8],"
                            " #[serde(skip_serializing_if = \"<[_]>::is_empty\")] pub y: &'a [Part<'a>], pub z: Option<&'a [&'a str]> }",
         "borrowed_slices_in_variant": f"{part}{SENT}\npub enum Tried<'a> {{ A(&'a [Part<'a>]), B {{ x: &'a [u8], y: Vec<&'a [i8]> }} }}",
-        "borrowed_24": f"{SENT}\npub struct Tried<'a> {named(['&' + chr(39) + 'a str', 'u8'] * 12)}",
+        "borrowed_24": f"{SENT}\npub struct Tried<'a> {named([BORROWED_TEXT, 'u8'] * 12)}",
     }
 
 
@@ -439,8 +475,8 @@ def nested() -> Dict[str, str]:
 
 def bodies() -> Dict[str, str]:
     """The declaration of each type, by name."""
-    return {**structs(), **enums(), **names(), **types(), **collections(), **attributes(), **own_rules(), **flattened(), **one_way(),
-            **rests(), **generics(), **borrowed(), **nested()}
+    return {**structs(), **enums(), **names(), **types(), **collections(), **attributes(), **own_rules(), **with_functions(),
+            **flattened(), **one_way(), **rests(), **generics(), **borrowed(), **nested()}
 
 
 def matrix() -> Dict[str, str]:

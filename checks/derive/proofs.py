@@ -14,7 +14,10 @@ from declarations import IMPORTS, declarations
 from matrix import matrix
 
 LIBRARIES = ["content_tree", "content_ser", "content_build", "content_de", "serde_content", "content_nested", "content_cbor"]
-TOGETHER = int(os.environ.get("TOGETHER", 16))
+TOGETHER, JOBS = int(os.environ.get("TOGETHER", 16)), os.environ.get("JOBS", "2")
+# the modules by hand whose functions types name by their path, and the crates by hand, each with its file and that one's module
+MODULES = ["rules", "custom_serde"]
+CRATES = {"figment": ("util", "util"), "helpers": ("helpers", "lib")}
 
 
 def drawn(which: List[str]) -> Dict[str, str]:
@@ -50,7 +53,7 @@ def repository(top: Path, room: Path, libraries: List[str]) -> None:
 
 def crate(top: Path, room: Path, name: str, types: Dict[str, str], flags: List[str], libraries: List[str]) -> List[str]:
     """Writes the crate of these types; those that tools/derive refuses are left out, and named."""
-    source, refused = room / "crates" / name / "src", []
+    source, refused, hand = room / "crates" / name / "src", [], top / "checks" / "derive" / "by_hand"
     source.mkdir(parents=True)
     for module, text in types.items():
         declared = room / f"{module}.rs"
@@ -62,24 +65,43 @@ def crate(top: Path, room: Path, name: str, types: Dict[str, str], flags: List[s
             print(f"{module}: refused: {written.stderr.strip().splitlines()[-1]}", flush=True)
         else:
             (source / f"{module}.rt").write_text(written.stdout)
-    if any("crate::rules" in text for text in types.values()):
-        by_hand(top, room / "crates" / name, "rules", "rules")
+    for module in [one for one in MODULES if any(f"crate::{one}" in text for text in types.values())]:
+        by_hand(hand, source.parent, module, module)
     for module in types:
-        by_hand(top, room / "crates" / name, module, f"{module}_by_hand")
-    kept = [f"pub mod {file.stem};" for file in sorted(source.glob("*.rt"))]
-    (source / "lib.rt").write_text("\n".join(["//! Types.", "#![tactic(auto)]", "", *kept, ""]))
-    with open(room / "crates.txt", "a") as crates:
-        crates.write(f"{name}: {' '.join(libraries)}\n")
+        by_hand(hand, source.parent, module, f"{module}_by_hand")
+    others = [one for one in CRATES if any(f'"{one}::' in text for text in types.values())]
+    for other in [one for one in others if not (room / "crates" / one).exists()]:
+        by_hand(hand / other, room / "crates" / other, *CRATES[other])
+        root(room, other, libraries)
+        build(room / "crates" / other)
+    root(room, name, libraries + others)
     return [module for module in types if module not in refused]
 
 
-def by_hand(top: Path, crate: Path, of: str, module: str) -> None:
+def build(crate: Path) -> None:
+    """Proves and builds a crate by hand; where that isn't done, no type that calls its functions is proved."""
+    done = subprocess.run(["rt", "lib", "--jobs", JOBS], cwd=crate, capture_output=True, text=True, errors="replace")
+    if done.returncode:
+        print(f"{crate.name}: not built: {(done.stdout + done.stderr).strip().splitlines()[-1]}", flush=True)
+
+
+def root(room: Path, name: str, uses: List[str]) -> None:
+    """Writes the root of a crate, unless it is there, and its line in the list of all."""
+    source = room / "crates" / name / "src"
+    kept = [f"pub mod {file.stem};" for file in sorted(source.glob("*.rt"))]
+    if not (source / "lib.rt").exists():
+        (source / "lib.rt").write_text("\n".join(["//! Types.", "#![tactic(auto)]", "", *kept, ""]))
+    with open(room / "crates.txt", "a") as crates:
+        crates.write(f"{name}: {' '.join(uses)}\n")
+
+
+def by_hand(folder: Path, crate: Path, of: str, module: str) -> None:
     """Writes the module of what types call that is written by hand, if there is one, and the definitions of its contracts."""
     words = of.title().replace("_", "")
     for part, place in ((f"{of}.rt.in", f"src/{module}.rt"), (f"{words}.antt.in", f"specs/{words}.antt")):
-        text = top / "checks" / "derive" / "by_hand" / part
+        text = folder / part
         if text.exists():
-            (crate / place).parent.mkdir(exist_ok=True)
+            (crate / place).parent.mkdir(parents=True, exist_ok=True)
             (crate / place).write_text(text.read_text().replace("CRATE", crate.name))
     definitions = sorted(file.stem for file in (crate / "specs").glob("*.antt") if file.stem != "Lib")
     if definitions:
@@ -97,7 +119,7 @@ def failing(name: str, module: str, log: str) -> str:
 def check(room: Path, name: str, modules: List[str]) -> List[str]:
     """Checks a crate, prints what is not proved of it and its seconds, and gives what is."""
     before = resource.getrusage(resource.RUSAGE_CHILDREN).ru_utime
-    command = ["rt", "check", "--jobs", os.environ.get("JOBS", "2")]
+    command = ["rt", "check", "--jobs", JOBS]
     done = subprocess.run(command, cwd=room / "crates" / name, capture_output=True, text=True, errors="replace")
     seconds = resource.getrusage(resource.RUSAGE_CHILDREN).ru_utime - before
     log, proved = done.stdout + done.stderr, []

@@ -248,7 +248,7 @@ struct A {
 struct A(u8);
 
 // 3: A.x: floats are not covered: hold a whole number of a smaller unit, or a String
-// 4: A.y: serde's `with` on a field is not covered: a function of your own has no contract here: hold a struct around the value, and write its impls by hand
+// 4: A.y: serde's `getter` on a field is not covered: only your own types are sent: declare one like it, and convert it by hand
 // 6: A.z: `#[cfg(unix)]` is not covered, as the module is written once for all: delete it, or move what it is about to a file of its own
 // 7: A.z: a map with keys of type `&'static str` is not covered: hold a Vec of pairs, or put the key into a struct that derives Ord
 // 9: A.größe: the name `größe` is not covered, as Rattle takes names in ASCII alone: give it another
@@ -260,7 +260,7 @@ struct A(u8);
 #[derive(Serialize)]
 struct A {
     x: f32,
-    #[serde(with = "x")]
+    #[serde(getter = "x")]
     y: u8,
     #[cfg(unix)]
     z: BTreeMap<&'static str, u8>,
@@ -724,7 +724,7 @@ enum E { Y, #[serde(rename = "Y")] X(u8, #[serde(default)] u8), Z { b: u8, #[ser
 // 5: A: serde's `expecting` on a container is not covered: refusals have a text of their own: delete it
 // 6: A: serde's `rename_all` so is not covered: write `rename_all = ".."`
 // 7: A: serde's `deny_unknown_fields` so is not covered: write `deny_unknown_fields` alone
-// 9: A.x: serde's `deserialize_with` on a field is not covered: a function of your own has no contract here: hold a struct around the value, and write its impls by hand
+// 9: A.x: `f` is no function of another module: move it there, and name it from `crate` on
 // 10: A.y: serde's `borrow` on a field is not covered: values are owned: delete it
 // 10: A.y: serde's `rename_all` on a field is not covered: it is for a container or a variant
 // 11: A.z: serde's `renam` on a field is not covered: delete it, or write the impls by hand
@@ -886,6 +886,49 @@ struct B { #[serde(alias = "y")] x: u8 }
 #[derive(Deserialize)]
 #[serde(tag = "t", content = "c")]
 enum A<T> { X { x: T }, Y(u8, T), Z(T), W { x: Box<T>, y: u8 } }
+
+// 2: A.0: serde's `with` is covered in fields with names: give them names
+// 4: B.Y: serde's `with` on a variant is not covered: it is for a field
+// 4: B.X.0: serde's `deserialize_with` is covered in fields with names: give them names
+// 6: C.x: serde's `serialize_with` is not covered in a type with parameters: hold the field in another struct
+// 9: D.x: serde's `with` on a field is not covered where its struct is `transparent`: delete it
+// 11: E.x: such attributes don't go together: `flatten` and `with`: delete one of them
+// 13: F.y: serde's `with` so is not covered: write `with = ".."`
+// 13: F.z: serde's `deserialize_with` so is not covered: write `deserialize_with = ".."`
+// 13: F.x: such attributes don't go together: `with` and `serialize_with`: delete one of them
+// 15: G.y: a function of your own is not covered in a type that contains itself: hold the field in another struct
+#[derive(Serialize, Deserialize)]
+struct A(#[serde(with = "crate::rules")] u8, u8);
+#[derive(Serialize, Deserialize)]
+enum B { X(#[serde(deserialize_with = "crate::rules::f")] u8), #[serde(with = "crate::rules")] Y(u8) }
+#[derive(Serialize, Deserialize)]
+struct C<T> { #[serde(serialize_with = "crate::rules::f")] x: Vec<T>, y: T }
+#[derive(Serialize, Deserialize)]
+#[serde(transparent)]
+struct D { #[serde(with = "crate::rules")] x: u8 }
+#[derive(Serialize, Deserialize)]
+struct E { #[serde(flatten, with = "crate::rules")] x: BTreeMap<String, u8> }
+#[derive(Serialize, Deserialize)]
+struct F { #[serde(with = "crate::rules", serialize_with = "crate::rules::f")] x: u8, #[serde(with)] y: u8, #[serde(deserialize_with("f"))] z: u8 }
+#[derive(Serialize, Deserialize)]
+struct G { x: Option<Box<G>>, #[serde(serialize_with = "crate::rules::f")] y: u8 }
+
+// 1: passed over: `use crate::rules::*`
+// 7: passed over: `fn here`
+// 4: A.x: `any` is no function of another module: move it there, and name it from `crate` on
+// 4: A.y: `here` is no function of another module: move it there, and name it from `crate` on
+// 4: A.z: `String::from` so is not covered: name a function of another module, from `crate` on
+// 5: A.u: `taken` so is not covered: name a function of another module, from `crate` on
+// 5: A.v: `crate::types::here` is no function of another module: move it there, and name it from `crate` on
+// 5: A.w: `As::<Text>::deserialize` so is not covered: name a function of another module, from `crate` on
+// 6: A.t: the type `Thing` of `Thing::read` is not in this file: name it by its full path
+use crate::rules::*;
+use std::mem::take as taken;
+#[derive(Deserialize)]
+struct A { #[serde(deserialize_with = "any")] x: u8, #[serde(deserialize_with = "here")] y: u8, #[serde(deserialize_with = "String::from")] z: u8,
+    #[serde(deserialize_with = "taken")] u: u8, #[serde(deserialize_with = "crate::types::here")] v: u8, #[serde(with = "As::<Text>")] w: u8,
+    #[serde(deserialize_with = "Thing::read")] t: u8 }
+fn here() {}
 
 // 3: passed over: `mod rules`
 // 6: passed over: `fn small`

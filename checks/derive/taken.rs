@@ -753,6 +753,49 @@ struct A {
 #[derive(Serialize, Deserialize)]
 enum Level { Low, High }
 
+// 5: called: `rules::small`, which needs the contract `pub fn small<'de, 'n: 'de>(alloc: Global, from: Deserializer<'de, 'n>) -> Result<u8> ensures { Reads (small_refusal (subject from.entry)) (SmallGives (subject from.entry)) result }`, by the definitions `small_refusal` and `SmallGives` of `Rattle.a.specs.Rules`
+// 6: called: `rules::words::deserialize`, which needs the contract `pub fn deserialize<'de, 'n: 'de>(alloc: Global, from: Deserializer<'de, 'n>) -> Result<Option<String>> ensures { Reads (deserialize_refusal (subject from.entry)) (DeserializeGives (subject from.entry)) result }`, by the definitions `deserialize_refusal` and `DeserializeGives` of `Rattle.a.specs.Rules.Words`
+// 6: called: `rules::words::serialize`, which needs the contract `pub fn serialize<S: Serializer>(value: &Option<String>, alloc: Global, serializer: &mut S) -> Result<()> ensures { Sends S.step S.refuses (S.seen serializer.old) (serialize_script value.now) result (S.seen serializer.new) }`, by the definitions `serialize_script` and `serialize_lawful` of `Rattle.a.specs.Rules.Words`, the latter of the type `(x : (Option (String Global))) (readable : Bool) → IsLawful (serialize_script x readable)`
+// 7: called: `priced`, which needs the contract `pub fn price<S: Serializer>(value: &f64, alloc: Global, serializer: &mut S) -> Result<()> ensures { Sends S.step S.refuses (S.seen serializer.old) (price_script value.now) result (S.seen serializer.new) }`, by the definitions `price_script` and `price_lawful` of `Rattle.a.specs.Money`, the latter of the type `(x : _) (readable : Bool) → IsLawful (price_script x readable)`
+// 7: called: `read_price`, which needs the contract `pub fn read_price<'de, 'n: 'de>(alloc: Global, from: Deserializer<'de, 'n>) -> Result<f64> ensures { Reads (read_price_refusal (subject from.entry)) (ReadPriceGives (subject from.entry)) result }`, by the definitions `read_price_refusal` and `ReadPriceGives` of `Rattle.a.specs.Money`
+// + struct Read1OfA(u8);
+// + ghost gives = { λ s x. rules_said.SmallGives s x.0 };
+// + (RowThen (name "b") (⟦<Read2OfA as Deserialize<'de>>⟧.gives) (record { 0 = z.b })
+// + let ReadField(Read2OfA(b), row, _) = row;
+// + impl<'sent> Skip for Send2OfA<'sent> {
+// + SendFieldUnless(FieldsOfA, 1, &sent_2, row)
+// + crate::money::price(self.0, alloc, serializer)
+// - passed over
+// - RoundTrip
+use crate::rules;
+use crate::money::{price as priced, read_price};
+#[derive(Serialize, Deserialize)]
+struct A {
+    #[serde(deserialize_with = "rules::small")] a: u8,
+    #[serde(with = "rules::words", skip_serializing_if = "Option::is_none")] b: Option<String>,
+    #[serde(serialize_with = "priced", deserialize_with = "read_price")] c: f64,
+}
+
+// 2: no RoundTrip is written for `A`: `B`, which it holds, does not come back
+// 4: no RoundTrip is written for `B`: `x` is read or sent by a function of your own
+// - RoundTrip<'de>
+// - Send1OfC
+// - Read1OfD
+// + struct Read1OfC(u8);
+// + struct Send1OfD<'sent>(&'sent u8);
+// 5: called: `crate::rules::deserialize`, which needs the contract `pub fn deserialize<'de, 'n: 'de>(alloc: Global, from: Deserializer<'de, 'n>) -> Result<u8> ensures { Reads (deserialize_refusal (subject from.entry)) (DeserializeGives (subject from.entry)) result }`, by the definitions `deserialize_refusal` and `DeserializeGives` of `Rattle.a.specs.Rules`
+// 5: called: `crate::rules::serialize`, which needs the contract `pub fn serialize<S: Serializer>(value: &u8, alloc: Global, serializer: &mut S) -> Result<()> ensures { Sends S.step S.refuses (S.seen serializer.old) (serialize_script value.now) result (S.seen serializer.new) }`, by the definitions `serialize_script` and `serialize_lawful` of `Rattle.a.specs.Rules`, the latter of the type `(x : ℕ) (readable : Bool) → IsLawful (serialize_script x readable)`
+#[derive(PartialEq, Eq, Serialize, Deserialize)]
+enum A { X(B), Y }
+#[derive(PartialEq, Eq, Serialize, Deserialize)]
+struct B {
+    #[serde(with = "crate::rules")] x: u8,
+}
+#[derive(Deserialize)]
+struct C { #[serde(with = "crate::rules")] x: u8 }
+#[derive(Serialize)]
+struct D { #[serde(with = "crate::rules")] x: u8 }
+
 // + is_skipped = { λ x. (⟦<Level as PartialEq>⟧.eq x level.Low) }
 // + *value == Level::Low
 // + RoundTrip
@@ -775,11 +818,11 @@ pub enum Found<'a> { Text(&'a str), Part { part: Part<'a>, more: Option<&'a Part
 #[derive(Serialize)]
 pub struct Part<'a>(&'a str, &'static str);
 
-// + pub struct A<'a> { pub x: &'a [u8], pub y: Vec<&'static [&'a str]>, }
+// + pub struct A<'a> { pub x: &'a [u8], pub y: Vec<&'a [&'static str]>, }
 // + SendFieldUnless(FieldsOfA, 0, &self.x, row)
 // + (seq_lawful (λ x h. seq_lawful (λ x h. leaf_lawful refl) x.now h) p.y.items readable)
 #[derive(Serialize)]
-pub struct A<'a> { #[serde(skip_serializing_if = "<[_]>::is_empty")] pub x: &'a [u8], pub y: Vec<&'static [&'a str]> }
+pub struct A<'a> { #[serde(skip_serializing_if = "<[_]>::is_empty")] pub x: &'a [u8], pub y: Vec<&'a [&'static str]> }
 
 // + let ANContent { a, b, c } = read_a_n(alloc, fields)?;
 // + SendOpen(Call::Struct(name_n(), 1), row)

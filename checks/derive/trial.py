@@ -29,7 +29,7 @@ def is_complete(source: str, path: str) -> bool:
         return False
     there = {(homes.specs(CRATE, path.split("::")), name) for path, names in THERE.items() for name in names}
     foreign = {declared for declared in homes.declared.values() if declared[0] != homes.here}
-    calls = any(field.maker or field.tester for item in file.items for field in item.fields())
+    calls = any(field.maker or field.tester or field.reading or field.sending for item in file.items for field in item.fields())
     return foreign <= there and not calls and not DERIVES & {trait for trait, _ in file.impls}
 
 

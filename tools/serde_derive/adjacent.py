@@ -1,17 +1,19 @@
 """What is written of an enum that is tagged adjacently: structs of a field that names the variant, and of one with its content,
 where it holds something."""
+from copy import copy
 from typing import Callable, List
 
 from .cases import pascal
 from .declarations import Data, Field, Item, Variant
 from .entries import FOLLOWING, Entries, entry_around
 from .held import HeldWriter
-from .holder import BY_PLACE, Holder, row_of
+from .holder import BY_PLACE, LONGEST_ROW, Holder, row_of
 from .literals import name_term
 from .tagged import TaggedHolder, TaggedWriter
-from .text import all_hold, bare, clause, facts, fields_reader, ghost, together
+from .text import all_hold, bare, clause, facts, fields_reader, ghost, ghost_type, together
 from .types import DEFAULTS, READ, Type, angled, bounded, in_term, nest
 
+MOST_AT_ONCE = 8  # of more variants it is proved one by one that they come back: the checker's steps for one proof are so many
 LONGEST_BESIDE = 5  # as many values by name are sent in one row with the tag: proofs of longer ones are not found
 ELEMENTS = BY_PLACE._replace(
     script=("element_first {inner}", "end_script"),
@@ -81,7 +83,7 @@ class ContentHolder(TaggedHolder):
         return bool(self.struct) and not self.inside.skips and self.inside.sent_count() > LONGEST_BESIDE
 
     def sent_types(self) -> List[str]:
-        return super().sent_types() + [self.inside.run_sent(0), self.around()] * self.parted
+        return super().sent_types() + [*[self.inside.run_sent(0)] * (not self.inside.lends), self.around()] * self.parted
 
     def around_name(self) -> str:
         """The function that sends what is around the values, and these."""
@@ -110,7 +112,8 @@ class ContentHolder(TaggedHolder):
         inside = self.inside
         if self.parted:
             return [f"let row = {inside.sent_run(0)}({', '.join(values)});", f"{self.around_name()}(alloc, serializer, whole, row)"]
-        return row_of(inside.sent_row(values, 0), inside.sent_last(values, 0)) + self.send_around(inside.opening(values))
+        rows = row_of(inside.sent_row(values, 0), inside.sent_last(values, 0))
+        return inside.lending(values) + rows + self.send_around(inside.opening(values))
 
     def field_reader(self) -> str:
         """The function that reads the content."""
@@ -133,7 +136,7 @@ class ContentHolder(TaggedHolder):
 
     def named_first(self, law: str, rows: Callable[[List[str], List[str]], str], values: List[str]) -> str:
         """This law of these rows. Where they are many they are named first, and so compared with what is asked but once."""
-        if not self.parted:
+        if not (self.parted or (self.struct and self.inside.count > LONGEST_ROW)):
             return law.format(rows(values, self.sees))
         sees = [see.replace("λ q.", f"λ (q : {self.struct.item.name}).") for see in self.sees]
         return f"let law = {bare(rows(values, sees))} in {law.format(' law')}"
@@ -162,12 +165,65 @@ class AdjacentWriter(TaggedWriter):
         parted = any(v.sent and isinstance(holder, ContentHolder) and holder.parted for v, holder in self.variants)
         return [text for struct in held for text in struct.texts()] + [self.told()] * (self.sends and parted) + super().functions()
 
+    @property
+    def one_by_one(self) -> bool:
+        """Whether that values come back is proved of each variant by itself."""
+        several = any(isinstance(holder, ContentHolder) for _, holder in self.variants)
+        return several and len(self.variants) > MOST_AT_ONCE and not self.item.parameters and self.item.comes_back()
+
+    def back_name(self) -> str:
+        """The trait that says so."""
+        return f"BackOf{pascal(self.item.owner)}"
+
+    def backs_trait(self) -> str:
+        """Its declaration."""
+        types = [ghost_type(f"variant_{i}", self.back_type(v, holder)) for i, (v, holder) in enumerate(self.variants)]
+        members = "\n".join(types)
+        return f"/// That each variant comes back.\ntrait {self.back_name()}<'de> {{\n{members}\n}}\n"
+
+    def back_type(self, v: Variant, holder: Holder) -> str:
+        """What is said of a variant."""
+        values = self.leaves(v)
+        given = "".join(f"({value} : {f.type.seen()}) " for value, f in zip(values, v.data.fields))
+        whole = " ".join([f"{self.cases}.{in_term(v.name)}", *values])
+        members = "\n".join(f"(⟦<{self.whole} as {trait}>⟧.{member})" for trait, member in (
+            ("Serialize", "script"), (READ, "refusal"), (READ, "gives"), ("PartialEq", "eq")))
+        return f"{given}→ {holder.exists(values)} →\nComesBackAt {members}\n({whole})".removeprefix("→ ")
+
+    def back_members(self) -> List[str]:
+        """The members of its impl."""
+        apart = copy(self)
+        apart.own = f"⟦<{self.whole} as {READ}>⟧"
+        laws = [(self.leaves(v), apart.variant_back(v, holder, self.leaves(v))) for v, holder in self.variants]
+        return [ghost(f"variant_{i}", f"λ {' '.join([*values, law.removeprefix('λ ')])}") for i, (values, law) in enumerate(laws)]
+
+    def back(self) -> str:
+        if not self.one_by_one:
+            return super().back()
+        names = {v.name: f"⟦<{self.whole} as {self.back_name()}<'de>>⟧.variant_{i}" for i, (v, _) in enumerate(self.variants)}
+        return f"record {{\nof_value = {self.each(lambda v, holder, x: ' '.join([names[v.name], *x]))};\n}}"
+
     def told(self) -> str:
         """The trait by which functions know the script of this enum that don't know the enum."""
         trait = told_by(self.item)
         given = angled(*self.item.lifetimes, *bounded(self.item.parameters, "Serialize"))
         return (f"/// What it is sent by.\ntrait {trait} {{\n/// Its script.\nghost told: {{ Self → Bool → Script }};\n}}\n\n"
                 f"impl{given} {trait} for {self.whole} {{\n{ghost('told', f'λ y. ⟦<{self.whole} as Serialize>⟧.script y')}\n}}\n")
+
+    @staticmethod
+    def made_of_content(holder: Holder) -> bool:
+        """Whether a variant is made of its content by a function of its own, so that no proof of reading takes it apart."""
+        return isinstance(holder, ContentHolder) and bool(holder.struct) and holder.inside.count > LONGEST_ROW
+
+    def maker(self, v: Variant, holder: Holder) -> List[str]:
+        if not self.made_of_content(holder):
+            return super().maker(v, holder)
+        values = " ".join(f"content.{in_term(f.name)}" for f in v.data.fields)
+        places = v.data.places()
+        return ["/// Its contract tells proofs what is made of the content.\n"
+                f"fn {holder.maker_name()}{angled(*self.item.parameters)}(content: {holder.held.rust()}) -> {self.whole}\n"
+                + clause("ensures", f"result ≡ {self.cases}.{in_term(v.name)} {values}")
+                + f"{{\nlet {holder.pattern(places)} = content;\n{self.made(v, places)}\n}}\n"]
 
     def is_apart(self, v: Variant, holder: Holder) -> bool:
         return isinstance(holder, ContentHolder) or super().is_apart(v, holder)
@@ -184,6 +240,8 @@ class AdjacentWriter(TaggedWriter):
     def arm_lines(self, v: Variant, holder: Holder) -> List[str]:
         if not isinstance(holder, ContentHolder):
             return super().arm_lines(v, holder)
+        if self.made_of_content(holder):
+            return [f"Ok({holder.maker_name()}({holder.reader}(alloc, fields)?))"]
         places = v.data.places()
         return [f"let {holder.pattern(places)} = {holder.reader}(alloc, fields)?;", f"Ok({self.making(v, holder)(places)})"]
 

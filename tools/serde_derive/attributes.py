@@ -8,16 +8,16 @@ from .declarations import NotRust, Refused
 from .tokens import Cursor, text_of
 
 SKIP = {"skip", "skip_serializing", "skip_deserializing"}
+# what names functions of the user's that read and send a field
+OWN_FUNCTIONS = ("with", "deserialize_with", "serialize_with")
 COVERED = {
     "a container": {"rename", "rename_all", "rename_all_fields", "deny_unknown_fields", "untagged",
                     "tag", "content", "transparent", "default"},
     "a variant": {"rename", "rename_all", "alias", "other", *SKIP},
-    "a field": {"rename", "alias", "default", "flatten", "skip_serializing_if", *SKIP},
+    "a field": {"rename", "alias", "default", "flatten", "skip_serializing_if", *OWN_FUNCTIONS, *SKIP},
 }
 # why others of Serde's attributes are not covered, and what to write instead
 NOT_COVERED = {
-    **dict.fromkeys(["with", "serialize_with", "deserialize_with"], "a function of your own has no contract here: hold a"
-                    " struct around the value, and write its impls by hand"),
     **dict.fromkeys(["from", "try_from", "into"], "a conversion has no contract here: write the impls by hand"),
     **dict.fromkeys(["remote", "getter"], "only your own types are sent: declare one like it, and convert it by hand"),
     "bound": "each impl has the bounds that it needs: delete it",
@@ -25,7 +25,7 @@ NOT_COVERED = {
     "crate": "what is written uses `serde_content`: delete it",
     "expecting": "refusals have a text of their own: delete it",
 }
-VALUED = {"tag", "content", "skip_serializing_if", "alias"}
+VALUED = {"tag", "content", "skip_serializing_if", "alias", *OWN_FUNCTIONS}
 DERIVES = set("Clone Copy Debug Default Drop Eq Hash Ord PartialEq PartialOrd Serialize Deserialize".split())
 SERDE = {"Serialize", "Deserialize"}
 CRATES = {"std", "core", "alloc", "serde", "serde_derive"}

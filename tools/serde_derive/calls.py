@@ -1,10 +1,10 @@
 """Functions of the user's that are called as they are, by a path that leads out of the file: what makes a field that is missing,
-and what says when a field is left out."""
+what says when a field is left out, and what reads and sends one."""
 import re
-from typing import Dict, Iterator, NamedTuple, Set, Tuple
+from typing import Dict, Iterator, List, NamedTuple, Set, Tuple
 
 from .cases import pascal
-from .declarations import Field, Item, Refused, Test
+from .declarations import Field, Item, Reading, Refused, Sending, Test
 from .files import File
 from .homes import STANDARD, Homes, placed
 from .types import ELSEWHERE, HOLDERS, LEAVES, Type, snake
@@ -17,9 +17,11 @@ IN_MEMORY = {"String", "BoxedStr", "PathBuf", *ELSEWHERE}
 ANYTHING = "⊤"  # what contracts say of the value that such a function makes
 
 
-def is_path(text: str) -> bool:
-    """Whether this names a function of the user's by a path."""
-    return bool(PATH.fullmatch(text)) and text.split("::")[0] not in STD
+def is_path(text: str, uses: Dict[str, List[str]]) -> bool:
+    """Whether this names a function of the user's by a path, of which the first name may be one that a `use` brings."""
+    first, *rest = text.split("::")
+    path = [*uses.get(first, [first]), *rest]
+    return bool(PATH.fullmatch("::".join(path))) and path[0] not in STD
 
 
 class Called(NamedTuple):
@@ -29,9 +31,14 @@ class Called(NamedTuple):
     module: str
     name: str
 
+    def last(self) -> str:
+        """The name with which it is declared."""
+        return self.code.split("::")[-1]
+
 
 def called(path: str, homes: Homes) -> Called:
-    """The function that this path names; a ValueError says why it can't be called."""
+    """The function that this path names, or a name that a `use` brings; a ValueError says why it can't be called."""
+    path = path if "::" in path else "::".join(homes.path(path))
     before, _, name = path.rpartition("::")
     first = before.split("::")[0]
     found = homes.path(before)
@@ -40,7 +47,7 @@ def called(path: str, homes: Homes) -> Called:
         found = ["crate", *homes.module, *found]
     elif len(found) == 1 and found[0][:1].isupper():
         raise ValueError(f"the type `{before}` of `{path}` is not in this file: name it by its full path")
-    elif found[:1] == ["crate"] and found[1:] == homes.module:
+    elif not before or (found[:1] == ["crate"] and found[1:] == homes.module):
         raise ValueError(f"`{path}` is no function of another module: move it there, and name it from `crate` on")
     homes.used.add(first)
     whole = path if mine or first in homes.file.uses else "::".join([*found, name])
@@ -65,31 +72,68 @@ def settle_calls(homes: Homes, file: File) -> Iterator[Refused]:
     for item in file.items:
         for where, f in placed(item):
             try:
-                settle_made(f, homes, file, taken)
-                settle_tested(f, homes, file, taken)
+                notes = [*settle_made(f, homes), *settle_tested(f, homes)]
+                if "Deserialize" in item.derives and f.read:
+                    notes += settle_read(f, homes)
+                if "Serialize" in item.derives and f.sent:
+                    notes += settle_sent(f, homes)
             except ValueError as reason:
                 yield Refused(f.line, str(reason), where)
+            else:
+                file.notes += [(f.line, f"called: {note}") for note in notes if note not in taken]
+                taken.update(notes)
 
 
-def settle_made(f: Field, homes: Homes, file: File, taken: Set[str]) -> None:
+def settle_made(f: Field, homes: Homes) -> Iterator[str]:
     """Settles the function that makes a field that is missing, with a note of how it is called."""
-    if not f.maker:
-        return
-    call = called(f.maker, homes).code + ("(alloc)?" if holds_memory(f.type, homes.items) else "()")
-    f.made = f"Ok({call})"
-    if call not in taken:
-        taken.add(call)
-        file.notes.append((f.line, f"called: `{call}`, of whose value contracts know nothing"))
+    if f.maker:
+        call = called(f.maker, homes).code + ("(alloc)?" if holds_memory(f.type, homes.items) else "()")
+        f.made = f"Ok({call})"
+        yield f"`{call}`, of whose value contracts know nothing"
 
 
-def settle_tested(f: Field, homes: Homes, file: File, taken: Set[str]) -> None:
+def settle_tested(f: Field, homes: Homes) -> Iterator[str]:
     """Settles the function that says when a field is left out, with a note of what its contract has to be."""
-    if not f.tester:
-        return
-    function = called(f.tester, homes)
-    word = homes.said.setdefault(function.module, f"{snake(function.module.split('.specs.')[1].replace('.', ''))}_said")
-    f.test = Test(f"({word}.{function.name} {{x}})", f"{function.code}(value)", "", "")
-    if f.tester not in taken:
-        taken.add(f.tester)
-        file.notes.append((f.line, f"called: `{f.tester}`, which needs the contract `ensures {{ result ≡ {function.name}"
-                           f" value.now }}`, by the definition `{function.module}.{function.name}`"))
+    if f.tester:
+        function = called(f.tester, homes)
+        f.test = Test(f"({said(function.name, function, homes)} {{x}})", f"{function.code}(value)", "", "")
+        yield (f"`{f.tester}`, which needs the contract `ensures {{ result ≡ {function.name} value.now }}`, by the definition"
+               f" `{function.module}.{function.name}`")
+
+
+def settle_read(f: Field, homes: Homes) -> Iterator[str]:
+    """Settles the function that reads a field, with a note of what it has to be."""
+    path = f.function("deserialize")
+    if path:
+        function = own_function(path, homes)
+        refusal, gives = f"{function.name}_refusal", f"{pascal(function.name)}Gives"
+        f.reading = Reading(function.code, *(said(word, function, homes) for word in (refusal, gives)))
+        yield (f"`{path}`, which needs the contract `pub fn {function.last()}<'de, 'n: 'de>(alloc: Global, from: Deserializer<'de, 'n>)"
+               f" -> Result<{f.type.rust()}> ensures {{ Reads ({refusal} (subject from.entry)) ({gives} (subject from.entry)) result }}`,"
+               f" by the definitions `{refusal}` and `{gives}` of `{function.module}`")
+
+
+def settle_sent(f: Field, homes: Homes) -> Iterator[str]:
+    """Settles the function that sends a field, with a note of what it has to be."""
+    path = f.function("serialize")
+    if path:
+        function = own_function(path, homes)
+        script, lawful = f"{function.name}_script", f"{function.name}_lawful"
+        f.sending = Sending(function.code, *(said(word, function, homes) for word in (script, lawful)))
+        yield (f"`{path}`, which needs the contract `pub fn {function.last()}<S: Serializer>(value: &{f.type.rust()}, alloc: Global,"
+               f" serializer: &mut S) -> Result<()> ensures {{ Sends S.step S.refuses (S.seen serializer.old) ({script} value.now) result"
+               f" (S.seen serializer.new) }}`, by the definitions `{script}` and `{lawful}` of `{function.module}`, the latter of the type"
+               f" `(x : {f.type.seen()}) (readable : Bool) → IsLawful ({script} x readable)`")
+
+
+def own_function(path: str, homes: Homes) -> Called:
+    """The function of this path that reads or sends a field; a ValueError says why it can't be called."""
+    if not is_path(path, homes.file.uses) and (path in homes.file.uses or not re.fullmatch(r"[a-zA-Z_]\w*", path)):
+        raise ValueError(f"`{path}` so is not covered: name a function of another module, from `crate` on")
+    return called(path, homes)
+
+
+def said(word: str, function: Called, homes: Homes) -> str:
+    """What contracts call a definition in the module of a function's."""
+    module = snake(function.module.split(".specs.")[1].replace(".", ""))
+    return f"{homes.said.setdefault(function.module, f'{module}_said')}.{word}"

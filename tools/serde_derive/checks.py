@@ -1,8 +1,8 @@
 """What a declaration is refused for by itself."""
 import re
-from typing import Iterator, List
+from typing import Iterator, List, Set
 
-from .attributes import SKIP
+from .attributes import OWN_FUNCTIONS, SKIP
 from .declarations import Field, Item, NotRust, Refused
 from .files import File
 from .functions import Functions
@@ -17,7 +17,7 @@ NO_VARIANTS = NO_FIELDS | {"the_row", "the_data", "TheLaws", "TheVariants"}
 NOT_TYPES = {*TAKEN, *WORDS, *SEEN, *LEAVES, *CRATES, *NO_FIELDS, "str", "f32", "f64", "tuple", "Lib", "Prim", "Self",
              "TheOwn", "TheVariants", "TheBound", "TheImpl", "TheLinks", "TheLaws"}
 BESIDE_FLATTEN = {"flatten", "default", "skip_serializing_if", *SKIP}
-MOST_WORK = 1_000_000
+MOST_WORK, WORK_OF_TYPE = 1_000_000, 250
 MOST_SKIPPED = 64  # code counts the fields that are sent by calls in calls
 VALUES = {"alloc", "serializer", "fields", "from", "inside", "parts", "access", "variant", "tag"}
 
@@ -83,6 +83,18 @@ def check_field(item: Item, f: Field) -> Iterator[str]:
     if item.transparent():
         yield from (f"serde's `{key}` on a field is not covered where its struct is `transparent`: delete it"
                     for key in sorted(f.serde))
+    elif "flatten" not in f.serde:
+        yield from check_functions(item, f, [key for key in OWN_FUNCTIONS if key in f.serde])
+
+
+def check_functions(item: Item, f: Field, keys: List[str]) -> Iterator[str]:
+    """Why functions of the user's, which these attributes name, don't read or send a field of this item."""
+    if "with" in keys[:1] and len(keys) > 1:
+        yield f"such attributes don't go together: `with` and `{keys[1]}`: delete one of them"
+    elif keys and f.name.isdigit():
+        yield f"serde's `{keys[0]}` is covered in fields with names: give them names"
+    elif keys and item.parameters:
+        yield f"serde's `{keys[0]}` is not covered in a type with parameters: hold the field in another struct"
 
 
 def check_visible(item: Item, here: List[str]) -> Iterator[Refused]:
@@ -115,11 +127,11 @@ def check_others(file: File) -> Iterator[Refused]:
                 for item in file.items if item.covered and item.name in others)
 
 
-def check_parameters(item: Item, file: File) -> Iterator[Refused]:
-    """Refuses names of parameters that the module could not write, and parameters that nothing in the type has."""
-    others = {*file.uses, *file.aliases, *file.passed, *(other.name for other in file.items)}
+def check_parameters(item: Item, others: Set[str]) -> Iterator[Refused]:
+    """Refuses names of parameters that the module could not write, or that others in the file have, and parameters that nothing
+    in the type has."""
     for name in item.parameters if item.covered else ():
-        if name in {*NOT_TYPES, *RESERVED, *others} or not name[:1].isupper():
+        if name in NOT_TYPES or name in RESERVED or name in others or not name[:1].isupper():
             yield Refused(item.line, f"the name `{name}` of a parameter is not covered: give it one that begins with a"
                           " capital, and that nothing else has", item.name)
         elif not any(name in data.parameters() for data in item.parts()):
@@ -143,15 +155,15 @@ def check_parts(item: Item) -> Iterator[Refused]:
 
 
 def check_work(items: List[Item]) -> Iterator[Refused]:
-    """Refuses the first type with which a file would take minutes to write: the text grows with the square
+    """Refuses the first type with which a file would take minutes to write: the text grows with the types, and with the square
     of fields and variants."""
     work = 0
     for item in items:
         inside = [f for data in item.parts() for f in data.leaves()]
-        work += len(item.variants) ** 2 + max([len(data.leaves()) for data in item.parts()]) * sum(
+        work += WORK_OF_TYPE + len(item.variants) ** 2 + max([len(data.leaves()) for data in item.parts()]) * sum(
             parts * levels for parts, levels in (extent(f.type) for f in inside))
         if work > MOST_WORK:
-            yield Refused(item.line, "with this type the file has too many fields and variants: move it to another",
+            yield Refused(item.line, "with this type the file has too many types, fields and variants: move it to another",
                           item.name)
             return
 
@@ -161,9 +173,10 @@ def check(file: File, module: List[str]) -> Iterator[Refused]:
     yield from check_twice(file.items)
     yield from check_others(file)
     yield from check_values(file.items)
+    others = {*file.uses, *file.aliases, *file.passed, *(item.name for item in file.items)}
     for item in file.items:
         yield from check_parts(item)
         yield from check_names(item)
-        yield from check_parameters(item, file)
+        yield from check_parameters(item, others)
         yield from check_visible(item, ["crate", *module])
         yield from check_attributes(item, file.functions)

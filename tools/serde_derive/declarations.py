@@ -75,6 +75,24 @@ class Value(NamedTuple):
     code: str
 
 
+class Reading(NamedTuple):
+    """A function of the user's that reads a field: the code that names it, and what contracts call what it refuses and what
+    it may give."""
+
+    code: str
+    refusal: str
+    gives: str
+
+
+class Sending(NamedTuple):
+    """A function of the user's that sends a field: the code that names it, and what contracts call the script that it sends
+    and the law that this is lawful."""
+
+    code: str
+    script: str
+    lawful: str
+
+
 @dataclass
 class Named:
     """What has a name, with the lines that stand before it and Serde's attributes; `wire` is the
@@ -106,7 +124,8 @@ class Field(Named):
     """A field; one by place has its place as its name. Where it may be missing, `missing` is what
     contracts say of what is read then, and `made` the code that makes a Result of it, where it isn't that of its type.
     It `skips` where it isn't sent if it is empty, or passes a `test` of the user's. `maker` and `tester` are the paths of
-    functions of the user's that are called for the one and the other.
+    functions of the user's that are called for the one and the other; `reading` and `sending` are functions of the user's
+    that read it and send it, if there are any.
     Where it is flattened, `inside` is what its type holds. In a type with arguments the field was declared with the type
     `origin`, whose parameters are `given` types."""
 
@@ -118,6 +137,8 @@ class Field(Named):
     test: Optional[Test] = None
     maker: str = ""
     tester: str = ""
+    reading: Optional[Reading] = None
+    sending: Optional[Sending] = None
     inside: Optional["Data"] = None
     origin: Optional[Type] = None
     given: Dict[str, Type] = field(default_factory=dict)
@@ -150,6 +171,22 @@ class Field(Named):
         if self.test:
             return self.test.term.format(x=value)
         return f"({self.type.member('Skip', 'is_empty')} {value})"
+
+    def function(self, way: str) -> str:
+        """The path of the function of the user's that reads it, `deserialize`, or sends it, `serialize`; or nothing."""
+        return self.serde.get(f"{way}_with", f"{self.serde['with']}::{way}" if "with" in self.serde else "")
+
+    def by_function(self) -> bool:
+        """Whether a function of the user's reads or sends it."""
+        return bool(self.function("deserialize") or self.function("serialize"))
+
+    def script(self, value: str) -> str:
+        """The calls that send this value."""
+        return f"{self.sending.script if self.sending else self.type.member('Serialize', 'script')} {value}"
+
+    def lawful(self, value: str) -> str:
+        """That they spell one tree."""
+        return f"{self.sending.lawful} {value} readable" if self.sending else self.type.lawful(value)
 
     def is_plain(self) -> bool:
         """Whether it is read by one name, and has to be there."""
@@ -184,6 +221,8 @@ class Field(Named):
             return "is read by another name than it is sent by"
         if not (self.sent and self.read):
             return f"is not {'read' if self.sent else 'sent'}"
+        if self.by_function():
+            return "is read or sent by a function of your own"
         return "may be left out, and " + ("what is read in its place may be another value" if self.missing else
                                           "is not read where it is missing: give it `default` too")
 
@@ -397,9 +436,9 @@ class Item(Named):
         return [f for v in self.variants if v.beside for f in v.beside.data.leaves()] + self.fields()
 
     def lost(self) -> List[Field]:
-        """The fields that are left out, and not read as what they were, or read by several names."""
-        return [f for f in self.sent_fields()
-                if f.rest or f.lost() or f.aliases() or f.wire != f.known or not (f.sent and f.read)]
+        """The fields that are left out, and not read as what they were, or read by several names, or by functions of the user's."""
+        return [f for f in self.sent_fields() if f.rest or f.lost() or f.aliases() or f.wire != f.known
+                or not (f.sent and f.read) or f.by_function()]
 
     def one_way(self) -> List[Variant]:
         """The variants that aren't both sent and read, by one name."""

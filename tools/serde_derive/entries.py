@@ -45,7 +45,7 @@ def row_entries(holder: Holder, values: List[str], places: List[str]) -> Entries
     scripts = row.parts("script", row.scripts(values), values=values)
     laws = row.parts("lawful", row.laws(values), values=values)
     rows = row_of([f"SendTagEntry{row.tag_row}"] * bool(row.tag_row) + row.sent_row(places, 0), "SendRest(rest)")
-    return entries(holder, list(filter(None, scripts)), list(filter(None, laws)), rows)
+    return entries(holder, list(filter(None, scripts)), list(filter(None, laws)), row.lending(places) + rows)
 
 
 def entries(holder: Holder, scripts: List[str], laws: List[str], rows: List[str]) -> Entries:
@@ -65,7 +65,7 @@ def entry_of(key: str, announced: str, of: Type, value: str, place: str) -> Entr
 
 def entry_around(key: str, announced: str, inside: Holder, values: List[str], places: List[str], around: Holder) -> Entries:
     """That of this key, whose value is a struct or a tuple of these values, after that of a tag, where there is one."""
-    rows = row_of(inside.sent_row(places, 0), inside.sent_last(places, 0))
+    rows = inside.lending(places) + row_of(inside.sent_row(places, 0), inside.sent_last(places, 0))
     rows.append(f"let row = SendOpen({inside.opening(places)}, row);")
     rows.append(f"let row = SendEntryInside({announced}, row, SendRest(rest));")
     rows += [f"let row = SendTagEntry{around.tag_row};"] * bool(around.tag_row)

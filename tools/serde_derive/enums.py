@@ -10,7 +10,7 @@ from .literals import ROWS_OPENED, list_impl, list_term, name_method, name_term,
 from .structs import made_absent
 from .text import ABSENT, DESERIALIZE, KNOWN, REFUSED_NULL, SERIALIZE, all_hold, arm, bare, bracketed, clause
 from .text import codes, elim, facts, function, ghost, together
-from .types import READ, Type, angled, bounded, in_term
+from .types import LT_DE, READ, TRIP, Type, angled, bounded, in_term
 
 
 def sent_names(item: Item) -> Tuple[str, List[str]]:
@@ -303,17 +303,43 @@ class EnumWriter:
         return lambda places: self.made(v, places)
 
     def round_trip(self) -> List[str]:
-        known = []
-        for v, _ in self.variants:
-            places = [p if f in v.data.asked() else "_" for f, p in zip(v.data.fields, v.data.places())]
-            fields = v.beside.data.fields if v.beside else v.data.fields
-            known.append(arm(self.made(v, places), [f"{leaf.lstrip('&')}.known();" for f, leaf in zip(fields, self.sent(v))
-                                                    if not f.plain]))
         looks = self.item.asked()
+        known = [self.knowing(v) for v, _ in self.variants]
         return [ghost("exists", self.each(lambda v, holder, x: holder.exists(x)))] * looks + [
             function(KNOWN, *self.match(known) * looks),
             ghost("comes_back", self.back()),
             ghost("keeps", self.keeps())]
+
+    def knowing(self, v: Variant) -> str:
+        """The arm that tells that what a variant holds exists."""
+        places = v.data.places()
+        if self.is_known_apart(v):
+            return arm(self.made(v, places), [f"known_{v.owner}({', '.join(['self', *places])})"])
+        places = [p if f in v.data.asked() else "_" for f, p in zip(v.data.fields, places)]
+        return arm(self.made(v, places), self.told_known(v))
+
+    def told_known(self, v: Variant) -> List[str]:
+        """The statements that tell so of each value of which it isn't known."""
+        fields = v.beside.data.fields if v.beside else v.data.fields
+        return [f"{leaf.lstrip('&')}.known();" for f, leaf in zip(fields, self.sent(v)) if not f.plain]
+
+    @staticmethod
+    def is_known_apart(v: Variant) -> bool:
+        """Whether a function of its own tells so: its proof sees the types of this variant alone."""
+        return v.data.several and any(f.type.is_deep() for f in v.data.asked())
+
+    def known_apart(self, v: Variant) -> str:
+        """That function."""
+        given, value = self.whole_given(v)
+        bounds = angled(LT_DE, *bounded(self.item.parameters, TRIP))
+        return (f"/// Tells proofs that what that variant holds exists.\nfn known_{v.owner}{bounds}(whole: &{self.whole}{given})\n"
+                + clause("requires", f"whole.now ≡ {value}")
+                + clause("ensures", f"⟦<{self.whole} as {TRIP}>⟧.exists whole.now")
+                + "{\n" + "\n".join(self.told_known(v)) + "\n}\n")
+
+    def trip_functions(self) -> List[str]:
+        """Those that the impl of RoundTrip calls."""
+        return [self.known_apart(v) for v, _ in self.variants if self.is_known_apart(v)]
 
     def back(self) -> str:
         """The law that values come back."""

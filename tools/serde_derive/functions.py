@@ -34,11 +34,13 @@ class Function:
 
 @dataclass
 class Functions:
-    """The functions and constants of a file by their paths, and the types of the values by place of the enums' variants."""
+    """The functions and constants of a file by their paths, the types of the values by place of the enums' variants, and the
+    paths that the file uses."""
 
     named: Dict[str, Function] = field(default_factory=dict)
     constants: Dict[str, List[Token]] = field(default_factory=dict)
     variants: Dict[str, Dict[str, List[Type]]] = field(default_factory=dict)
+    uses: Dict[str, List[str]] = field(default_factory=dict)
 
     def collect(self, tokens: List[Token], pairs: Dict[int, int], place: int, end: int, owner: str = "") -> None:
         """Takes in what stands between two places."""

@@ -7,7 +7,9 @@ from typing import Callable, Dict, List, NamedTuple, Optional, Tuple
 
 from .cases import pascal
 from .declarations import Data, Field
+from .functions import said_of
 from .literals import ROWS_OPENED, list_impl, list_term, name_call, name_method, name_term
+from .stand_ins import reader, sender
 from .text import bare, clause, fields_reader, function, ghost, together
 from .types import ALIKE, LT_DE, LT_SENT, READ, STATIC, TRIP, Type, angled, bounded, in_term, nest, parameter, snake
 
@@ -15,6 +17,7 @@ from .types import ALIKE, LT_DE, LT_SENT, READ, STATIC, TRIP, Type, angled, boun
 LONGEST_ROW = 8  # types of longer rows take the checker's memory
 LONGEST_HELD = 4  # proofs of reading an enum look into all its variants at once
 LONGEST_SENT = 20  # longer rows of one type are refused by the checker
+LONGEST_BORROWED = 8  # the same of values that borrow
 
 
 def row_of(values: List[str], last: str = "SendEnd") -> List[str]:
@@ -122,6 +125,8 @@ class Holder:
         self.data, self.fields, self.count, self.places = data, data.fields, len(data.fields), places
         self.many = data.several
         self.steps = data.steps() if self.many else 0
+        # whether all are sent by a struct of references to them: a row has a lifetime for each reference in each of its types
+        self.lends = self.many and self.count > LONGEST_BORROWED and any(f.type.borrows() for f in data.fields)
 
     @cached_property
     def reading(self) -> "Holder":
@@ -152,7 +157,11 @@ class Holder:
 
     def room(self) -> int:
         """How many values are read with no struct of them all."""
-        return LONGEST_HELD if self.of_variant else LONGEST_ROW
+        return self.room_in_variant() if self.of_variant else LONGEST_ROW
+
+    def room_in_variant(self) -> int:
+        """The same of a variant."""
+        return 0 if any(f.type.is_deep() for f in self.fields) else LONGEST_HELD
 
     def aliases(self) -> List[str]:
         """The further names of its fields."""
@@ -208,10 +217,11 @@ class Holder:
             return []
         parts = [f"ReadPart<{self.count}, {place}" if not self.data.named else
                  f"{self.sort(f)}<{', '.join(self.read_by_names(f, place))}" for place, f in enumerate(self.fields)]
-        rows = "".join(f"type {self.row_type(place)} = {part}{', ' * (part[-1] != '<')}{f.read_as().rust()},"
+        rows = "".join(f"type {self.row_type(place)} = {part}{', ' * (part[-1] != '<')}{self.type_read(f).rust()},"
                        f" {self.after(place + 1)}>;\n" for place, (part, f) in enumerate(zip(parts, self.fields)) if place >= self.steps)
-        defaults = [self.default_impl(f) for f in self.fields if f.made]
-        return (defaults + [rows] + [self.run_read(start) for start in self.starts()]
+        makers = [reader(self.read_of(f), f) for f in self.fields if f.reading]
+        makers += [self.default_impl(f) for f in self.fields if self.made(f)]
+        return (makers + [rows] + [self.run_read(start) for start in self.starts()]
                 + [text for place in range(self.steps) for text in [self.one_read(place)] * self.data.named + [self.step(place)]])
 
     def step_type(self, place: int) -> str:
@@ -271,20 +281,32 @@ class Holder:
             for alias in reversed(f.aliases()):
                 names = f"NameAt<{self.alias_list}, {self.aliases().index(alias)}, {names}>"
             arguments.append(f"NameAt<{self.list}, {self.index(f)}, {names}>")
-        if f.made:
+        if self.made(f):
             arguments.append(self.default_of(f))
         elif f.aliases() and f.missing:
             arguments.append("OfType")
         return arguments
 
+    def type_read(self, f: Field) -> Type:
+        """The type that is read for a field: where a function of the user's reads it, one that stands for that."""
+        return Type(self.read_of(f)) if f.reading else f.read_as()
+
+    def read_of(self, f: Field) -> str:
+        """The type that stands for what a function of the user's reads."""
+        return f"Read{self.all.index(f) + 1}Of{self.owner}"
+
     @staticmethod
-    def sort(f: Field) -> str:
+    def made(f: Field) -> str:
+        """The code that makes what is read where a field is missing, where that isn't what its type is read as."""
+        return f.made or "Ok(Absent::absent(alloc))" * bool(f.reading and f.missing)
+
+    def sort(self, f: Field) -> str:
         """What a field is read as."""
         if f.rest:
             return "TryRest" if f.tried else "ReadRest"
         if f.aliases():
             return "ReadAliasedElse" if f.missing else "ReadAliased"
-        return "ReadFieldElse" if f.made else f"ReadField{'Or' * bool(f.missing)}"
+        return "ReadFieldElse" if self.made(f) else f"ReadField{'Or' * bool(f.missing)}"
 
     def default_of(self, f: Field) -> str:
         """The type that stands for what is read where a field is missing."""
@@ -292,10 +314,18 @@ class Holder:
 
     def default_impl(self, f: Field) -> str:
         """That type, which makes such a value."""
-        owner = self.default_of(f)
-        make = function(f"fn make(alloc: Global) -> Result<{f.type.rust()}>", f.made)
+        owner, read, fact, made = self.default_of(f), self.type_read(f).rust(), f.missing, self.made(f)
+        if f.reading:
+            fact, made = said_of(fact, "x.0"), f"Ok({read}({plain(made)}))"
+        make = function(f"fn make(alloc: Global) -> Result<{read}>", made)
         return (f"/// What is read where the field `{f.known}` is missing.\n#[derive(Drop)]\nstruct {owner};\n\n"
-                f"impl DefaultOf<{f.type.rust()}> for {owner} {{\n{ghost('is_default', f'λ x. {f.missing}')}\n\n{make}\n}}\n")
+                f"impl DefaultOf<{read}> for {owner} {{\n{ghost('is_default', f'λ x. {fact}')}\n\n{make}\n}}\n")
+
+    def absent(self, f: Field) -> str:
+        """What may be given where a field is missing, after a blank."""
+        if f.reading and f.missing:
+            return f" (⟦<{self.default_of(f)} as DefaultOf<{self.read_of(f)}>>⟧.is_default)"
+        return f.absent()
 
     def test_of(self, f: Field) -> str:
         """The type that stands for the test by which a field is left out."""
@@ -362,6 +392,7 @@ class Holder:
         for at, value in enumerate(places, start):
             sort = self.sort(self.fields[at]) if self.data.named else "ReadPart"
             rest = "_" if at + 1 == self.count else "row"
+            value = f"{self.read_of(self.fields[at])}({value})" if self.fields[at].reading else value
             lines.append(f"let {sort}({value}, {rest}{', _' * (self.data.named and not self.fields[at].rest)}) = row;")
         return lines
 
@@ -414,7 +445,7 @@ class Holder:
         """What stands for each of its values in a member of the impls, which is nothing for one that isn't sent there."""
         return [self.word_of(f, member).format(
             inner=inner, see=see, place=place, count=self.count, name=name_term(f.wire if member in ("script", "lawful") else f.known),
-            or_="_or" * bool(f.missing), Or="Or" * bool(f.missing), missing=f.absent(),
+            or_="_or" * bool(f.missing), Or="Or" * bool(f.missing), missing=self.absent(f),
             **self.unless(place, value) if f.skips else {})
             for place, (f, inner, see, value) in enumerate(zip(self.fields, inners, sees or inners, values or inners))]
 
@@ -426,7 +457,7 @@ class Holder:
             return REST[member][f.tried]
         if f.aliases() and member in ("refusal", "gives"):
             names, first, absent = (re.sub(r"[{}]", r"\g<0>\g<0>", text) for text in (
-                list_term([f.known, *f.aliases()]), name_term(f.known), f.absent()))
+                list_term([f.known, *f.aliases()]), name_term(f.known), self.absent(f)))
             if member == "gives":
                 return f"AliasedThen {names}{absent or ' (λ b. ⊥)'} {{inner}}"
             return f"aliased_then {first} {names} {'None' if f.missing else f'(Some (missing_field {first}))'} {{inner}}"
@@ -475,12 +506,12 @@ class Holder:
     def scripts(self, values: List[str]) -> List[str]:
         """The calls that each value makes; of what is flattened, with what follows."""
         return [f"{f.type.member('SendEntries', 'entries')} {value}" if f.rest else
-                f"({f.type.member('Serialize', 'script')} {value})" for f, value in zip(self.fields, values)]
+                f"({f.script(value)})" for f, value in zip(self.fields, values)]
 
     def laws(self, values: List[str]) -> List[str]:
         """That the calls of each value spell one tree; of what is flattened, that they are entries where those after it are."""
         scripts = self.parts("script", self.scripts(values), values=values) if any(f.rest for f in self.fields) else []
-        return ["" if not f.sent else f"({f.type.lawful(value)})" if not f.rest else
+        return ["" if not f.sent else f"({f.lawful(value)})" if not f.rest else
                 f"{f.type.fit(value)} {nest(list(filter(None, scripts[place:])), self.end('script')).strip()} readable"
                 for place, (f, value) in enumerate(zip(self.fields, values), 1)]
 
@@ -497,15 +528,44 @@ class Holder:
         """The statements that make them."""
         if not self.many:
             return [f"{self.call}.around({values[0]}, alloc, serializer)" if values else f"{self.call}.send(serializer)"]
-        return sending(self.opening(values), self.before + self.sent_row(values, 0), self.sent_last(values, 0))
+        return self.lending(values) + sending(self.opening(values), self.before + self.sent_row(values, 0), self.sent_last(values, 0))
+
+    def lending(self, values: List[str], start: int = 0) -> List[str]:
+        """The statements that make what stands for those of the values from a place on that functions of the user's send."""
+        return [f"let {self.lent(f)} = {self.sent_of(f)}({value});"
+                for f, value in list(zip(self.fields, values))[start:self.sent_end(start)] if f.sending]
+
+    def lent(self, f: Field) -> str:
+        """What code calls what stands for the value of a field that a function of the user's sends."""
+        name = f"sent_{self.all.index(f) + 1}"
+        while name in self.places:
+            name += "_"
+        return name
+
+    def sent_of(self, f: Field) -> str:
+        """The type that stands for such a value."""
+        return f"Send{self.all.index(f) + 1}Of{self.owner}"
 
     def sent_row(self, values: List[str], start: int) -> List[str]:
         """The values from a place on as a row has them, as many as it has room for."""
-        return [self.sent(f, value) for f, value in list(zip(self.fields, values))[start:start + LONGEST_SENT] if f.sent]
+        return [self.sent(f, value) for f, value in list(zip(self.fields, values))[start:self.sent_end(start)] if f.sent]
+
+    def sent_end(self, start: int) -> int:
+        """The place after the last value that stands in a row with the one at this place: not even that, where all are lent."""
+        if self.lends:
+            return start
+        return start + (LONGEST_BORROWED if any(f.type.borrows() for f in self.fields) else LONGEST_SENT)
+
+    def with_one_lifetime(self) -> "Holder":
+        """The same of values that borrow for as long as a reference to them does."""
+        same = copy(self)
+        same.hold(replace(self.data, fields=[replace(f, type=f.type.with_one_lifetime()) for f in self.fields]), self.places)
+        same.all, same.lends = same.fields, False
+        return same
 
     def sent_last(self, values: List[str], start: int) -> str:
         """What follows them: a struct of references to the others, or the end."""
-        end = start + LONGEST_SENT
+        end = self.sent_end(start)
         return f"{self.sent_run(end)}({', '.join(values[end:])})" if end < self.count else "SendEnd"
 
     def sent_run(self, start: int) -> str:
@@ -515,7 +575,10 @@ class Holder:
     def sent_types(self) -> List[str]:
         """The declarations of such structs, and how they are sent."""
         tests = [self.test_impl(f) for f in self.fields if f.test]
-        return tests + [self.run_sent(start) for start in range(LONGEST_SENT, self.count, LONGEST_SENT)] if self.many else []
+        tests += [sender(self.sent_of(f), f, self.test_of(f)) for f in self.fields if f.sending]
+        holder = self.with_one_lifetime() if self.lends else self
+        starts = range(self.sent_end(0), self.count, holder.sent_end(0))
+        return tests + [holder.run_sent(start) for start in starts] if self.many else []
 
     def run_sent(self, start: int) -> str:
         """The struct of references to the values from a place on, and how it is sent."""
@@ -525,11 +588,12 @@ class Holder:
         values = [""] * start + [f"self.{place}" for place in left]
         send = function("fn send<S: Serializer>(&self, alloc: Global, serializer: &mut S, error: &mut serde_content::Error)"
                         " -> serde_content::ser::Sent",
-                        *row_of(self.sent_row(values, start), self.sent_last(values, start)),
+                        *self.lending(values, start), *row_of(self.sent_row(values, start), self.sent_last(values, start)),
                         "serde_content::derive_support::SendRow::send(&row, alloc, serializer, error)")
         types = ", ".join(f"&{LT_SENT} {f.type.rust()}" for f in self.fields[start:])
         parameters = self.data.arguments(start)
-        borrows = [LT_SENT, *dict.fromkeys(one for f in self.fields[start:] for one in f.type.borrows() if one != STATIC)]
+        lifetimes = [LT_SENT, *(one for f in self.fields[start:] for one in f.type.borrows() if one != STATIC)]
+        borrows = list(dict.fromkeys(lifetimes))
         whole, given = f"{whole}{angled(*borrows, *parameters)}", angled(*borrows, *bounded(parameters, "Serialize"))
         return (f"/// The values from place {start + 1} on, as they are sent.\n#[derive(Drop)]\nstruct {whole}({types});\n\n"
                 f"impl{given} serde_content::derive_support::SendRow for {whole} {{\n"
@@ -539,6 +603,8 @@ class Holder:
         """A value as a row has it, before those after it."""
         if f.rest or not self.data.named:
             return f"{'SendAll' if f.rest else 'SendPart'}({value}, row)"
+        if f.sending:
+            return f"{self.row_named}{'Unless' * f.skips}({self.announced(f)}, &{self.lent(f)}, row)"
         if f.test:
             names, index = self.announced(f).split(", ")
             return f"{self.row_named}If({names}, {self.test_of(f)}, {index}, {value}, row)"
@@ -553,7 +619,7 @@ class Holder:
 
     def refusals(self) -> List[str]:
         """What each of its values refuses."""
-        return [f"({f.read_as().member(READ, 'refusal')})" for f in self.fields]
+        return [f"({self.type_read(f).member(READ, 'refusal')})" for f in self.fields]
 
     def refusal(self) -> str:
         """What is refused of it."""
@@ -562,7 +628,8 @@ class Holder:
     def given(self, values: List[str]) -> List[str]:
         """What each of them may give."""
         refused = [f"({f.read_as().member(READ, 'refusal')}) " * f.tried for f in self.fields]
-        return [f"{refusal}({f.read_as().member(READ, 'gives')}) {v}" for refusal, f, v in zip(refused, self.fields, values)]
+        given = [f"(record {{ 0 = {v} }})" if f.reading else v for f, v in zip(self.fields, values)]
+        return [f"{refusal}({self.type_read(f).member(READ, 'gives')}) {v}" for refusal, f, v in zip(refused, self.fields, given)]
 
     def gives_row(self, values: List[str]) -> str:
         if self.reading is not self:

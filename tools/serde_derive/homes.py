@@ -106,10 +106,11 @@ def rings(held: Dict[str, List[str]]) -> Iterator[List[str]]:
             yield ring
 
 
-def needed(item: Item, *around: Named) -> Set[str]:
-    """The traits that the type of a field has to derive for the impls of what holds it; the field and its variant are around
-    the type."""
-    ways = {"Serialize": all(one.sent for one in around), "Deserialize": all(one.read for one in around)}
+def needed(item: Item, f: Field, *around: Named) -> Set[str]:
+    """The traits that the type of a field has to derive for the impls of what holds it, where no function of the user's does
+    what they do; its variant is around the field."""
+    ways = {"Serialize": all(one.sent for one in (f, *around)) and not f.function("serialize"),
+            "Deserialize": all(one.read for one in (f, *around)) and not f.function("deserialize")}
     equal = {"PartialEq", "Eq"} if item.derives_all() and all(ways.values()) else set()
     return equal | {trait for trait, used in ways.items() if used and trait in item.derives}
 

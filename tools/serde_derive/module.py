@@ -97,7 +97,11 @@ def impls(item: Item, writer: Writer, cbor: bool) -> Iterator[str]:
         elif item.variants and "untagged" not in item.serde:
             yield impl(item, writer.variants_trait, writer.variants_impl(), *reading)
         yield impl(item, READ, writer.deserialize(), *reading)
+    if item.comes_back() and isinstance(writer, AdjacentWriter) and writer.one_by_one:
+        yield writer.backs_trait()
+        yield impl(item, f"{writer.back_name()}<'de>", writer.back_members(), LT_DE)
     if item.comes_back():
+        yield from writer.trip_functions()
         yield impl(item, TRIP, writer.round_trip(), LT_DE, *bounded(item.parameters, TRIP))
     if cbor and item.comes_back_from_cbor():
         yield impl(item, CBOR, writer.cbor_round_trip(), LT_DE, *bounded(
@@ -133,6 +137,7 @@ def settled(file: File, homes: Homes) -> Dict[str, Writer]:
     for refused in check(file, homes.module):
         homes.refuse(refused)
     homes.resolve()
+    file.functions.uses = file.uses
     for item in file.items:
         file.functions.variants[item.name] = {v.name: [f.type for f in v.data.fields] for v in item.variants}
     keep(lambda item: name_item(item, file.functions))

@@ -72,14 +72,14 @@ def default_fields(item: Item, functions: Functions) -> Iterator[Refused]:
             f.serde["default"] = ""
             if by_function:
                 value = functions.value(given[f.name][0], f.type, given[f.name][1]) if f.name in given else None
-                yield from default_by(f"{item.name}.{f.name}", f, value, path)
+                yield from default_by(f"{item.name}.{f.name}", f, value, path, functions)
 
 
-def default_by(where: str, f: Field, value: Optional[Value], path: str) -> Iterator[Refused]:
+def default_by(where: str, f: Field, value: Optional[Value], path: str, functions: Functions) -> Iterator[Refused]:
     """Gives a field the value that a function gives for it."""
     if value:
         f.missing, f.made = value.fact, value.code * (value != EMPTY.get(f.type.name))
-    elif is_path(f.serde["default"]):
+    elif is_path(f.serde["default"], functions.uses):
         f.missing, f.maker = ANYTHING, path
     else:
         other = ", or name one of another module from `crate` on" * bool(f.serde["default"])
@@ -101,8 +101,9 @@ def name_fields(holder: str, data: Data, case: Optional[str], functions: Functio
             f.serde.setdefault("default", "")
         may_be_missing = data.named or not f.read
         if f.serde.get("default") and "Deserialize" in derives and may_be_missing:
-            yield from default_by(where, f, functions.given(f.serde["default"], f.type), f.serde["default"])
-        elif not f.missing and may_be_missing and ("default" in f.serde or f.type.name == "Option"):
+            yield from default_by(where, f, functions.given(f.serde["default"], f.type), f.serde["default"], functions)
+        elif not f.missing and may_be_missing and (
+                "default" in f.serde or (f.type.name == "Option" and not f.function("deserialize"))):
             value = None if f.read else functions.initial(f.type)
             f.missing, f.made = value or (absent_of(f.type), "")
         if "skip_serializing_if" in f.serde and "Serialize" in derives:
@@ -122,7 +123,7 @@ def check_skipped(where: str, f: Field, data: Data, functions: Functions) -> Ite
     if not data.named:
         yield Refused(f.line, "serde's `skip_serializing_if` is covered in fields with names: give them names", where)
     elif not f.test and (not known or (test != known and (test, f.type.name) != ("str::is_empty", "String"))):
-        if is_path(test):
+        if is_path(test, functions.uses):
             f.tester = test
         else:
             yield Refused(f.line, "serde's `skip_serializing_if` so is not covered: Option::is_none is, `is_empty` of String, Vec,"

@@ -118,6 +118,10 @@ class StructWriter:
             ghost("comes_back", self.back()),
             ghost("keeps", self.keeps())]
 
+    def trip_functions(self) -> List[str]:
+        """Those that the impl of RoundTrip calls."""
+        return []
+
     def back(self) -> str:
         """The law that values come back."""
         holder = self.holder

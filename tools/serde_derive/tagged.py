@@ -7,7 +7,7 @@ from .cases import pascal
 from .declarations import Data, Field, Item, Refused, Variant
 from .entries import Entries, row_entries
 from .enums import EnumWriter, sent_names
-from .holder import LONGEST_HELD, Holder
+from .holder import Holder
 from .literals import list_impl, name_call, name_method, name_term, opened
 from .text import DESERIALIZE, bare, elim, function, ghost, together
 from .types import MOST_IN_TUPLE, nest
@@ -56,7 +56,7 @@ class TaggedHolder(Holder):
         self.before = [f"SendTag{self.tag_row}"]
 
     def room(self) -> int:
-        return LONGEST_HELD
+        return self.room_in_variant()
 
     def script(self, values: List[str]) -> str:
         return self.script_of(self.scripts(values), values)

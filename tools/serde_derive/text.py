@@ -34,6 +34,11 @@ def ghost(name: str, term: str) -> str:
     return "\n".join(filled(line) for line in f"ghost {name} = {{ {term} }};".split("\n"))
 
 
+def ghost_type(name: str, of: str) -> str:
+    """The declaration of a ghost member of a trait."""
+    return "\n".join(filled(line) for line in f"ghost {name}: {{ {of} }};".split("\n"))
+
+
 REFUSED_NULL = "record { of_null = λ b e. absurd (cc e) }"
 
 

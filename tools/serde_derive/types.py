@@ -100,6 +100,7 @@ POINTERS, BORROWED = {"Box", "Rc", "Arc"}, {"&", "&[]"}
 ELSEWHERE = set(HOLDERS) - {"Option"}
 # those whose first argument is in order in them, or is hashed
 IN_ORDER, HASHED = {"BTreeMap", "BTreeSet"}, {"HashMap", "HashSet"}
+MAPS = {"BTreeMap", "HashMap"}
 # the class of trees that a type takes, and the law that it refuses all others
 CLASSES = {
     "()": ("units", "unit_takes"), "bool": ("booleans", "bool_takes"), "char": ("characters", "char_takes"),
@@ -210,6 +211,11 @@ class Type:
         """The lifetimes in it, each once."""
         return list(dict.fromkeys([*self.lifetimes, *(one for a in self.arguments for one in a.borrows())]))
 
+    def with_one_lifetime(self) -> "Type":
+        """The same, which borrows for as long as a reference to it does."""
+        return replace(self, arguments=tuple(a.with_one_lifetime() for a in self.arguments),
+                       lifetimes=tuple(one if one == STATIC else LT_SENT for one in self.lifetimes))
+
     def at(self, given: Dict[str, "Type"]) -> "Type":
         """The same with types in the place of its parameters."""
         if self.parameter:
@@ -243,6 +249,15 @@ class Type:
     def width(self) -> int:
         """How many types without arguments it is made of."""
         return sum(one.width() for one in self.arguments) or 1
+
+    def is_deep(self) -> bool:
+        """Whether contracts say so much of it that proofs get lost that look into all variants of an enum: a map in another, or
+        what has paths in order."""
+        if any(argument.is_deep() for argument in self.arguments):
+            return True
+        if self.name in IN_ORDER and self.arguments[0].name == "PathBuf":
+            return True
+        return self.name in MAPS and self.arguments[1].name in MAPS
 
     def rust(self) -> str:
         """The type as Rust writes it."""

@@ -10,7 +10,8 @@ from .types import snake
 from .words import USES, WORDS
 
 FUNCTIONS = {name for names in USES.values() for name in names.split() if name.islower()}
-ROW = re.compile(r"(?:fields|names|aliases|meant|tags|sent|told|(?:field|part|from|sent|default|unless)\d+)of(.+)")  # what is called after an owner
+# what is called after an owner
+ROW = re.compile(r"(?:fields|names|aliases|meant|tags|sent|told|back|(?:field|part|from|read|sent|send|default|unless)\d+)of(.+)")
 KINDS = ("serialize", "send_entries", "round_trip", "cbor_round_trip", "not_null", "ord", "eq")
 
 
@@ -33,7 +34,7 @@ def name_functions(items: List[Item]) -> None:
     def clashes(name: str) -> bool:
         listed = pascal(name).lower()
         return (name in taken or listed in lists or listed in owned
-                or any(f"{verb}_{name}" in forbidden for verb in ("send_whole", "send_entries_of", "read", "make")))
+                or any(f"{verb}_{name}" in forbidden for verb in ("send_whole", "send_entries_of", "read", "make", "known")))
 
     for more, named in ("_type", [(item, item.name) for item in items]), (
             "_variant", [(v, item.name + v.name) for item in items for v in item.variants]):

@@ -60,7 +60,7 @@ serde_content.specs.Entries flattened_unless tag_first
 serde_content.specs.Aliases aliased_then AliasedThen
 serde_content.specs.Tags meant meant_among EnumGivesBy TagThenBy TagThenBufferedBy
 serde_content.specs.Variants index_among variants
-serde_content.specs.RoundTrip ComesBack CoercionKeeps
+serde_content.specs.RoundTrip ComesBack ComesBackAt CoercionKeeps
 serde_content.specs.Laws.Leaves heedless_keeps natural_keeps integer_keeps
 serde_content.specs.Laws.Leaves {' '.join(laws.back for name, laws in LEAVES.items() if name not in TEXTS)}
 serde_content.specs.Laws.Texts path_back boxed_text_back

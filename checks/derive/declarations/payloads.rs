@@ -313,6 +313,8 @@ pub struct PackageJson {
 }
 
 // ==== lambda_sqs_message: AWS Lambda's events, a message of a queue
+use crate::custom_serde::deserialize_lambda_map;
+
 #[derive(Debug, Clone, PartialEq, Eq, Default, Deserialize, Serialize)]
 #[serde(rename_all = "camelCase")]
 pub struct SqsMessage {
