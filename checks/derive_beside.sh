@@ -14,7 +14,7 @@ mkdir -p "$2"
 room=$(cd "$2" && pwd)
 # in Rust a HashMap has another order in each run: here it is a BTreeMap
 sed 's/HashMap/BTreeMap/g' "$top/crates/check_derive/types.rs" > "$room/types.rs"
-files=("$room/types.rs" "$top"/crates/check_derive/{choices,sorts,inlined}.rs "$top"/crates/check_fields/{attributes,nested}.rs "$top/checks/serde_texts/more.rs" "$parts/others.rs")
+files=("$room/types.rs" "$top"/crates/check_derive/{choices,sorts,inlined}.rs "$top"/crates/check_fields/{attributes,by_functions,nested}.rs "$top/checks/serde_texts/more.rs" "$parts/others.rs")
 cases=("$room" "${3:-1}" 20000 "${files[@]}")
 
 # shellcheck source=bench/common.sh
@@ -25,6 +25,8 @@ here=$room/ours/crates/derive_beside
 for module in answer cursor failure flags named number order piece printable quoted run show tree unfold; do
     cp "$top/crates/check_rows/src/$module.rt" "$here/src/"
 done
+sed 's/check_fields/derive_beside/' "$top/crates/check_fields/src/rules.rt" > "$here/src/rules.rt"
+cp -r "$top/crates/check_fields/specs" "$here/"
 place_original "$crate" "$parts/driver"
 cp "$top"/checks/beside/driver/src/{cursor,trees}.rs "${files[@]}" "$room/driver/src/"
 for types in "${files[@]}"; do

@@ -98,6 +98,8 @@ def enums() -> Dict[str, str]:
                        ("among", "A(u8), B(bool), C(char), Null, D(String), E(i32, u8)")):
         made[f"untagged_unit_{sort}"] = f"{ALL}\n#[serde(untagged)]\npub enum Tried {{ {body} }}"
     made["untagged_unit_named"] = f"{BOTH}\n#[serde(untagged)]\npub enum Tried {{ A {{ x: u8 }}, Null, B(String) }}"
+    for count in (5, 9):
+        made[f"untagged_named_{count}"] = f"{BOTH}\n#[serde(untagged)]\npub enum Tried {{ A{held(list(islice(cycle(MIXED), count)), 'named')}, B(String) }}"
     made["untagged_places"] = f"{BOTH}\n#[serde(untagged)]\npub enum Tried {{ A(u8, String), B(bool, i32, u8), C(String) }}"
     return made
 

@@ -243,3 +243,7 @@ struct A<'a, 'b: 'a> { x: Vec<Option<(u8, &'a str)>> }
 enum B<'a> { X(&'static str) }
 #[derive(Serialize)]
 enum C<'a, 'b, T> { X(&'a T), Y(A<'a, 'b>) }
+
+// 2: serde's `serialize_with` names no function: write its path
+#[derive(Serialize)]
+struct A { #[serde(serialize_with = "")] x: u8 }

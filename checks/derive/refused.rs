@@ -19,7 +19,7 @@ struct A {
 // 18: F.1: `G` has 2 arguments here, and its parameters are: T
 // 18: F.2: `H` has 1 arguments here, and its parameters are: none
 // 18: F.3: a map with keys of type `G<u8>` is not covered, as their order is not known: hold a Vec of pairs
-// 18: F.4: `crate::other::Page<u8>` is not covered: a type with arguments is where this file declares it: declare there a struct around it, and hold that
+// 18: F.4: `crate::other::Page<u8>` is not covered: a type with arguments is where this file declares it, or std's is: write in another file a struct around it, with its impls by hand, and hold that
 // 22: I: `I` contains itself, which is not covered in a type with parameters or lifetimes: write its impls by hand
 // 24: J.x: the size of `Option<T>` depends on `T`, which is not covered: hold `Box<T>` there for `T`
 // 24: J.y: the size of `(u8, T)` depends on `T`, which is not covered: hold `Box<T>` there for `T`
@@ -219,7 +219,7 @@ struct A(BTreeMap<Vec<u8>, u8>);
 #[derive(Serialize)]
 struct A(LinkedList<u8>);
 
-// 2: A: what has no fields is covered without brackets alone: delete them
+// 2: A: what has no fields is covered without brackets alone: delete them, and it is sent as a unit
 #[derive(Serialize)]
 struct A {}
 
@@ -297,7 +297,7 @@ use crate::errors::Error;
 struct A(Error);
 
 // 1: passed over: `struct Plain`, which derives neither Serialize nor Deserialize
-// 4: A.x: `Plain` derives neither Serialize nor Deserialize (line 1): derive what is derived here
+// 4: A.x: `Plain` derives neither Serialize nor Deserialize (line 1): derive what is derived here, or move it to a file that has its impls
 struct Plain(u8);
 #[derive(Serialize)]
 struct A {
@@ -336,7 +336,7 @@ struct A(A5);
 // 5: B: `B` contains itself, which is not covered beside `untagged`: write its impls by hand
 // 7: D: `D` contains itself, which is not covered where it derives Default: delete that
 // 9: E: `E` contains itself, which is not covered where a variant has `alias`, `other` or `skip`: write its impls by hand
-// 11: F.x: `alias`, `default`, `skip` and `skip_serializing_if` are not covered in a type that contains itself: hold the field in another struct
+// 11: F.x: `alias`, `default`, `skip` and `skip_serializing_if` are not covered in a type that contains itself: delete it, or write the impls by hand
 // 13: G.X: more than 4 values are not covered in a variant of a type that contains itself: hold some in another struct
 // 13: G.Y: more than 4 values are not covered in a variant of a type that contains itself: hold some in another struct
 // 15: Inner: the name `Inner` is one that the module uses itself where a type contains itself: give the type another name, and this one by `#[serde(rename = "Inner")]`
@@ -555,7 +555,7 @@ enum A { X(S, u8, u8) }
 
 // 1: passed over: `struct String`, which derives neither Serialize nor Deserialize
 // 2: passed over: `type Vec<T> = other::Vec<T>`
-// 4: A.x: `String` derives neither Serialize nor Deserialize (line 1): derive what is derived here
+// 4: A.x: `String` derives neither Serialize nor Deserialize (line 1): derive what is derived here, or move it to a file that has its impls
 // 4: A.y: `Vec` is an alias that is not covered (line 2): write the type that it stands for
 struct String(u64);
 type Vec<T> = other::Vec<T>;
@@ -657,7 +657,7 @@ struct B { x: u8 }
 enum A { B(u8) }
 
 // 3: A: `derive(Copy)` needs Clone: derive that too
-// 5: A.X: what has no fields is covered without brackets alone: delete them
+// 5: A.X: what has no fields is covered without brackets alone: delete them, and it is sent as a unit
 // 6: A.Y: of an untagged enum, only variants with no values, with values by name, and with one to four by place, are covered: hold a struct of them
 // 7: A.Z.0: floats are not covered: hold a whole number of a smaller unit, or a String
 // 11: B: the tag and the content are both called `t`: give one of them another name
@@ -752,8 +752,7 @@ struct K(u8);
 #[derive(Serialize, Deserialize)] enum B {}
 
 // 2: A: serde's `flatten` is covered in structs with named fields and without `deny_unknown_fields`
-// 4: C: serde's `flatten` is covered in structs with named fields and without `deny_unknown_fields`
-// 4: C.X.b: what is flattened is covered where it is a struct or an enum of this file, without parameters, a BTreeMap, a HashMap, or one of these in an Option or a Box: hold one, or delete `flatten`
+// 4: C.X.b: serde's `flatten` is covered in structs with named fields and without `deny_unknown_fields`: hold such a struct in the variant
 #[derive(Serialize)]
 struct A(u8, u8, #[serde(flatten)] B);
 #[derive(Serialize)]
@@ -896,7 +895,7 @@ enum A<T> { X { x: T }, Y(u8, T), Z(T), W { x: Box<T>, y: u8 } }
 // 13: F.y: serde's `with` so is not covered: write `with = ".."`
 // 13: F.z: serde's `deserialize_with` so is not covered: write `deserialize_with = ".."`
 // 13: F.x: such attributes don't go together: `with` and `serialize_with`: delete one of them
-// 15: G.y: a function of your own is not covered in a type that contains itself: hold the field in another struct
+// 15: G.y: a function of your own is not covered in a type that contains itself: write the impls by hand
 #[derive(Serialize, Deserialize)]
 struct A(#[serde(with = "crate::rules")] u8, u8);
 #[derive(Serialize, Deserialize)]
@@ -1153,4 +1152,18 @@ struct A<T> {
     e: &'static mut u8,
     f: Data<-1>,
     g: Box<FnOnce(u8) -> u8>,
+}
+
+// 3: A.a: `crate::type::deserialize` so is not covered: name a function of another module, from `crate` on
+// 4: A.b: `crate::_` so is not covered: name a function of another module, from `crate` on
+// 5: A.c: its default is not covered: write in this file a function `crate::hex::fn` that gives one value, such as `8080`, `"text".to_owned()`, `Vec::new()` or a variant of an enum of this file, or name one of another module from `crate` on
+// 6: A.d: `crate::types::hex::deserialize` is no function of another module: move it there, and name it from `crate` on
+// 7: A.e: `self::hex` is no function of another module: move it there, and name it from `crate` on
+#[derive(Serialize, Deserialize)]
+struct A {
+    #[serde(with = "crate::type")] a: u8,
+    #[serde(serialize_with = "crate::_")] b: u8,
+    #[serde(default = "crate::hex::fn")] c: u8,
+    #[serde(with = "crate::types::hex")] d: u8,
+    #[serde(deserialize_with = "self::hex")] e: u8,
 }

@@ -1057,3 +1057,18 @@ enum Whole {
     A,
     B { x: u8, y: String },
 }
+
+// + ghost use Rattle.a.specs.Util as util_said; ghost use Rattle.other.specs.Util as the_util_said;
+// 3: called: `crate::util::put`, which needs the contract `pub fn put<S: Serializer>(value: &u8, alloc: Global, serializer: &mut S) -> Result<()> ensures { Sends S.step S.refuses (S.seen serializer.old) (put_script value.now) result (S.seen serializer.new) }`, by the definitions `put_script` and `put_lawful` of `Rattle.a.specs.Util`, the latter of the type `(x : ℕ) (readable : Bool) → IsLawful (put_script x readable)`
+// 4: called: `other::util::put`, which needs the contract `pub fn put<S: Serializer>(value: &u8, alloc: Global, serializer: &mut S) -> Result<()> ensures { Sends S.step S.refuses (S.seen serializer.old) (put_script value.now) result (S.seen serializer.new) }`, by the definitions `put_script` and `put_lawful` of `Rattle.other.specs.Util`, the latter of the type `(x : ℕ) (readable : Bool) → IsLawful (put_script x readable)`
+#[derive(Serialize)]
+struct A {
+    #[serde(serialize_with = "crate::util::put")] x: u8,
+    #[serde(serialize_with = "other::util::put")] y: u8,
+}
+
+// + impl<'de, T: Deserialize<'de>> Deserialize<'de> for A<T> {
+#[derive(Serialize, Deserialize)]
+struct A<T> { #[serde(flatten)] b: B<T> }
+#[derive(Serialize, Deserialize)]
+struct B<T> { x: T }

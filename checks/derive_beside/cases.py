@@ -4,7 +4,7 @@ The others are damaged in one to three places."""
 import random
 import string
 
-from shapes import alone, own
+from shapes import RULES, alone, own
 from structs import spliced
 from trees import EMPTY, KINDS, NONE, UNIT, bounds, fits
 
@@ -129,7 +129,7 @@ class Maker:
 
     def field(self, field):
         """A field with its value; none where it may be missing, or is left out, at times."""
-        value = self.value(field.type)
+        value = self.value(RULES[field.function("deserialize")][0] if field.by_function() else field.type)
         is_out = (field.missing or (field.skips and value in EMPTY)) and chance() < 0.3 or not (field.read or chance() < 0.2)
         name = pick([field.known, *field.aliases()]) if chance() < 0.5 else field.known
         return () if is_out else ((name, value),)

@@ -10,8 +10,12 @@ sys.path.insert(0, str(TOP / "tools"))
 from serde_derive.attributes import DEFAULT  # noqa: E402
 from serde_derive.module import read  # noqa: E402
 from serde_derive.names import name_item  # noqa: E402
+from serde_derive.types import Type  # noqa: E402
 
 WHOLE = "by the struct"
+# what the functions of `rules` read a field as, and how what was read is sent again
+RULES = {"rules::deserialize": (Type("u8"), lambda number: ("str", "yes" if number[2] else "no")),
+         "rules::read_text": (Type("String"), lambda text: text)}
 
 
 def shapes_of(files):

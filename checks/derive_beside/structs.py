@@ -1,7 +1,7 @@
 """How structs are read."""
 from leaves import Leaves
 from lines import ALIKE, BOXED, CLOSED, FLAT, NAMES, ORDER, PLACES, TEXTS
-from shapes import WHOLE, default_variant, inlined, own, takes_rest
+from shapes import RULES, WHOLE, default_variant, inlined, own, takes_rest
 from source import Refused, counted, one_of, seen, unexpected, visited
 from trees import EMPTY, KINDS, NONE, UNIT, tagged
 
@@ -78,7 +78,7 @@ class Structs(Leaves):
                 values.append((field.known, self.default_of(field)))
                 continue
             if place < len(items):
-                values.append((field.known, self.read(field.type, source.of(items[place]))))
+                values.append((field.known, self.read_field(field, source.of(items[place]))))
             elif field.serde.get("default", WHOLE) != WHOLE:
                 values.append((field.known, self.default_of(field)))
             else:
@@ -97,9 +97,16 @@ class Structs(Leaves):
             if name in values:
                 raise Refused(f"duplicate field `{name}`")
             if name is not None:
-                values[name] = self.read(kind_of(fields, name), source.of(tree))
+                values[name] = self.read_field(field_of(fields, name), source.of(tree))
         return sent(fields, [(field.known, values[field.known] if field.read and field.known in values else self.missing(field))
                              for field in fields])
+
+    def read_field(self, field, source):
+        """The value of a field, as it is sent again: what a function of `rules` reads, or one of its type."""
+        if not field.by_function():
+            return self.read(field.type, source)
+        kind, sent_again = RULES[field.function("deserialize")]
+        return sent_again(self.read(kind, source))
 
     def field_name(self, fields, source, closed, before):
         """The field that a key names, or none that is known."""
@@ -150,7 +157,7 @@ class Structs(Leaves):
         left = [(self.name(source.of(key), names, "field"), key, tree) for key, tree in entries]
         for field in fields:
             place = place_by(left, field) if field.read else None
-            value = self.missing(field) if place is None else self.read(field.type, source.of(left.pop(place)[2]))
+            value = self.missing(field) if place is None else self.read_field(field, source.of(left.pop(place)[2]))
             values.append((field.known, value))
             if field.aliases() and place_by(left, field) is not None:
                 raise Refused(f"duplicate field `{field.known}`")
@@ -172,7 +179,7 @@ class Structs(Leaves):
         kind = field.type
         while BOXED not in self.on and self.around(kind):
             kind = self.around(kind)
-        if kind.name == "Option":
+        if kind.name == "Option" and not field.by_function():
             return NONE
         raise Refused(f"missing field `{field.known}`")
 
@@ -290,7 +297,7 @@ class Structs(Leaves):
             elif name in values:
                 raise Refused(f"duplicate field `{name}`")
             else:
-                values[name] = self.read(kind_of(its_own, name), source.of(tree))
+                values[name] = self.read_field(field_of(its_own, name), source.of(tree))
         for field in its_own:
             if field.wire not in values:
                 values[field.wire] = self.missing(field)
@@ -345,9 +352,9 @@ def spliced(tree):
     return spliced(tree[2][1]) if tree[2][0] == "NewType" else tuple((("str", name), value) for name, value in tree[2][1])
 
 
-def kind_of(fields, name):
-    """The type of the field of this name."""
-    return next(field.type for field in fields if field.read and field.known == name)
+def field_of(fields, name):
+    """The field of this name."""
+    return next(field for field in fields if field.read and field.known == name)
 
 
 def place_of(entries, name):
@@ -368,6 +375,8 @@ def sent(fields, values):
 
 def is_left_out(field, value):
     """Whether a field is left out where it has this value: an empty one, or the one that its test is for."""
+    if field.by_function():
+        return value == NONE
     if not field.test:
         return value in EMPTY
     said = field.test.fact.rpartition("≡ ")[2].rpartition(" ")

@@ -20,6 +20,7 @@ COVERED = {
 NOT_COVERED = {
     **dict.fromkeys(["from", "try_from", "into"], "a conversion has no contract here: write the impls by hand"),
     **dict.fromkeys(["remote", "getter"], "only your own types are sent: declare one like it, and convert it by hand"),
+    "untagged": "it is for a container: hold this enum and what the variant holds in an enum that is untagged",
     "bound": "each impl has the bounds that it needs: delete it",
     "borrow": "values are owned: delete it",
     "crate": "what is written uses `serde_content`: delete it",
@@ -187,6 +188,8 @@ class Attributes(Cursor):
             why = f"write `{key} = \"..\"`" if needs else f"write `{key}` alone"
             raise Refused(line, f"serde's `{key}` so is not covered: {why}")
         value = text_of(self.take()) if valued else ""
+        if valued and not value and key in (*OWN_FUNCTIONS, "default", "skip_serializing_if"):
+            raise NotRust(line, f"serde's `{key}` names no function: write its path")
         if "\n" in value:
             raise Refused(line, f"the name `{ascii(value)[1:-1]}` is not covered: printable ASCII but \" and \\ is")
         into[key] = f"{into[key]}\n{value}" if key in into else value

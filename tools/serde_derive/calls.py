@@ -7,11 +7,12 @@ from .cases import pascal
 from .declarations import Field, Item, Reading, Refused, Sending, Test
 from .files import File
 from .homes import STANDARD, Homes, placed
+from .tokens import KEYWORDS, ROOTS
 from .types import ELSEWHERE, HOLDERS, LEAVES, Type, snake
 
-PATH = re.compile(r"[a-zA-Z_]\w*(?:::[a-zA-Z_]\w*)+")
+PATH = re.compile(r"[a-zA-Z_]\w*(?:::[a-zA-Z_]\w*)+", re.ASCII)
 # what a path begins with that names a function of std's, of which the tool knows what it does, or that it doesn't
-STD = {*STANDARD, *HOLDERS, *LEAVES, "str", "Default", "Not", "Self"}
+STD = {*STANDARD, *HOLDERS, *LEAVES, "str", "slice", "Default", "Not", "Self"}
 # the types whose values can hold memory, but for those of one's own
 IN_MEMORY = {"String", "BoxedStr", "PathBuf", *ELSEWHERE}
 ANYTHING = "⊤"  # what contracts say of the value that such a function makes
@@ -21,7 +22,8 @@ def is_path(text: str, uses: Dict[str, List[str]]) -> bool:
     """Whether this names a function of the user's by a path, of which the first name may be one that a `use` brings."""
     first, *rest = text.split("::")
     path = [*uses.get(first, [first]), *rest]
-    return bool(PATH.fullmatch("::".join(path))) and path[0] not in STD
+    names = path[path[0] in ROOTS:]
+    return bool(PATH.fullmatch("::".join(path))) and path[0] not in STD and not {"_", *KEYWORDS} & set(names)
 
 
 class Called(NamedTuple):
@@ -47,7 +49,8 @@ def called(path: str, homes: Homes) -> Called:
         found = ["crate", *homes.module, *found]
     elif len(found) == 1 and found[0][:1].isupper():
         raise ValueError(f"the type `{before}` of `{path}` is not in this file: name it by its full path")
-    elif not before or (found[:1] == ["crate"] and found[1:] == homes.module):
+    elif not before or (found[:1] == ["crate"] and found[1:] == homes.module) or (
+            found[0] != "crate" and path.split("::")[0] in ("crate", "self")):
         raise ValueError(f"`{path}` is no function of another module: move it there, and name it from `crate` on")
     homes.used.add(first)
     whole = path if mine or first in homes.file.uses else "::".join([*found, name])
@@ -128,12 +131,16 @@ def settle_sent(f: Field, homes: Homes) -> Iterator[str]:
 
 def own_function(path: str, homes: Homes) -> Called:
     """The function of this path that reads or sends a field; a ValueError says why it can't be called."""
-    if not is_path(path, homes.file.uses) and (path in homes.file.uses or not re.fullmatch(r"[a-zA-Z_]\w*", path)):
+    if not is_path(path, homes.file.uses) and (path in homes.file.uses or not re.fullmatch(r"(?!_$)[a-zA-Z_]\w*", path, re.ASCII)):
         raise ValueError(f"`{path}` so is not covered: name a function of another module, from `crate` on")
     return called(path, homes)
 
 
 def said(word: str, function: Called, homes: Homes) -> str:
     """What contracts call a definition in the module of a function's."""
-    module = snake(function.module.split(".specs.")[1].replace(".", ""))
-    return f"{homes.said.setdefault(function.module, f'{module}_said')}.{word}"
+    if function.module not in homes.said:
+        name = f"{snake(function.module.split('.specs.')[1].replace('.', ''))}_said"
+        while name in homes.said.values():
+            name = f"the_{name}"
+        homes.said[function.module] = name
+    return f"{homes.said[function.module]}.{word}"

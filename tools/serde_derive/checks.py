@@ -52,13 +52,18 @@ def check_values(items: List[Item]) -> Iterator[Refused]:
 def check_attributes(item: Item, functions: Functions) -> Iterator[Refused]:
     """Refuses attributes of Serde's that don't go with the declaration."""
     reasons = []
-    if item.flattens() and (item.variants or not item.data.named or "deny_unknown_fields" in item.serde):
-        reasons.append("serde's `flatten` is covered in structs with named fields and without `deny_unknown_fields`")
+    flatten = "serde's `flatten` is covered in structs with named fields and without `deny_unknown_fields`"
+    yield from (Refused(f.line, f"{flatten}: hold such a struct in the variant", f"{item.name}.{v.name}.{f.name}")
+                for v in item.variants for f in v.data.fields if "flatten" in f.serde)
+    if item.flattens() and not item.variants and (not item.data.named or "deny_unknown_fields" in item.serde):
+        reasons.append(flatten)
     if any(sum("skip_serializing_if" in f.serde for f in data.fields) > MOST_SKIPPED for data in item.parts()):
         reasons.append(f"more than {MOST_SKIPPED} fields that may be left out are not covered: put some into a struct of their own")
     if item.sort == "struct":
         reasons += [f"serde's `{key}` is for enums: delete it"
-                    for key in sorted({"rename_all_fields", "untagged", "tag", "content"} & set(item.serde))]
+                    for key in sorted({"rename_all_fields", "untagged", "content"} & set(item.serde))]
+        if "tag" in item.serde:
+            reasons.append("serde's `tag` on a struct is not covered: write an enum of one variant, which has the struct's name")
     if "default" in item.serde and (item.sort != "struct" or not item.data.named):
         reasons.append("serde's `default` on a container is covered on structs with named fields")
     elif "default" in item.serde and not (item.defaults or item.serde["default"] or f"{item.name}::default" in functions.named):

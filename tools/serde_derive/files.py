@@ -172,7 +172,7 @@ class Reader(Parser):
         end = self.place
         self.pass_item()
         self.into.passed[name] = f"derives neither Serialize nor Deserialize (line {self.tokens[start].line}): derive" \
-                                 " what is derived here"
+                                 " what is derived here, or move it to a file that has its impls"
         self.note_passed(start, end, ", which derives neither Serialize nor Deserialize")
 
     def other(self, start: int) -> None:

@@ -125,8 +125,10 @@ class Holder:
         self.data, self.fields, self.count, self.places = data, data.fields, len(data.fields), places
         self.many = data.several
         self.steps = data.steps() if self.many else 0
-        # whether all are sent by a struct of references to them: a row has a lifetime for each reference in each of its types
-        self.lends = self.many and self.count > LONGEST_BORROWED and any(f.type.borrows() for f in data.fields)
+        # whether there are references in what a row has references to, and all are sent by a struct of references to them: a row
+        # has a lifetime for each in each of its types
+        self.borrows = any(f.type.borrows() or f.sending for f in data.fields)
+        self.lends = self.borrows and self.many and self.count > LONGEST_BORROWED
 
     @cached_property
     def reading(self) -> "Holder":
@@ -554,7 +556,7 @@ class Holder:
         """The place after the last value that stands in a row with the one at this place: not even that, where all are lent."""
         if self.lends:
             return start
-        return start + (LONGEST_BORROWED if any(f.type.borrows() for f in self.fields) else LONGEST_SENT)
+        return start + (LONGEST_BORROWED if self.borrows else LONGEST_SENT)
 
     def with_one_lifetime(self) -> "Holder":
         """The same of values that borrow for as long as a reference to them does."""

@@ -379,8 +379,8 @@ class Homes:
             raise ValueError(f"the type `{t.rust()}` is not covered: the types that are stand in docs/OWN_TYPES.md")
         if t.name not in self.items:
             if arguments:
-                raise ValueError(f"`{t.rust()}` is not covered: a type with arguments is where this file declares it: declare there"
-                                 " a struct around it, and hold that")
+                raise ValueError(f"`{t.rust()}` is not covered: a type with arguments is where this file declares it, or std's"
+                                 " is: write in another file a struct around it, with its impls by hand, and hold that")
             return self.own(t.name)
         item = self.items[t.name]
         whole = replace(self.part(t, holder, traits), arguments=arguments,

@@ -99,10 +99,10 @@ def check_data(item: Item, data: Data, line: int, where: str) -> Iterator[Refuse
                           f"{where}.{f.name}")
         elif f.aliases() or "default" in f.serde or f.skips or not (f.sent and f.read):
             yield Refused(f.line, "`alias`, `default`, `skip` and `skip_serializing_if` are not covered in a type that contains"
-                          " itself: hold the field in another struct", f"{where}.{f.name}")
+                          " itself: delete it, or write the impls by hand", f"{where}.{f.name}")
         elif f.by_function():
-            yield Refused(f.line, "a function of your own is not covered in a type that contains itself: hold the field in"
-                          " another struct", f"{where}.{f.name}")
+            yield Refused(f.line, "a function of your own is not covered in a type that contains itself: write the impls"
+                          " by hand", f"{where}.{f.name}")
     if len(data.fields) > most:
         sort += " next to its tag" * (most == LONGEST_BESIDE_TAG)
         yield Refused(line, f"more than {most} values are not covered in a {sort} of a type that contains itself: hold some in"

@@ -162,7 +162,7 @@ class Parser(Attributes):
         else:
             return Data()
         if not fields:
-            raise Refused(line, "what has no fields is covered without brackets alone: delete them")
+            raise Refused(line, "what has no fields is covered without brackets alone: delete them, and it is sent as a unit")
         if len(fields) > MOST_FIELDS:
             raise Refused(line, f"more than {MOST_FIELDS} fields are not covered: hold some in a struct of their own")
         return Data(style, fields)

@@ -1,5 +1,5 @@
 """Which fields are refused since their size depends on a parameter: proofs know nothing of it."""
-from itertools import islice
+from itertools import islice, takewhile
 from typing import Iterator, List
 
 from .declarations import Data, Field, Item, Refused
@@ -36,7 +36,8 @@ def reason(item: Item, data: Data, leaves: List[Field], f: Field, alone: bool) -
     if len(read) > (LONGEST_HELD if item.variants else LONGEST_ROW):
         return (f"a field of a parameter's type is covered among up to {LONGEST_ROW} of a struct and {LONGEST_HELD} of a variant:"
                 f" hold `Box<{name}>`")
-    if not all(one.is_plain() for one in read[:read.index(f) + 1]):
+    before = list(takewhile(lambda one: (one.line, one.known) != (f.line, f.known), read))
+    if not (f.is_plain() and all(one.is_plain() for one in before)):
         return ("a field of a parameter's type is covered before those that may be missing or have an alias: move it there, or"
                 f" hold `Box<{name}>`")
     return ""

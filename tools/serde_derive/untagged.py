@@ -5,7 +5,7 @@ from .declarations import Item, Refused, Variant
 from .entries import NO_ENTRIES, Entries, entries_inside, row_entries
 from .enums import EnumWriter
 from .held import HeldWriter
-from .holder import Holder, sending
+from .holder import LONGEST_ROW, Holder, sending
 from .text import DESERIALIZE, SERIALIZE, all_hold, arm, codes, elim, facts, function, ghost
 from .text import together
 from .types import READ, nest
@@ -25,11 +25,23 @@ def check_untagged(item: Item) -> Iterator[Refused]:
                           " place, are covered: hold a struct of them", where)
 
 
+class AlternativeHolder(Holder):
+    """What a variant holds: it is read as a value of its own type."""
+
+    big = False
+
+    def maker_name(self) -> str:
+        """The struct of many fields by name has a function of the other name."""
+        return super().maker_name() + "_variant" * (self.count > LONGEST_ROW)
+
+
 class UntaggedWriter(EnumWriter):
     """The impls of an untagged enum, whose variants hold nothing, or values by place or by name."""
 
     def __init__(self, item: Item):
         super().__init__(item)
+        self.variants = [(v, AlternativeHolder("Variant", [item.wire, i, v.wire], v.data, v.owner))
+                         for i, v in enumerate(item.variants)]
         # a variant of values by name is sent and read as a struct is
         self.structs = {v.name: HeldWriter(item, v, v.owner, item.wire) for v in item.variants if v.data.named}
         self.holders = {v.name: holder for v, holder in self.variants}

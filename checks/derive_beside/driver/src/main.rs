@@ -3,12 +3,14 @@
 #![allow(dead_code)]
 
 mod attributes;
+mod by_functions;
 mod choices;
 mod cursor;
 mod inlined;
 mod more;
 mod nested;
 mod others;
+mod rules;
 mod sorts;
 mod trees;
 mod typed;

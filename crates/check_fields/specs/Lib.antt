@@ -1,0 +1,2 @@
+-- What is said of functions that read and send fields.
+pub mod Rules
