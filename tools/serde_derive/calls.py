@@ -8,7 +8,7 @@ from .declarations import Field, Item, Reading, Refused, Sending, Test
 from .files import File
 from .homes import STANDARD, Homes, placed
 from .tokens import KEYWORDS, ROOTS
-from .types import ELSEWHERE, HOLDERS, LEAVES, Type, snake
+from .types import ELSEWHERE, HOLDERS, LEAVES, STATIC, Type, angled, snake
 
 PATH = re.compile(r"[a-zA-Z_]\w*(?:::[a-zA-Z_]\w*)+", re.ASCII)
 # what a path begins with that names a function of std's, of which the tool knows what it does, or that it doesn't
@@ -111,9 +111,9 @@ def settle_read(f: Field, homes: Homes) -> Iterator[str]:
         function = own_function(path, homes)
         refusal, gives = f"{function.name}_refusal", f"{pascal(function.name)}Gives"
         f.reading = Reading(function.code, *(said(word, function, homes) for word in (refusal, gives)))
-        yield (f"`{path}`, which needs the contract `pub fn {function.last()}<'de, 'n: 'de>(alloc: Global, from: Deserializer<'de, 'n>)"
-               f" -> Result<{f.type.rust()}> ensures {{ Reads ({refusal} (subject from.entry)) ({gives} (subject from.entry)) result }}`,"
-               f" by the definitions `{refusal}` and `{gives}` of `{function.module}`")
+        yield (f"`{path}`, which needs the contract `pub fn {function.last()}<'de, 'n: 'de>(alloc: Global,"
+               f" from: Deserializer<'de, 'n>) -> Result<{f.type.rust()}> ensures {{ Reads ({refusal} (subject from.entry))"
+               f" ({gives} (subject from.entry)) result }}`, by the definitions `{refusal}` and `{gives}` of `{function.module}`")
 
 
 def settle_sent(f: Field, homes: Homes) -> Iterator[str]:
@@ -123,10 +123,13 @@ def settle_sent(f: Field, homes: Homes) -> Iterator[str]:
         function = own_function(path, homes)
         script, lawful = f"{function.name}_script", f"{function.name}_lawful"
         f.sending = Sending(function.code, *(said(word, function, homes) for word in (script, lawful)))
-        yield (f"`{path}`, which needs the contract `pub fn {function.last()}<S: Serializer>(value: &{f.type.rust()}, alloc: Global,"
-               f" serializer: &mut S) -> Result<()> ensures {{ Sends S.step S.refuses (S.seen serializer.old) ({script} value.now) result"
-               f" (S.seen serializer.new) }}`, by the definitions `{script}` and `{lawful}` of `{function.module}`, the latter of the type"
-               f" `(x : {f.type.seen()}) (readable : Bool) → IsLawful ({script} x readable)`")
+        seen = "_" if f.type.borrows() else f.type.seen()
+        given = angled(*(one for one in f.type.borrows() if one != STATIC), "S: Serializer")
+        yield (f"`{path}`, which needs the contract `pub fn {function.last()}{given}(value: &{f.type.rust()}, alloc: Global,"
+               f" serializer: &mut S) -> Result<()> ensures {{ Sends S.step S.refuses (S.seen serializer.old) ({script} value.now)"
+               f" result (S.seen serializer.new) }}`, by the definitions `{script}` and `{lawful}` of `{function.module}`, the latter"
+               f" of the type `(x : {seen}) (readable : Bool) → IsLawful ({script} x readable)`; `#[tactic(auto,"
+               " using(content_ser::proofs::Sending::sending))]` above it lets its proof be found")
 
 
 def own_function(path: str, homes: Homes) -> Called:
