@@ -15,6 +15,7 @@ from .types import DEFAULTS, READ, Type, angled, bounded, in_term, nest
 
 MOST_AT_ONCE = 8  # of more variants it is proved one by one that they come back: the checker's steps for one proof are so many
 LONGEST_BESIDE = 5  # as many values by name are sent in one row with the tag: proofs of longer ones are not found
+MOST_BORROWED = 2  # as many stand there in a row with references in what it refers to
 ELEMENTS = BY_PLACE._replace(
     script=("element_first {inner}", "end_script"),
     lawful=("element_fits {inner}", "end_fits"),
@@ -49,6 +50,7 @@ class ContentHolder(TaggedHolder):
     def __init__(self, item: Item, v: Variant):
         self.struct = HeldWriter(item, v, v.content, v.wire) if v.data.named else None
         self.inside = self.struct.holder if self.struct else TupleHolder(v.data, v.content)
+        self.inside.lends |= bool(self.struct) and self.inside.borrows and self.inside.count > MOST_BORROWED
         content = item.serde["content"]
         self.held = Type("tuple", tuple(f.type for f in v.data.fields))
         if self.struct:
