@@ -34,7 +34,7 @@ def name_functions(items: List[Item]) -> None:
     def clashes(name: str) -> bool:
         listed = pascal(name).lower()
         return (name in taken or listed in lists or listed in owned
-                or any(f"{verb}_{name}" in forbidden for verb in ("send_whole", "send_entries_of", "read", "make", "known")))
+                or any(f"{verb}_{name}" in forbidden for verb in ("send_whole", "send_entries_of", "read", "make", "made", "known")))
 
     for more, named in ("_type", [(item, item.name) for item in items]), (
             "_variant", [(v, item.name + v.name) for item in items for v in item.variants]):

@@ -32,7 +32,8 @@ class AlternativeHolder(Holder):
 
     def maker_name(self) -> str:
         """The struct of many fields by name has a function of the other name."""
-        return super().maker_name() + "_variant" * (self.count > LONGEST_ROW)
+        made = super().maker_name()
+        return made.replace("make_", "made_", 1) if self.count > LONGEST_ROW else made
 
 
 class UntaggedWriter(EnumWriter):
