@@ -247,3 +247,7 @@ enum C<'a, 'b, T> { X(&'a T), Y(A<'a, 'b>) }
 // 2: serde's `serialize_with` names no function: write its path
 #[derive(Serialize)]
 struct A { #[serde(serialize_with = "")] x: u8 }
+
+// 2: A.X: serde's `other` is for the last variant: move this one to the end
+#[derive(Deserialize)]
+enum A { #[serde(other)] X, Y }

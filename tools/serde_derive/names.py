@@ -4,7 +4,7 @@ from typing import Iterator, List, Optional, Sequence, Tuple
 
 from .calls import ANYTHING, is_path
 from .cases import CASES, same
-from .declarations import Data, Field, Item, Named, Refused, Value, Variant, absent_of
+from .declarations import Data, Field, Item, Named, NotRust, Refused, Value, Variant, absent_of
 from .functions import EMPTY, Functions
 from .tokens import LONGEST
 from .types import SKIPS
@@ -58,6 +58,8 @@ def check_tags(item: Item, variants: List[Tuple[str, Variant]]) -> Iterator[Refu
     for where, v in others:
         if v.data.fields or len(others) > 1 or not v.read:
             yield Refused(v.line, "serde's `other` is for one variant that holds nothing, and is read: delete it", where)
+        elif v is not item.variants[-1]:
+            yield NotRust(v.line, "serde's `other` is for the last variant: move this one to the end", where)
     if variants and not any(v.read for v in item.variants):
         yield Refused(item.line, "an enum of which no variant is read is not covered: have one read", item.name)
 
