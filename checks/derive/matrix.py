@@ -201,6 +201,15 @@ def attributes() -> Dict[str, str]:
     for place, one in enumerate(["u64", "String", "Option<i32>", "Vec<String>", "(u8, String)", "BTreeMap<String, u8>", "Own"]):
         made[f"transparent_{place}"] = f"{ALL}\n#[serde(transparent)]\npub struct Tried(pub {one});"
     made["transparent_named"] = f"{ALL}\n#[serde(transparent)]\npub struct Tried {{ pub only: Box<Own> }}"
+    skipped = 'pub x: String, #[serde(skip)] pub y: f64, #[serde(skip, default = "five")] pub z: i32, #[serde(skip)] pub w: PathBuf'
+    made["transparent_skipped"] = f"{BOTH}\n#[serde(transparent)]\npub struct Tried {{ {skipped} }}\n\nfn five() -> i32 {{ 5 }}"
+    made["transparent_skipped_place"] = f"{ALL}\n#[serde(transparent)]\npub struct Tried(#[serde(skip)] pub Option<u8>, pub Vec<Own>);"
+    made["transparent_two_ways"] = (f"{ALL}\n#[serde(transparent)]\npub struct Tried(#[serde(skip_deserializing)] pub String,"
+                                    " #[serde(skip_serializing)] pub (u8, bool));")
+    made["transparent_with"] = (f'{ALL}\n#[serde(transparent)]\npub struct Tried(#[serde(with = "crate::rules")] pub bool,'
+                                " #[serde(skip)] pub Vec<u8>);")
+    made["transparent_with_one"] = (f'{ALL}\n#[serde(transparent)]\npub struct Tried {{ #[serde(serialize_with ='
+                                    ' "crate::rules::serialize")] pub only: bool }')
     return made
 
 
@@ -392,6 +401,7 @@ def generics() -> Dict[str, str]:
         "generic_internal": f'{ALL}\n#[serde(tag = "kind")]\npub enum Tried<T> {{ A, B {{ f0: T, f1: u8 }} }}',
         "generic_adjacent": f'{ALL}\n#[serde(tag = "t", content = "c")]\npub enum Tried<T> {{ A, B(T), C(Vec<T>) }}',
         "generic_transparent": f"{ALL}\n#[serde(transparent)]\npub struct Tried<T> {{ pub f0: T }}",
+        "generic_transparent_skipped": f"{ALL}\n#[serde(transparent)]\npub struct Tried<T> {{ pub f0: T, #[serde(skip)] pub f1: Vec<T> }}",
         "generic_newtype": f"{ALL}\npub struct Tried<T>(pub Vec<T>);",
         "generic_two": f"{ALL}\npub struct Tried<K, V> {{ pub key: K, pub value: V, pub more: Vec<V> }}",
         "generic_closed": f"{ALL}\n#[serde(deny_unknown_fields)]\npub struct Tried<T> {{ pub f0: T, pub f1: Vec<T> }}",

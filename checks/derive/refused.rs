@@ -619,7 +619,7 @@ struct C { #[serde(default)] x: (u8, Box<u8>) }
 #[serde(transparent, rename = "B")]
 struct A(u8);
 
-// 3: A: serde's `transparent` is covered on structs of one field
+// 3: A: serde's `transparent` is for structs of one field beside skipped ones
 #[derive(Serialize)]
 #[serde(transparent)]
 struct A(u8, u8);
@@ -628,6 +628,33 @@ struct A(u8, u8);
 #[derive(Serialize)]
 #[serde(transparent)]
 struct A { #[serde(default)] x: u8 }
+
+// 3: A: serde's `transparent` is for structs of one field beside skipped ones
+// 6: B.x: serde's `skip_serializing_if` on a field is not covered where its struct is `transparent`: delete it
+// 6: B.y: its default is not covered: hold a number, bool, char, String, PathBuf, Option, Vec, map, set, a tuple of these or a type of your own that derives Default
+// 9: C: serde's `transparent` is for structs of one field beside skipped ones
+#[derive(Serialize, Deserialize)]
+#[serde(transparent)]
+struct A { x: u8, #[serde(skip_deserializing)] y: u8 }
+#[derive(Deserialize)]
+#[serde(transparent)]
+struct B { #[serde(skip_serializing_if = "Option::is_none")] x: Option<u8>, #[serde(skip)] y: Box<u8> }
+#[derive(Deserialize)]
+#[serde(transparent)]
+struct C { #[serde(skip)] x: u8 }
+
+// 5: A.b: what is flattened is not covered where a function of yours sends it: hold the value itself
+// 10: C.d: what is flattened is not covered where a function of yours reads it: hold the value itself
+#[derive(Serialize)]
+#[serde(transparent)]
+struct B(#[serde(serialize_with = "crate::rules::f")] BTreeMap<String, u8>);
+#[derive(Serialize)]
+struct A { #[serde(flatten)] b: B }
+#[derive(Deserialize)]
+#[serde(transparent)]
+struct D { #[serde(deserialize_with = "crate::rules::f")] x: BTreeMap<String, u8>, #[serde(skip)] y: u8 }
+#[derive(Deserialize)]
+struct C { #[serde(flatten)] d: D }
 
 // 5: A.b: what is flattened is covered where it is a struct or an enum of this file, without parameters, a BTreeMap, a HashMap, or one of these in an Option or a Box: hold one, or delete `flatten`
 #[derive(Serialize)]
@@ -651,7 +678,7 @@ struct A { b: B }
 #[derive(Serialize)]
 struct B { x: u8 }
 
-// 3: A: serde's `transparent` is covered on structs of one field
+// 3: A: serde's `transparent` is for structs of one field beside skipped ones
 #[derive(Serialize)]
 #[serde(transparent)]
 enum A { B(u8) }
@@ -890,7 +917,7 @@ enum A<T> { X { x: T }, Y(u8, T), Z(T), W { x: Box<T>, y: u8 } }
 // 4: B.Y: serde's `with` on a variant is not covered: it is for a field
 // 4: B.X.0: serde's `deserialize_with` is covered in fields with names: give them names
 // 6: C.x: serde's `serialize_with` is not covered in a type with parameters: hold the field in another struct
-// 9: D.x: serde's `with` on a field is not covered where its struct is `transparent`: delete it
+// 9: D.x: serde's `with` is not covered in a type with parameters: hold the field in another struct
 // 11: E.x: such attributes don't go together: `flatten` and `with`: delete one of them
 // 13: F.y: serde's `with` so is not covered: write `with = ".."`
 // 13: F.z: serde's `deserialize_with` so is not covered: write `deserialize_with = ".."`
@@ -904,7 +931,7 @@ enum B { X(#[serde(deserialize_with = "crate::rules::f")] u8), #[serde(with = "c
 struct C<T> { #[serde(serialize_with = "crate::rules::f")] x: Vec<T>, y: T }
 #[derive(Serialize, Deserialize)]
 #[serde(transparent)]
-struct D { #[serde(with = "crate::rules")] x: u8 }
+struct D<T> { #[serde(with = "crate::rules")] x: T }
 #[derive(Serialize, Deserialize)]
 struct E { #[serde(flatten, with = "crate::rules")] x: BTreeMap<String, u8> }
 #[derive(Serialize, Deserialize)]

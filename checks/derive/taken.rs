@@ -326,6 +326,37 @@ enum C { X(u8), #[default] Y }
 #[serde(transparent)]
 struct A { x: Vec<u8> }
 
+// 3: no RoundTrip is written for `A`: `y` is not sent
+// 3: passed over: `rename` in a `transparent` struct, where Serde doesn't read it
+// 6: passed over: `alias` in a `transparent` struct, where Serde doesn't read it
+// + ghost gives = { λ s p. (p.y ≡ 0) × (string_bytes p.z ≡ []) × ⟦<Vec<u8> as Deserialize<'de>>⟧.gives s p.x };
+// + let x = Deserialize::deserialize(alloc, from)?; let y: u8 = Absent::absent(alloc); let z: String = Absent::absent(alloc); Ok(A { x, y, z })
+// + ghost gives = { λ s p. (p.0 ≡ false) × ⟦<u8 as Deserialize<'de>>⟧.gives s p.1 };
+// + impl<'de> RoundTrip<'de> for B
+// + self.0.serialize(alloc, serializer)
+// - RoundTrip<'de> for A
+// - Field1Of
+#[derive(PartialEq, Eq, Serialize, Deserialize)]
+#[serde(transparent)]
+struct A { #[serde(rename = "w")] x: Vec<u8>, #[serde(skip)] y: u8, #[serde(skip, default)] z: String }
+#[derive(PartialEq, Eq, Serialize, Deserialize)]
+#[serde(transparent)]
+struct B { #[serde(alias = "y")] x: i8 }
+#[derive(Serialize, Deserialize)]
+#[serde(transparent)]
+struct C(#[serde(skip_deserializing)] bool, #[serde(skip_serializing)] u8);
+
+// 3: called: `crate::rules::deserialize`, which needs the contract `pub fn deserialize<'de, 'n: 'de>(alloc: Global, from: Deserializer<'de, 'n>) -> Result<u8> ensures { Reads (deserialize_refusal (subject from.entry)) (DeserializeGives (subject from.entry)) result }`, by the definitions `deserialize_refusal` and `DeserializeGives` of `Rattle.a.specs.Rules`
+// 3: called: `crate::rules::serialize`, which needs the contract `pub fn serialize<S: Serializer>(value: &u8, alloc: Global, serializer: &mut S) -> Result<()> ensures { Sends S.step S.refuses (S.seen serializer.old) (serialize_script value.now) result (S.seen serializer.new) }`, by the definitions `serialize_script` and `serialize_lawful` of `Rattle.a.specs.Rules`, the latter of the type `(x : ℕ) (readable : Bool) → IsLawful (serialize_script x readable)`; `#[tactic(auto, using(content_ser::proofs::Sending::sending))]` above it lets its proof be found
+// 3: no RoundTrip is written for `A`: `0` is read or sent by a function of your own
+// + crate::rules::serialize(&self.0, alloc, serializer)
+// + let x1 = crate::rules::deserialize(alloc, from)?;
+// + refusal = { rules_said.deserialize_refusal };
+// - Send1Of
+#[derive(PartialEq, Eq, Serialize, Deserialize)]
+#[serde(transparent)]
+struct A(#[serde(with = "crate::rules")] u8);
+
 // 2: no RoundTrip is written for `A`: `x` may be left out, and is not read where it is missing: give it `default` too
 // 4: no RoundTrip is written for `B`: `A`, which it holds, does not come back
 // 6: no RoundTrip is written for `D`: `A`, which it holds, does not come back

@@ -72,8 +72,9 @@ def check_attributes(item: Item, functions: Functions) -> Iterator[Refused]:
     if item.transparent():
         others = sorted(set(item.serde) - {"transparent"})
         reasons += [f"such attributes don't go together: `transparent` and `{key}`: delete one of them" for key in others]
-        if item.sort != "struct" or len(item.data.fields) != 1:
-            reasons.append("serde's `transparent` is covered on structs of one field")
+        ways = {"Serialize": [f for f in item.data.fields if f.sent], "Deserialize": [f for f in item.data.fields if f.read]}
+        if item.sort != "struct" or any(len(ways[trait]) != 1 for trait in ways if trait in item.derives):
+            reasons.append("serde's `transparent` is for structs of one field beside skipped ones")
     if ("content" in item.serde) > ("tag" in item.serde) or {"tag", "untagged"} <= set(item.serde):
         reasons.append("such attributes don't go together: write `tag`, `tag` and `content`, or `untagged`")
     yield from (Refused(item.line, reason, item.name) for reason in reasons)
@@ -85,10 +86,11 @@ def check_field(item: Item, f: Field) -> Iterator[str]:
     """Why attributes of Serde's don't go with a field of this item."""
     for key in sorted(set(f.serde) - BESIDE_FLATTEN) if "flatten" in f.serde else ():
         yield f"such attributes don't go together: `flatten` and `{key}`: delete one of them"
-    if item.transparent():
+    if item.transparent() and (f.sent or f.read):
+        passed = {*OWN_FUNCTIONS, *SKIP, *["default"] * (not f.read)}
         yield from (f"serde's `{key}` on a field is not covered where its struct is `transparent`: delete it"
-                    for key in sorted(f.serde))
-    elif "flatten" not in f.serde:
+                    for key in sorted(set(f.serde) - passed))
+    if "flatten" not in f.serde:
         yield from check_functions(item, f, [key for key in OWN_FUNCTIONS if key in f.serde])
 
 
@@ -96,7 +98,7 @@ def check_functions(item: Item, f: Field, keys: List[str]) -> Iterator[str]:
     """Why functions of the user's, which these attributes name, don't read or send a field of this item."""
     if "with" in keys[:1] and len(keys) > 1:
         yield f"such attributes don't go together: `with` and `{keys[1]}`: delete one of them"
-    elif keys and f.name.isdigit():
+    elif keys and f.name.isdigit() and not item.transparent():
         yield f"serde's `{keys[0]}` is covered in fields with names: give them names"
     elif keys and item.parameters:
         yield f"serde's `{keys[0]}` is not covered in a type with parameters: hold the field in another struct"

@@ -421,8 +421,16 @@ class Item(Named):
         return any("flatten" in f.serde for f in self.fields())
 
     def transparent(self) -> bool:
-        """Whether it is sent and read as its one field is."""
+        """Whether it is sent and read as a field of it is."""
         return "transparent" in self.serde
+
+    def field_sent(self) -> Field:
+        """The field that a struct of one value is sent as."""
+        return next((f for f in self.data.fields if f.sent), self.data.fields[0])
+
+    def field_read(self) -> Field:
+        """The field that a struct of one value is read as."""
+        return next((f for f in self.data.fields if f.read), self.data.fields[0])
 
     def asked(self) -> bool:
         return any(data.asked() for data in self.parts())
@@ -494,7 +502,7 @@ class Item(Named):
 
     def alone(self) -> Optional[Type]:
         """The type that it is read of null by, where it is."""
-        return self.data.fields[0].type if self.data.style == "Newtype" or self.transparent() else None
+        return self.field_read().type if self.data.style == "Newtype" or self.transparent() else None
 
     def may_be_null(self) -> bool:
         """Whether it may be read of null, where CBOR keeps its values."""

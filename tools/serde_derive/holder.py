@@ -401,8 +401,7 @@ class Holder:
     def all_taken(self, trait: str, source: str) -> List[str]:
         """The statements that read or make all values, as `read_places` call them."""
         if self.reading is not self:
-            return self.reading.all_taken(trait, source) + [
-                f"let {place}: {f.type.rust()} = {plain(f.made) or 'Absent::absent(alloc)'};" for f, place in self.unread()]
+            return self.reading.all_taken(trait, source) + self.unread_made()
         if self.big:
             return [f"let row: {self.run(0)} = {trait}::read(alloc, {source})?;"]
         places = self.places
@@ -412,6 +411,10 @@ class Holder:
                 pattern = f"({place}, {pattern})"
             return [f"let {pattern} = {self.step_name(0)}(alloc, {source})?;", *self.apart(places[self.steps:], self.steps)]
         return self.taken(trait, source, places)
+
+    def unread_made(self) -> List[str]:
+        """The statements that make the values that aren't read."""
+        return [f"let {place}: {f.type.rust()} = {plain(f.made) or 'Absent::absent(alloc)'};" for f, place in self.unread()]
 
     def read_places(self) -> List[str]:
         """What code calls the values that were read or made: the struct of those that were read, where there is one."""

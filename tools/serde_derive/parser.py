@@ -214,6 +214,8 @@ class Parser(Attributes):
             if not item.data.named:
                 self.bounds(";")
                 self.expect(";")
+            if "transparent" in item.serde:
+                self.transparent(item.data)
             return
         self.expect("{")
         self.listed("}", lambda: self.variant(item.variants))
@@ -221,6 +223,15 @@ class Parser(Attributes):
             raise Refused(line, "an enum of no variants is not covered, as no value of it is sent or read: delete it")
         if len(item.variants) > MOST_VARIANTS:
             raise Refused(line, f"more than {MOST_VARIANTS} variants are not covered: hold a text or a number")
+
+    def transparent(self, data: Data) -> None:
+        """Passes over what Serde does in the fields of a transparent struct: other names, and a PhantomData."""
+        for f in data.fields:
+            if f.type.name.split("::")[-1] == "PhantomData":
+                f.serde.setdefault("skip", "")
+            for key in [key for key in ("rename", "alias") if key in f.serde]:
+                del f.serde[key]
+                self.notes.append((f.line, f"passed over: `{key}` in a `transparent` struct, where Serde doesn't read it"))
 
     def parameter(self, item: Item) -> None:
         """A type parameter; its bounds are left out, as each impl has those that it needs."""

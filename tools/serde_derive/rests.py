@@ -30,7 +30,8 @@ def why_not(t: Type, items: Dict[str, Item]) -> str:
 def why_not_struct(item: Item, items: Dict[str, Item]) -> str:
     """The same of a struct: one of one value is read as that, and of one with named fields Serde looks for their names alone."""
     if item.transparent() or item.data.style == "Newtype":
-        return why_not(item.data.fields[0].type, items)
+        by_function = f"{WHAT} is not covered where a function of yours reads it: hold the value itself"
+        return by_function if item.field_read().function("deserialize") else why_not(item.field_read().type, items)
     if not item.data.named:
         return COVERED
     if item.data.closed:

@@ -28,13 +28,14 @@ def why_unspread(t: Type, items: Dict[str, Item]) -> str:
         return ""
     if not part or t.arguments or not (part.variants or part.data.style in ("Struct", "Newtype")):
         return UNSPREAD
+    part.spread = True
+    if part.data.style == "Newtype" or part.transparent():
+        by_function = "is not covered where a function of yours sends it: hold the value itself"
+        return by_function if part.field_sent().function("serialize") else why_unspread(part.field_sent().type, items)
     most = MOST_SPREAD - ("tag" in part.serde)
     rows = [(v.beside or v).data.leaves() for v in part.variants] or [part.data.leaves()]
     if max(map(len, rows)) > most:
         return f"is covered so where it has up to {most} fields: hold some in a struct that is not flattened"
-    part.spread = True
-    if part.data.style == "Newtype" or part.transparent():
-        return why_unspread(part.data.fields[0].type, items)
     return next(filter(None, (why_variant_unspread(part, v, items) for v in part.variants)), "")
 
 

@@ -3,6 +3,7 @@ from typing import Callable, Iterator, List
 
 from .declarations import Data, Item
 from .entries import entries_inside, row_entries
+from .functions import said_of
 from .holder import FLATTENED, KEYED_ENTRY, UNLESS_ENTRY, Holder
 from .text import ABSENT, DESERIALIZE, KNOWN, REFUSED_NULL, SERIALIZE, all_hold, facts, function, ghost
 from .types import READ, TRIP, in_term
@@ -163,32 +164,40 @@ class StructWriter:
 
 
 class TransparentWriter(StructWriter):
-    """The impls of a struct that is sent and read as its one field is."""
+    """The impls of a struct that is sent as one field is, and read as one is."""
 
     def __init__(self, item: Item):
         super().__init__(item)
-        self.field, self.type, self.value, self.see = self.fields[0], self.fields[0].type, self.values[0], self.sees[0]
+        self.field, self.read = item.field_sent(), item.field_read()
+        at = self.fields.index(self.field)
+        self.type, self.value, self.see = self.field.type, self.values[at], self.sees[at]
 
     def functions(self) -> List[str]:
         return []
 
     def serialize(self) -> List[str]:
-        return [ghost("script", f"λ p. {self.type.member('Serialize', 'script')} {self.value}"),
+        value, sending = f"self.{self.field.name}", self.field.sending
+        send = f"{sending.code}(&{value}, alloc, serializer)" if sending else f"{value}.serialize(alloc, serializer)"
+        return [ghost("script", f"λ p. {self.field.script(self.value)}"),
                 ghost("lawful", self.lawful()),
-                function(SERIALIZE, f"self.{self.field.name}.serialize(alloc, serializer)")]
+                function(SERIALIZE, send)]
 
     def entries(self) -> List[str]:
         return entries_inside(self.type, self.value, f"&self.{self.field.name}").members("p")
 
     def lawful(self) -> str:
-        return f"λ p readable. {self.type.lawful(self.value)}"
+        return f"λ p readable. {self.field.lawful(self.value)}"
 
     def deserialize(self) -> List[str]:
-        place = self.holder.data.places()[0]
-        return [ghost("refusal", self.type.member(READ, "refusal")),
-                ghost("gives", f"λ s p. {self.type.member(READ, 'gives')} s {self.value}"),
-                function(DESERIALIZE.format(self.whole.rust()), f"let {place} = Deserialize::deserialize(alloc, from)?;",
-                         f"Ok({self.item.data.made(self.item.name, [place])})")]
+        places, at, reading = self.holder.places, self.fields.index(self.read), self.read.reading
+        refusal, gives = (getattr(reading, word) if reading else self.read.type.member(READ, word) for word in ("refusal", "gives"))
+        given = [f"{gives} s {self.values[at]}"]
+        given = [f"({said_of(f.missing, value)})" for f, value in zip(self.fields, self.values) if not f.read] + given
+        read = f"let {places[at]} = {reading.code if reading else 'Deserialize::deserialize'}(alloc, from)?;"
+        return [ghost("refusal", refusal),
+                ghost("gives", f"λ s p. {' × '.join(given)}"),
+                function(DESERIALIZE.format(self.whole.rust()), read, *self.holder.unread_made(),
+                         f"Ok({self.item.data.made(self.item.name, places)})")]
 
     def round_trip(self) -> List[str]:
         exists = [ghost("exists", f"λ p. {self.type.member(TRIP, 'exists')} {self.value}")] * (not self.type.plain)
