@@ -259,6 +259,7 @@ def with_functions() -> Dict[str, str]:
     reads, sends, both = 'deserialize_with = "crate::rules::deserialize"', 'serialize_with = "crate::rules::serialize"', 'with = "crate::rules"'
     text = 'deserialize_with = "crate::rules::read_text", serialize_with = "crate::rules::send_text"'
     some = f'{text}, default, skip_serializing_if = "Option::is_none"'
+    places = ', default, skip_serializing_if = "Option::is_none"'
     inside = f"{ALL}\npub struct Inside {{ #[serde({both})] pub a: bool, pub b: i32 }}\n\n"
     made = {}
     for sort, said, one in (
@@ -276,6 +277,12 @@ def with_functions() -> Dict[str, str]:
         made[f"with_{count}"] = f"{ALL}\npub struct Tried {{ {public} }}"
         for sort, tag in (("variant", ""), ("internal", 'tag = "kind"'), ("adjacent", 'tag = "kind", content = "of"')):
             made[f"with_in_{sort}_{count}"] = f"{ALL}\n{f'#[serde({tag})]{chr(10)}' * bool(tag)}pub enum Tried {{ A {{ {inner} }}, B }}"
+        by_place = ", ".join(f"{f'#[serde({said})] '.replace(places, '') * bool(said)}{one}" for said, one in islice(cycle(kinds), count))
+        made[f"with_place_{count}"] = f"{ALL}\npub struct Tried({by_place});"
+        made[f"with_place_in_variant_{count}"] = f"{ALL}\npub enum Tried {{ A({by_place}), B }}"
+    made["with_place"] = f"{ALL}\npub struct Tried(#[serde({both})] pub bool);"
+    made["with_place_in_variant"] = (f"{ALL}\npub enum Tried {{ A(#[serde({both})] bool), B(#[serde({reads})] bool, i32), C(#[serde({sends})] bool),"
+                                     f" D(#[serde(skip)] String, #[serde({both})] bool, #[serde(skip, {both})] u8) }}")
     made["with_in_untagged"] = f"{ALL}\n#[serde(untagged)]\npub enum Tried {{ A {{ x: u8, #[serde({both})] y: bool }}, B }}"
     made["with_closed"] = f"{BOTH}\n#[serde(deny_unknown_fields)]\npub struct Tried {{ pub x: u8, #[serde({both})] pub y: bool }}"
     made["with_flat"] = f"{inside}{ALL}\npub struct Tried {{ pub x: u8, #[serde(flatten)] pub inside: Inside, #[serde({some})] pub y: Option<String> }}"
@@ -285,6 +292,43 @@ def with_functions() -> Dict[str, str]:
     made["with_held"] = f"{inside}{ALL}\npub struct Tried {{ pub inside: Inside, pub more: Vec<Inside> }}"
     made["with_borrowed"] = f"{SENT}\npub struct Tried<'a> {{ pub x: &'a str, #[serde({sends})] pub y: bool }}"
     return made
+
+
+def opaque() -> Dict[str, str]:
+    """Fields of types that are not covered, which are neither sent nor read."""
+    skips = ["Option<std::time::Instant>", "std::cell::RefCell<u8>", "Vec<std::time::Duration>", "[f64; 4]",
+             "(u8, u8, u8, u8, f64)", "HashMap<Vec<u8>, std::time::Instant>", "Option<crate::rules::Cache<u8>>", "crate::rules::Cache<String>"]
+    held_in = [f"#[serde(skip)] pub f{i}: {one}" for i, one in enumerate(skips)]
+    held_in.append('#[serde(skip, default = "crate::rules::pause")] pub g: std::time::Duration')
+    plain = ["std::sync::atomic::AtomicU8", "std::cell::OnceCell<String>", "std::cell::Cell<i32>", "std::sync::OnceLock<u8>",
+             "Option<std::cmp::Ordering>", "Vec<std::num::Wrapping<u8>>", "Option<Result<u8, std::convert::Infallible>>",
+             "Option<std::ops::Range<u8>>", "Option<std::collections::LinkedList<u8>>", "Option<std::net::IpAddr>",
+             "std::sync::Mutex<u8>", "Option<std::fs::File>"]
+    made = {f"opaque_skipped_{i}": f"{BOTH}\npub struct Tried {{ pub x: u8, #[serde(skip)] pub y: {one}, pub z: String }}"
+            for i, one in enumerate(skips + plain)}
+    made["opaque_skipped_all"] = f"{BOTH}\npub struct Tried {{ pub x: u8, {', '.join(held_in)} }}"
+    made["opaque_default"] = (f"{BOTH.replace('(', '(Default, ')}\npub struct Inside {{ pub x: String, #[serde(skip)] pub of: PhantomData<u8>,"
+                              f" #[serde(skip)] pub y: std::cell::Cell<u8> }}\n\n{BOTH}\npub struct Tried {{ #[serde(default)] pub a: Inside,"
+                              " #[serde(skip)] pub b: Inside }")
+    inner = ", ".join(one.replace("pub ", "") for one in held_in if not re.search(r"HashMap|\[f64", one))
+    for sort, tag in (("variant", ""), ("internal", 'tag = "kind"'), ("adjacent", 'tag = "kind", content = "of"'), ("untagged", "untagged")):
+        made[f"opaque_in_{sort}"] = f"{BOTH}\n{f'#[serde({tag})]{chr(10)}' * bool(tag)}pub enum Tried {{ A {{ x: i8, {inner} }}, B(u8) }}".replace(
+            ", B(u8)", ", B" if sort == "internal" else ", B(u8)")
+    return made
+
+
+def converted() -> Dict[str, str]:
+    """Types that are read and sent as others, to which modules by hand convert them."""
+    copied, point = ALL.replace("derive(", "derive(Clone, Copy, "), f"{ALL}\npub struct Point {{ pub x: u8, pub y: i32 }}\n\n"
+    return {
+        "converted_number": f'{copied}\n#[serde(from = "i64", into = "i64")]\npub enum Tried {{ Low, High }}',
+        "converted_text": f'{ALL}\n#[serde(from = "String", into = "String")]\npub enum Tried {{ Plain, Named(String, u8) }}',
+        "converted_own": f'{point}{ALL}\n#[serde(from = "Point", into = "Point", rename_all = "camelCase")]\npub struct Tried(pub u8, pub i32);',
+        "converted_read": f'{BOTH}\n#[serde(from = "(u8, String)", tag = "kind")]\npub enum Tried {{ A {{ a: u8 }}, B {{ b: String }} }}',
+        "converted_sent": f'{BOTH.replace("derive(", "derive(Default, ")}\n#[serde(into = "Option<(u8, bool)>", default)]\n'
+                          'pub struct Tried { pub a: u8, pub b: Option<String>, #[serde(rename = "d")] pub c: bool }',
+        "converted_try_number": f'{copied}\n#[serde(try_from = "i16", into = "i16")]\npub struct Tried {{ pub x: i16 }}',
+    }
 
 
 def flattened() -> Dict[str, str]:
@@ -350,6 +394,11 @@ def one_way() -> Dict[str, str]:
                              " #[serde(skip)] pub d: f64, #[serde(skip)] pub e: () }")
     made["unsent_variants_untagged"] = (f"{ALL}\n#[serde(untagged)]\npub enum Tried {{ A(u8), #[serde(skip)] B(String), #[serde(skip_serializing)]"
                                         " C { x: u8 }, #[serde(skip_deserializing)] D { y: String }, E(String, u8) }")
+    held_by = '(#[serde(with = "crate::rules")] bool, [u8; 3], #[serde(default = "five")] Box<u8>)'
+    made["unsent_variants_of_any"] = (f"{BOTH}\npub enum Tried {{ A(u8), #[serde(skip)] B{held_by}, #[serde(skip)] C(#[serde(skip)] std::time::Instant),"
+                                      f" #[serde(skip)] D {held(['f64', 'std::time::Duration', 'i32'], 'named')}, #[serde(skip_deserializing)] E {{"
+                                      " #[serde(skip)] x: std::time::Instant, y: i32 } }")
+    made["unsent_variants_generic"] = f"{BOTH}\npub enum Tried<T> {{ A(T), #[serde(skip)] B(Option<T>, u8), #[serde(skip)] C {{ x: Vec<T>, y: T }} }}"
     made["unsent_flat"] = (f"{ALL}\npub struct Inside {{ pub a: u8, #[serde(skip)] pub b: String }}\n\n"
                            f"{ALL}\npub struct Tried {{ pub x: u8, #[serde(flatten)] pub inside: Inside, #[serde(skip)] pub y: i32 }}")
     made["unsent_beside"] = (f"{ALL}\npub struct Inside {{ pub a: u8, #[serde(skip)] pub b: String }}\n\n"
@@ -384,6 +433,14 @@ def rests() -> Dict[str, str]:
     made["rest_unsent"] = (f"{BOTH}\npub struct Tried {{ pub x: u8, #[serde(flatten, skip_serializing)] pub rest: BTreeMap<String, u8>,"
                            " pub y: String }")
     made["rest_generic"] = f"{READ}\npub struct Tried<T> {{ pub x: T, #[serde(flatten)] pub rest: BTreeMap<String, T>, pub y: Vec<T> }}"
+    for sort, left, one in (("transparent", "#[serde(transparent)]\npub struct Left<T> { pub only: BTreeMap<String, T> }", "Left<T>"),
+                            ("box", "pub struct Left<T> { pub a: Box<T> }", "Box<Left<T>>"),
+                            ("untagged", "#[serde(untagged)]\npub enum Left<T> { A(Box<T>), B { x: u8 } }", "Box<Left<T>>"),
+                            ("untagged_of_one", "#[serde(untagged)]\npub enum Left<T> { A(T), B { x: u8 } }", "Left<u8>"),
+                            ("newtype_of_one", "pub struct Left<T>(pub T);", "Left<Part>"),
+                            ("adjacent_of_one", '#[serde(tag = "t", content = "c")]\npub enum Left<T> { A(T), B(u8) }', "Left<u8>")):
+        made[f"rest_generic_{sort}"] = (f"{READ}\n{left}\n\n{READ}\npub struct Tried<T> {{ pub x: u8, #[serde(flatten)] pub rest: {one},"
+                                        " pub more: Vec<T> }")
     return {name: part * ("Part" in text) + text for name, text in made.items()}
 
 
@@ -402,6 +459,15 @@ def generics() -> Dict[str, str]:
         "generic_adjacent": f'{ALL}\n#[serde(tag = "t", content = "c")]\npub enum Tried<T> {{ A, B(T), C(Vec<T>) }}',
         "generic_transparent": f"{ALL}\n#[serde(transparent)]\npub struct Tried<T> {{ pub f0: T }}",
         "generic_transparent_skipped": f"{ALL}\n#[serde(transparent)]\npub struct Tried<T> {{ pub f0: T, #[serde(skip)] pub f1: Vec<T> }}",
+        "generic_phantom": f"{BOTH}\npub struct Tried<T> {{ pub raw: u64, #[serde(skip)] pub of: PhantomData<T> }}",
+        "generic_phantom_place": f"{BOTH}\npub struct Tried<K, V>(pub V, #[serde(skip)] pub PhantomData<(K, V)>, pub u8);",
+        "generic_phantom_transparent": f"{BOTH}\n#[serde(transparent)]\npub struct Tried<T>(pub String, pub PhantomData<T>);",
+        "generic_phantom_24": f"{BOTH}\npub struct Tried<T> {{ #[serde(skip)] pub of: PhantomData<T>, {named(MIXED * 3)[2:-2]} }}",
+        "generic_phantom_variant": f"{BOTH}\npub enum Tried<K, V> {{ A {{ x: i8, #[serde(skip)] of: PhantomData<K>, y: u8 }}, B(Vec<V>), C }}",
+        "generic_phantom_internal": f'{BOTH}\n#[serde(tag = "kind")]\npub enum Tried<T> {{ A {{ x: i8, #[serde(skip)] of: PhantomData<T> }}, C }}',
+        "generic_phantom_untagged": f"{BOTH}\n#[serde(untagged)]\npub enum Tried<T> {{ A {{ x: i8, #[serde(skip)] of: PhantomData<T> }}, C(u8) }}",
+        "generic_phantom_held": f"{BOTH}\npub struct Id<T> {{ pub raw: u64, #[serde(skip)] pub of: PhantomData<T> }}\n\n"
+                                f"{BOTH}\npub struct Tried {{ pub id: Id<std::time::Instant>, pub more: Vec<Id<u8>> }}",
         "generic_newtype": f"{ALL}\npub struct Tried<T>(pub Vec<T>);",
         "generic_two": f"{ALL}\npub struct Tried<K, V> {{ pub key: K, pub value: V, pub more: Vec<V> }}",
         "generic_closed": f"{ALL}\n#[serde(deny_unknown_fields)]\npub struct Tried<T> {{ pub f0: T, pub f1: Vec<T> }}",
@@ -412,6 +478,19 @@ def generics() -> Dict[str, str]:
         "generic_in_generic": f"{ALL}\npub struct Page<T> {{ pub items: Vec<T> }}\n\n{ALL}\npub struct Tried<T> {{ pub pages: Vec<Page<T>> }}",
         "generic_flat": f"{ALL}\npub struct Twin<T> {{ pub first: T, pub second: Vec<T> }}\n\n{ALL}\npub struct Tried {{ pub before: u8,"
                         " #[serde(flatten)] pub twin: Twin<i16> }",
+        "generic_flat_twice": f"{ALL}\npub struct Twin<T> {{ pub first: T, pub second: Vec<T> }}\n\n{ALL}\npub struct Middle<T> {{ pub x: u8,"
+                              f" #[serde(flatten)] pub twin: Twin<T> }}\n\n{ALL}\npub struct Tried<T> {{ pub y: u8, #[serde(flatten)] pub middle:"
+                              " Middle<T>, pub z: Vec<T> }",
+        "generic_flat_in_generic": f"{ALL}\npub struct Twin<T> {{ pub first: T, pub second: Vec<T> }}\n\n{ALL}\npub struct Tried<T> {{"
+                                   " pub y: u8, #[serde(flatten)] pub twin: Twin<T>, pub z: Vec<T> }",
+        "generic_flat_thrice": f"{ALL}\npub struct Twin<T> {{ pub first: T, pub second: Vec<T> }}\n\n{ALL}\npub struct Middle<T> {{ pub x: u8,"
+                               f" #[serde(flatten)] pub twin: Twin<T> }}\n\n{ALL}\npub struct Outer<T> {{ pub y: u8, #[serde(flatten)]"
+                               f" pub middle: Middle<T> }}\n\n{ALL}\npub struct Tried {{ pub w: u8, #[serde(flatten)] pub outer: Outer<u8> }}",
+        "generic_after_number": f"{ALL}\npub struct Tried<T> {{ pub code: u32, pub data: T }}",
+        "generic_after_each": f"{ALL}\npub struct Tried<T> {{ pub a: i64, pub b: bool, pub c: char, pub d: (), pub e: Own,"
+                              " pub f: (u8, String), pub g: T, pub h: u8 }",
+        "generic_after_in_variant": f"{ALL}\npub enum Tried<T> {{ A {{ x: u8, y: T }}, B(u8, T) }}",
+        "generic_after_by_place": f"{ALL}\npub struct Tried<T>(pub u8, pub i64, pub T);",
         "generic_beside": f"{ALL}\npub struct Listed<T> {{ pub items: Vec<T>, pub more: bool }}\n\n{ALL}\n#[serde(tag = \"sort\")]\n"
                           "pub enum Tried<T> { Listed(Listed<T>), One { value: Vec<T>, count: u8 } }",
         "generic_held": f"{page}{ALL}\npub struct Tried {{ pub page: Page<u8>, pub sealed: Sealed<String>, pub x: Either<u8, Own> }}",
@@ -438,9 +517,38 @@ def borrowed() -> Dict[str, str]:
     }
 
 
+def arrays() -> Dict[str, str]:
+    """Types that hold arrays: as a field of each kind, and in each sort of type."""
+    made = {}
+    for place, one in enumerate(["[u8; 32]", "[String; 3]", "[Option<String>; 3]", "[[u16; 4]; 2]", "[Own; 2]", "Vec<[u8; 4]>",
+                                 "Option<[i32; 2]>", "BTreeMap<String, [u8; 2]>", "[(u8, String); 2]", "[bool; 0]", "Box<[char; 5]>",
+                                 "([u8; 3], [(); 1])"]):
+        made[f"array_{place}"] = f"{ALL}\npub struct Tried {{ pub f0: {one}, pub f1: u8 }}"
+    variants = "A([u8; 4]), B([Own; 2], u8), C { x: [[u8; 2]; 3], y: String }"
+    derives = "derive(Debug, Clone, Copy, PartialOrd, Ord, Hash, "
+    fields = "#[serde(default)] pub x: [u8; 4], #[serde(skip)] pub y: [String; 2], #[serde(default)] pub z: ([u16; 2], bool)"
+    return {
+        **made,
+        "array_newtype": f"{ALL.replace('derive(', derives)}\npub struct Tried(pub [u8; 32]);",
+        "array_place": f"{ALL}\npub struct Tried(pub [u8; 16], pub [i64; 2]);",
+        "array_transparent": f"{ALL}\n#[serde(transparent)]\npub struct Tried {{ pub only: [Own; 2] }}",
+        "array_closed": f"{BOTH}\n#[serde(deny_unknown_fields)]\npub struct Tried {{ pub x: [u8; 20], pub y: [Option<u8>; 2] }}",
+        "array_external": f"{ALL}\npub enum Tried {{ {variants} }}",
+        "array_adjacent": f'{ALL}\n#[serde(tag = "t", content = "c")]\npub enum Tried {{ {variants} }}',
+        "array_internal": f'{ALL}\n#[serde(tag = "t")]\npub enum Tried {{ A, B {{ x: [u8; 3], y: [Own; 1] }} }}',
+        "array_untagged": f"{ALL}\n#[serde(untagged)]\npub enum Tried {{ A([u8; 2]), B(Box<[u8; 3]>), C(u8, u8, u8, u8), D(String) }}",
+        "array_absent": f"{ALL}\npub struct Tried {{ {fields} }}",
+        "array_default": f"{ALL.replace('derive(', 'derive(Default, ')}\n#[serde(default)]\npub struct Tried {{ pub x: [u8; 4], pub y: [String; 2] }}",
+        "array_flat": f"{ALL}\npub struct Inside {{ pub x: [u8; 2] }}\n\n{ALL}\npub struct Tried {{ pub y: u8, #[serde(flatten)] pub inside: Inside }}",
+        "array_generic": f"{ALL}\npub struct Page<T> {{ pub items: Vec<T> }}\n\n{ALL}\npub struct Tried {{ pub page: Page<[u8; 3]>, pub more: [Page<u8>; 2] }}",
+        "array_nested": f"{ALL}\npub enum Tried {{ A([u8; 3]), B(Box<Tried>), C {{ x: [Own; 2], y: Vec<Tried> }} }}",
+        "array_borrowed": f"{SENT}\npub struct Tried<'a> {{ pub x: [&'a str; 2], pub y: &'a [[u8; 4]] }}",
+    }
+
+
 HEAD = "//! {}.\n\nuse serde::{{Deserialize, Serialize}};\n{}\n"
 STANDARD = {"std::collections": ["BTreeMap", "BTreeSet", "HashMap", "HashSet", "VecDeque"], "std::path": ["PathBuf"],
-            "std::rc": ["Rc"], "std::sync": ["Arc"]}
+            "std::rc": ["Rc"], "std::sync": ["Arc"], "std::marker": ["PhantomData"]}
 
 
 def imported(text: str) -> str:
@@ -487,8 +595,8 @@ def nested() -> Dict[str, str]:
 
 def bodies() -> Dict[str, str]:
     """The declaration of each type, by name."""
-    return {**structs(), **enums(), **names(), **types(), **collections(), **attributes(), **own_rules(), **with_functions(),
-            **flattened(), **one_way(), **rests(), **generics(), **borrowed(), **nested()}
+    return {**structs(), **enums(), **names(), **types(), **collections(), **attributes(), **own_rules(), **with_functions(), **opaque(),
+            **converted(), **flattened(), **one_way(), **rests(), **generics(), **borrowed(), **nested(), **arrays()}
 
 
 def matrix() -> Dict[str, str]:

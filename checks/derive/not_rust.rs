@@ -251,3 +251,30 @@ struct A { #[serde(serialize_with = "")] x: u8 }
 // 2: A.X: serde's `other` is for the last variant: move this one to the end
 #[derive(Deserialize)]
 enum A { #[serde(other)] X, Y }
+
+// 2: expected `;`, found `3`
+#[derive(Serialize)]
+struct A([u8 3]);
+
+// 2: expected `]` for the `[` of line 2, found `)`
+#[derive(Serialize)]
+struct A([u8; 3);
+
+// 2: serde's `from` names no type: write one
+#[derive(Deserialize)]
+#[serde(from = "")]
+struct A(u8);
+
+// 3: A: serde's `from`: expected a type, found `Vec<`
+#[derive(Deserialize)]
+#[serde(from = "Vec<")]
+struct A(u8);
+
+// 3: A: serde's `into`: expected a type, found `u8 u8`
+#[derive(Serialize)]
+#[serde(into = "u8 u8")]
+struct A(u8);
+
+// 2: expected the length of an array, found `]`
+#[derive(Serialize)]
+struct A([u8; ]);

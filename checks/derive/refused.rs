@@ -6,14 +6,14 @@ struct A {
     x: Vec<f64>,
 }
 
-// 2: A.1: a type that begins with `[` is not covered: write a Vec, or a tuple of up to four
+// 2: A.1: `[T]` is covered behind a reference alone: write a Vec
 // 4: B: a parameter that is a value is not covered: write a type for each that you use
 // 6: C: a default of a parameter is not covered: delete that of `T`, and write it where you use the type
 // 8: D: the name `S` of a parameter is not covered: give it one that begins with a capital, and that nothing else has
 // 8: D: the name `A` of a parameter is not covered: give it one that begins with a capital, and that nothing else has
 // 8: D: the name `t` of a parameter is not covered: give it one that begins with a capital, and that nothing else has
-// 11: E.x: its default is not covered: hold a number, bool, char, String, PathBuf, Option, Vec, map, set, a tuple of these or a type of your own that derives Default
-// 12: E.y: what is flattened is covered where it is a struct or an enum of this file, without parameters, a BTreeMap, a HashMap, or one of these in an Option or a Box: hold one, or delete `flatten`
+// 11: E.x: its default is not covered: hold a number, bool, char, String, PathBuf, Option, Vec, map, set, an array or a tuple of these, or a type of your own that derives Default
+// 12: E.y: what is flattened is not covered where a parameter is its type, as it may be no struct or map: name the type itself
 // 13: E.z: a map with keys of type `T` is not covered, as their order is not known: hold a Vec of pairs
 // 18: F.0: `G` has 0 arguments here, and its parameters are: T
 // 18: F.1: `G` has 2 arguments here, and its parameters are: T
@@ -24,7 +24,7 @@ struct A {
 // 24: J.x: the size of `Option<T>` depends on `T`, which is not covered: hold `Box<T>` there for `T`
 // 24: J.y: the size of `(u8, T)` depends on `T`, which is not covered: hold `Box<T>` there for `T`
 // 26: K.0: the size of `G<T>` depends on `T`, which is not covered: hold `Box<T>` there for `T`
-// 28: L.8: a field of a parameter's type is covered among up to 8 of a struct and 4 of a variant: hold `Box<T>`
+// 28: L.8: a field of a parameter's type is covered among the first 7 of up to 8: hold `Box<T>`
 // 30: M.X.x: a field of a parameter's type is covered before those that may be missing or have an alias: move it there, or hold `Box<T>`
 // 33: N.X.x: of an untagged enum, a value of a parameter's type is covered alone in its variant: hold `Box<T>`
 // 33: N.Y.1: of an untagged enum, a value of a parameter's type is covered alone in its variant: hold `Box<T>`
@@ -223,7 +223,7 @@ struct A(LinkedList<u8>);
 #[derive(Serialize)]
 struct A {}
 
-// 4: A.x: its default is not covered: hold a number, bool, char, String, PathBuf, Option, Vec, map, set, a tuple of these or a type of your own that derives Default
+// 4: A.x: its default is not covered: hold a number, bool, char, String, PathBuf, Option, Vec, map, set, an array or a tuple of these, or a type of your own that derives Default
 #[derive(Deserialize)]
 struct A {
     #[serde(default)]
@@ -252,11 +252,11 @@ struct A(u8);
 // 6: A.z: `#[cfg(unix)]` is not covered, as the module is written once for all: delete it, or move what it is about to a file of its own
 // 7: A.z: a map with keys of type `&'static str` is not covered: hold a Vec of pairs, or put the key into a struct that derives Ord
 // 9: A.größe: the name `größe` is not covered, as Rattle takes names in ASCII alone: give it another
-// 13: B.X.2: a type that begins with `[` is not covered: write a Vec, or a tuple of up to four
 // 13: B.X.0: floats are not covered: hold a whole number of a smaller unit, or a String
+// 13: B.X.2: an array of more than 32 values is not covered, as in Serde: hold a Vec
 // 14: B.Y.a: the lifetime `'a` is not declared here: hold the value itself, as String for &str
 // 14: B.Y.b: a type that begins with `dyn` is not covered: write an enum of the types that it may be
-// 15: B.Z.0: the type `Duration` is not covered: declare it in this file, or name it by its full path
+// 15: B.Z.0: a Duration is not covered, as std's contracts don't say which are equal: hold a struct of `secs: u64` and `nanos: u32`, as Serde sends it
 #[derive(Serialize)]
 struct A {
     x: f32,
@@ -269,7 +269,7 @@ struct A {
 }
 #[derive(Serialize)]
 enum B {
-    X(f64, u8, [u8; 3]),
+    X(f64, u8, [u8; 33]),
     Y { a: Foo<'a, T>, b: Box<dyn Fn(u8) -> u8> },
     Z(Duration),
     W,
@@ -277,7 +277,7 @@ enum B {
 #[derive(Serialize)]
 struct C(A, B);
 
-// 4: A.x: the type `std::time::Duration` is not covered: hold what it is made of, as a number or a String
+// 4: A.x: a Duration is not covered, as std's contracts don't say which are equal: hold a struct of `secs: u64` and `nanos: u32`, as Serde sends it
 // 4: A.y: the type `std::path::Path` is not covered: hold what it is made of, as a number or a String
 // 4: A.z: the type `serde::Value` is not covered: hold what it is made of, as a number or a String
 // 4: A.w: a LinkedList is not covered: hold a VecDeque
@@ -606,7 +606,7 @@ struct A { x: u8 }
 struct A(u8, u8);
 
 // 2: A.b: its default is not covered: `B` derives no Default, or holds what has none here: hold an Option
-// 6: C.x: its default is not covered: hold a number, bool, char, String, PathBuf, Option, Vec, map, set, a tuple of these or a type of your own that derives Default
+// 6: C.x: its default is not covered: hold a number, bool, char, String, PathBuf, Option, Vec, map, set, an array or a tuple of these, or a type of your own that derives Default
 #[derive(Deserialize)]
 struct A { #[serde(default)] b: B }
 #[derive(Deserialize)]
@@ -631,7 +631,7 @@ struct A { #[serde(default)] x: u8 }
 
 // 3: A: serde's `transparent` is for structs of one field beside skipped ones
 // 6: B.x: serde's `skip_serializing_if` on a field is not covered where its struct is `transparent`: delete it
-// 6: B.y: its default is not covered: hold a number, bool, char, String, PathBuf, Option, Vec, map, set, a tuple of these or a type of your own that derives Default
+// 6: B.y: its default is not covered: hold a number, bool, char, String, PathBuf, Option, Vec, map, set, an array or a tuple of these, or a type of your own that derives Default
 // 9: C: serde's `transparent` is for structs of one field beside skipped ones
 #[derive(Serialize, Deserialize)]
 #[serde(transparent)]
@@ -645,6 +645,7 @@ struct C { #[serde(skip)] x: u8 }
 
 // 5: A.b: what is flattened is not covered where a function of yours sends it: hold the value itself
 // 10: C.d: what is flattened is not covered where a function of yours reads it: hold the value itself
+// 12: E.f: what is flattened is not covered where a function of yours sends a value by place, as in `F::X`: give it a name
 #[derive(Serialize)]
 #[serde(transparent)]
 struct B(#[serde(serialize_with = "crate::rules::f")] BTreeMap<String, u8>);
@@ -655,6 +656,10 @@ struct A { #[serde(flatten)] b: B }
 struct D { #[serde(deserialize_with = "crate::rules::f")] x: BTreeMap<String, u8>, #[serde(skip)] y: u8 }
 #[derive(Deserialize)]
 struct C { #[serde(flatten)] d: D }
+#[derive(Serialize)]
+struct E { #[serde(flatten)] f: F }
+#[derive(Serialize)]
+enum F { X(#[serde(serialize_with = "crate::rules::f")] u8) }
 
 // 5: A.b: what is flattened is covered where it is a struct or an enum of this file, without parameters, a BTreeMap, a HashMap, or one of these in an Option or a Box: hold one, or delete `flatten`
 #[derive(Serialize)]
@@ -695,7 +700,7 @@ enum A { B(u8) }
 // 16: C.X: a field is called as the tag, `t`: give one of them another name
 // 16: C.Y: a field is called as the tag, `t`: give one of them another name
 // 16: C.W: of an enum that is tagged internally, only variants with no values and with a struct, or values by name, are covered: hold a struct of them
-// 18: D.T.x: its default is not covered: hold a number, bool, char, String, PathBuf, Option, Vec, map, set, a tuple of these or a type of your own that derives Default
+// 18: D.T.x: its default is not covered: hold a number, bool, char, String, PathBuf, Option, Vec, map, set, an array or a tuple of these, or a type of your own that derives Default
 #[derive(Serialize, Copy)]
 #[serde(untagged)]
 enum A {
@@ -721,7 +726,7 @@ struct E { t: u8 }
 // 4: A.y: serde's `skip_serializing_if` so is not covered: Option::is_none is, `is_empty` of String, Vec, VecDeque, slices, maps and sets, each on a field of its type, a function of this file that compares with one value, as `*n == 0`, and one of another module that is named from `crate` on
 // 5: A.z: two are called `y`: give one another name by `rename`
 // 6: A.u: two are called `y`: give one another name by `rename`
-// 7: A.v: a type that begins with `[` is not covered: write a Vec, or a tuple of up to four
+// 7: A.v: an array of `LENGTH` values is not covered: write how many as a number
 // 10: B: two fields are called `p`: give one another name by `rename`
 // 10: B: two fields are called `q`: give one another name by `rename`
 // 14: D.t: what is flattened is covered where it is a struct or an enum of this file, without parameters, a BTreeMap, a HashMap, or one of these in an Option or a Box: hold one, or delete `flatten`
@@ -735,7 +740,7 @@ struct A {
     #[serde(skip_serializing_if = "is_zero")] y: u8,
     #[serde(rename = "y")] z: u8,
     #[serde(rename = "y")] u: u8,
-    #[serde(skip_serializing_if = "is_zero")] v: [u8; 2],
+    #[serde(skip_serializing_if = "is_zero")] v: [u8; LENGTH],
 }
 #[derive(Serialize)]
 struct B { #[serde(flatten)] c: C, p: u8, q: u8 }
@@ -746,7 +751,6 @@ struct D { #[serde(flatten)] c: Option<C>, #[serde(flatten)] a: A, #[serde(flatt
 #[derive(Serialize)]
 enum E { Y, #[serde(rename = "Y")] X(u8, #[serde(default)] u8), Z { b: u8, #[serde(rename = "b")] a: u8 }, U(#[serde(skip_serializing_if = "f")] u8) }
 
-// 3: A: serde's `try_from` on a container is not covered: a conversion has no contract here: write the impls by hand
 // 4: A: serde's `crate` on a container is not covered: what is written uses `serde_content`: delete it
 // 5: A: serde's `expecting` on a container is not covered: refusals have a text of their own: delete it
 // 6: A: serde's `rename_all` so is not covered: write `rename_all = ".."`
@@ -761,7 +765,7 @@ enum E { Y, #[serde(rename = "Y")] X(u8, #[serde(default)] u8), Z { b: u8, #[ser
 // 18: B: an enum of no variants is not covered, as no value of it is sent or read: delete it
 #[derive(Serialize, Deserialize)]
 #[rustfmt::skip]
-#[serde(try_from = "B")]
+#[serde(rename = "B")]
 #[serde(crate = "serde")]
 #[serde(expecting = "an A")]
 #[serde(rename_all)]
@@ -888,7 +892,7 @@ struct A(#[serde(skip)] u8);
 #[derive(Serialize, Deserialize)]
 enum B { X(#[serde(skip_serializing)] u8), Y }
 
-// 2: A.a: its default is not covered: hold a number, bool, char, String, PathBuf, Option, Vec, map, set, a tuple of these or a type of your own that derives Default
+// 2: A.a: its default is not covered: hold a number, bool, char, String, PathBuf, Option, Vec, map, set, an array or a tuple of these, or a type of your own that derives Default
 // 2: A.b: its default is not covered: `B` derives no Default, or holds what has none here: hold an Option
 // 2: A.c: its default is not covered: `B` derives no Default, or holds what has none here: hold an Option
 #[derive(Serialize, Deserialize)]
@@ -913,20 +917,19 @@ struct B { #[serde(alias = "y")] x: u8 }
 #[serde(tag = "t", content = "c")]
 enum A<T> { X { x: T }, Y(u8, T), Z(T), W { x: Box<T>, y: u8 } }
 
-// 2: A.0: serde's `with` is covered in fields with names: give them names
-// 4: B.Y: serde's `with` on a variant is not covered: it is for a field
-// 4: B.X.0: serde's `deserialize_with` is covered in fields with names: give them names
+// 3: A.X.0: serde's `with` in an enum with `tag` or `untagged` is covered in fields with names: give them names
+// 4: B.Y: serde's `with` on a variant is not covered: write it on the one field of the variant, and hold a struct there in place of several
 // 6: C.x: serde's `serialize_with` is not covered in a type with parameters: hold the field in another struct
 // 9: D.x: serde's `with` is not covered in a type with parameters: hold the field in another struct
-// 11: E.x: such attributes don't go together: `flatten` and `with`: delete one of them
+// 11: E.x: serde's `with` beside `flatten` is not covered, as its function would have to send or read entries among others: delete one of them, or hold a map or a struct that the value is made of
 // 13: F.y: serde's `with` so is not covered: write `with = ".."`
 // 13: F.z: serde's `deserialize_with` so is not covered: write `deserialize_with = ".."`
 // 13: F.x: such attributes don't go together: `with` and `serialize_with`: delete one of them
 // 15: G.y: a function of your own is not covered in a type that contains itself: write the impls by hand
 #[derive(Serialize, Deserialize)]
-struct A(#[serde(with = "crate::rules")] u8, u8);
-#[derive(Serialize, Deserialize)]
-enum B { X(#[serde(deserialize_with = "crate::rules::f")] u8), #[serde(with = "crate::rules")] Y(u8) }
+#[serde(tag = "t", content = "c")]
+enum A { X(#[serde(with = "crate::rules")] u8), Y(u8, u8), #[serde(skip)] Z(#[serde(with = "crate::rules")] u8) }
+#[derive(Serialize, Deserialize)] enum B { #[serde(with = "crate::rules")] Y(u8) }
 #[derive(Serialize, Deserialize)]
 struct C<T> { #[serde(serialize_with = "crate::rules::f")] x: Vec<T>, y: T }
 #[derive(Serialize, Deserialize)]
@@ -1127,7 +1130,7 @@ struct C { x: B, y: Vec<C> }
 // 6: A.c: a Result is not covered: hold an enum of both
 // 7: A.d: a tuple of more than 4 values is not covered: hold a struct of them
 // 8: A.e: `str` is covered in `Box<str>` and `&'a str` alone: hold a String
-// 9: A.f: a PhantomData is not covered: delete it
+// 9: A.f: a PhantomData is covered where it is neither sent nor read: write `#[serde(skip)]` above it
 // 10: A.g: a RefCell is not covered: hold the value in it
 use std::ops::RangeInclusive as R;
 #[derive(Serialize)]
@@ -1194,3 +1197,327 @@ struct A {
     #[serde(with = "crate::types::hex")] d: u8,
     #[serde(deserialize_with = "self::hex")] e: u8,
 }
+
+// 14: passed over: `struct Plain`, which derives neither Serialize nor Deserialize
+// 17: passed over: `type Alias = Plain`, whose type is written in its place
+// 3: A.a: `Plain` derives neither Serialize nor Deserialize (line 14), so that the module doesn't have it: move it to another file, and name it by its path, as `crate::other::Plain`, or import it by `use`
+// 4: A.b: `Plain` derives neither Serialize nor Deserialize (line 14): derive what is derived here, or move it to a file that has its impls
+// 5: A.c: the type `Unknown` is not known here: name it by its path, as `crate::other::Unknown`, or import it by `use`
+// 6: A.d: the type `std::backtrace::Backtrace` is not covered, as Rattle's std has none: hold a type of your own of another file
+// 7: A.e: a Cow is not covered: hold a String or a Vec
+// 8: A.f: its default is not covered, as nothing makes a `std::time::Instant` here: hold an Option, or write `default = ".."` with the path of a function of another module that does
+// 9: A.g: its default is not covered, as nothing makes a `std::cell::RefCell<String>` here: hold an Option, or write `default = ".."` with the path of a function of another module that does
+// 10: A.h: an array of more than 32 values is not covered, as in Serde: hold a Vec
+// 11: A.i: what is borrowed is covered where it is only sent: hold the value itself, as String for &str
+// 12: A.j: an array of `LENGTH` values is not covered: write how many as a number
+// 16: B.b: `Plain` derives neither Serialize nor Deserialize (line 14), so that the module doesn't have it: move it to another file, and name it by its path, as `crate::other::Plain`, or import it by `use`
+// 16: B.c: `Plain` derives neither Serialize nor Deserialize (line 14): derive what is derived here, or move it to a file that has its impls
+// 16: B.a: the type `std::time::Instant` is not covered: hold what it is made of, as a number or a String
+#[derive(Serialize, Deserialize)]
+struct A<'a> {
+    #[serde(skip)] a: Option<Plain>,
+    b: Plain,
+    #[serde(skip)] c: Unknown,
+    #[serde(skip)] d: std::backtrace::Backtrace,
+    #[serde(skip)] e: std::borrow::Cow<'static, str>,
+    #[serde(skip)] f: std::time::Instant,
+    #[serde(skip)] g: std::cell::RefCell<String>,
+    #[serde(skip_serializing)] h: [u8; 40],
+    #[serde(skip)] i: Option<&'a str>,
+    #[serde(skip)] j: [u8; LENGTH],
+}
+struct Plain;
+#[derive(Serialize)]
+struct B { #[serde(skip_deserializing)] a: std::time::Instant, #[serde(serialize_with = "crate::rules::f")] b: self::Plain, c: Alias }
+type Alias = Plain;
+
+// 2: A.b: what is flattened is not covered where a parameter is its type, as it may be no struct or map: name the type itself
+// 4: B.b: what is flattened is not covered where a parameter is its type, as it may be no struct or map: name the type itself
+// 6: C.b: what is flattened is not covered where a parameter is its type, as it may be no struct or map: name the type itself
+// 8: D.b: what is flattened is covered where it is a struct or an enum of this file, without parameters, a BTreeMap, a HashMap, or one of these in an Option or a Box: hold one, or delete `flatten`
+#[derive(Serialize)]
+struct A<T> { a: u8, #[serde(flatten)] b: Option<T> }
+#[derive(Deserialize)]
+struct B<T> { a: u8, #[serde(flatten)] b: Box<T> }
+#[derive(Deserialize)]
+struct C<T> { a: u8, #[serde(flatten)] b: Option<W<T>> }
+#[derive(Serialize)]
+struct D<T> { a: u8, #[serde(flatten)] b: W<T> }
+#[derive(Serialize, Deserialize)]
+struct W<T>(T);
+
+// 3: A.a: an array of `2*N` values is not covered: write how many as a number
+// 4: A.b: an array of more than 32 values is not covered, as in Serde: hold a Vec
+// 5: A.c: `[u8]` is covered behind a reference alone: write a Vec
+// 6: A.d: a map with keys of type `[u8; 2]` is not covered: hold a Vec of pairs, or put the key into a struct that derives Ord
+// 7: A.e: floats are not covered: hold a whole number of a smaller unit, or a String
+// 8: A.f: its default is not covered: hold a number, bool, char, String, PathBuf, Option, Vec, map, set, an array or a tuple of these, or a type of your own that derives Default
+// 9: A.g: its default is not covered, as nothing makes a `[String; 40]` here: hold an Option, or write `default = ".."` with the path of a function of another module that does
+// 10: A.h: serde's `skip_serializing_if` so is not covered: Option::is_none is, `is_empty` of String, Vec, VecDeque, slices, maps and sets, each on a field of its type, a function of this file that compares with one value, as `*n == 0`, and one of another module that is named from `crate` on
+// 13: B.Y.0: `B` contains itself, which is not covered in `[Option<Box<B>>; 2]`: hold it in Box, Vec or Option<Box>
+// 15: C.0: the size of `[T; 2]` depends on `T`, which is not covered: hold `Box<T>` there for `T`
+// 17: D.0: an array of `123456789` values is not covered: write a Vec
+#[derive(Serialize, Deserialize)]
+struct A {
+    a: [u8; 2 * N],
+    b: [u8; 0xff_usize],
+    c: Vec<Box<[u8]>>,
+    d: BTreeMap<[u8; 2], u8>,
+    e: [f32; 3],
+    #[serde(default)] f: [Box<u8>; 3],
+    #[serde(skip)] g: [String; 40],
+    #[serde(skip_serializing_if = "<[_]>::is_empty")] h: [u8; 0],
+}
+#[derive(Serialize, Deserialize)]
+enum B { X, Y([Option<Box<B>>; 2]) }
+#[derive(Deserialize)]
+struct C<T>([T; 2], u8);
+#[derive(Serialize)]
+struct D([u8; 123456789]);
+
+// 3: A.a: a Duration is not covered, as std's contracts don't say which are equal: hold a struct of `secs: u64` and `nanos: u32`, as Serde sends it
+// 4: A.b: `crate::other::Cache<u8>` is not covered: a type with arguments is where this file declares it, or std's is: write in another file a struct around it, with its impls by hand, and hold that
+// 5: A.c: a tuple of more than 4 values is not covered: hold a struct of them
+// 6: A.d: a PhantomData is covered where it is neither sent nor read: write `#[serde(skip)]` above it
+// 7: A.e: a map with keys of type `Vec<u8>` is not covered: hold a Vec of pairs, or put the key into a struct that derives Hash
+// 8: A.f: what is borrowed is covered where it is only sent: hold the value itself, as String for &str
+// 9: A.g: a Duration is not covered, as std's contracts don't say which are equal: hold a struct of `secs: u64` and `nanos: u32`, as Serde sends it
+// 10: A.h: a RefCell is not covered: hold the value in it
+// 13: B.X.x: a Duration is not covered, as std's contracts don't say which are equal: hold a struct of `secs: u64` and `nanos: u32`, as Serde sends it
+// 16: C.0: a Duration is not covered, as std's contracts don't say which are equal: hold a struct of `secs: u64` and `nanos: u32`, as Serde sends it
+// 20: D.0: its default is not covered, as nothing makes a `[std::time::Instant; 2]` here: hold an Option, or write `default = ".."` with the path of a function of another module that does
+// 20: D.1: its default is not covered: `E` derives no Default, or holds what has none here: hold an Option
+#[derive(Serialize, Deserialize)]
+struct A {
+    #[serde(with = "crate::rules")] a: std::time::Duration,
+    #[serde(with = "crate::rules")] b: crate::other::Cache<u8>,
+    #[serde(with = "crate::rules")] c: (u8, u8, u8, u8, u8),
+    #[serde(with = "crate::rules")] d: std::marker::PhantomData<u8>,
+    #[serde(with = "crate::rules")] e: HashMap<Vec<u8>, u8>,
+    #[serde(with = "crate::rules")] f: &'static str,
+    #[serde(serialize_with = "crate::rules::s", deserialize_with = "crate::rules::d")] g: [std::time::Duration; 2],
+    #[serde(with = "crate::rules")] h: Option<std::cell::RefCell<u8>>,
+}
+#[derive(Serialize)]
+enum B { X { #[serde(serialize_with = "crate::rules::t")] x: std::time::Duration } }
+#[derive(Deserialize)]
+#[serde(transparent)]
+struct C(#[serde(deserialize_with = "crate::rules::t")] std::time::Duration);
+#[derive(Serialize, Deserialize)]
+struct E(u8);
+#[derive(Serialize, Deserialize)]
+struct D(#[serde(skip)] [std::time::Instant; 2], #[serde(skip)] [E; 2], u8);
+
+// 3: A: such attributes don't go together: `from` and `try_from`: delete one of them
+// 6: B: such attributes don't go together: `transparent` and `from`: delete one of them
+// 9: C: serde's `into` is not covered on a type with parameters or lifetimes: write the impls by hand
+// 12: D: serde's `into` is not covered with a type that borrows: name one that holds the value itself, as String for &str
+// 15: E: serde's `into`: floats are not covered: hold a whole number of a smaller unit, or a String
+// 18: F: serde's `into`: `H` does not derive Serialize, as what holds it does: derive that too
+// 20: H: `H` contains itself, which is not covered through `I`: write its impls by hand
+// 23: I: `I` contains itself, which is not covered through `H`: write its impls by hand
+// 26: J: serde's `try_from`: the type `Missing` is not covered: declare it in this file, or name it by its full path
+// 28: K: serde's `from` so is not covered: write `from = ".."`
+// 29: K.0: serde's `into` on a field is not covered: it is for a container
+// 32: L: serde's `try_from` is covered with a bool, a char or a whole number, of which contracts know which one is read, not with `O`: convert it in a function, and name that by `deserialize_with` on the fields that hold it
+// 37: P.o: what is flattened is not covered where its type has serde's `from`: hold it under a name
+// 39: Q.o: what is flattened is not covered where its type has serde's `from`: hold it under a name
+// 41: R.o: what is flattened is not covered where its type has serde's `from`: hold it under a name
+// 44: T.X: what stands beside a tag is not covered where its type has serde's `from`: hold it under a name
+// 47: U.x: the type `LinkedList` is not known here: name it by its path, as `std::collections::LinkedList`, or import it by `use`
+// 50: V: `V` contains itself, which is not covered beside `from`: write its impls by hand
+// 53: read: values are called `read` too, which Rust does not tell from this struct: give the type another name, and this one by `#[serde(rename = "read")]`
+#[derive(Serialize, Deserialize)]
+#[serde(from = "u8", try_from = "u8")]
+struct A(u8);
+#[derive(Serialize, Deserialize)]
+#[serde(transparent, from = "u8")]
+struct B(u8);
+#[derive(Serialize, Deserialize)]
+#[serde(into = "T")]
+struct C<T>(T);
+#[derive(Serialize)]
+#[serde(into = "&'static str")]
+struct D(u8);
+#[derive(Serialize)]
+#[serde(into = "f64")]
+struct E(u8);
+#[derive(Serialize)]
+#[serde(into = "H")]
+struct F(u8);
+#[derive(Deserialize)]
+pub struct H { b: Vec<I> }
+#[derive(Deserialize)]
+#[serde(from = "H")]
+pub struct I(pub u8);
+#[derive(Deserialize)]
+#[serde(try_from = "Missing")]
+struct J(u8);
+#[derive(Deserialize)]
+#[serde(from)]
+struct K(#[serde(into = "u8")] u8);
+#[derive(Deserialize)]
+#[serde(try_from = "O")]
+struct L(u8);
+#[derive(Serialize, Deserialize)]
+#[serde(from = "u8", into = "u8")]
+pub struct O { pub a: u8 }
+#[derive(Serialize, Deserialize)]
+struct P { #[serde(flatten)] o: O }
+#[derive(Serialize)]
+struct Q { #[serde(flatten)] o: Option<O> }
+#[derive(Deserialize)]
+struct R { x: u8, #[serde(flatten)] o: Box<O> }
+#[derive(Serialize, Deserialize)]
+#[serde(tag = "t")]
+enum T { X(O), Y }
+#[derive(Deserialize)]
+#[serde(from = "u8")]
+struct U { x: LinkedList<u8> }
+#[derive(Serialize, Deserialize)]
+#[serde(from = "u8", into = "u8")]
+pub struct V { pub x: Option<Box<V>> }
+#[derive(Deserialize)]
+#[serde(from = "u8")]
+struct read(u8);
+
+// 3: A: serde's `into` is covered with a text, or a type that holds no memory, of which contracts know which one is sent, not with `Raw`: write the impl of Serialize by hand
+// 8: B: serde's `into` is covered with a text, or a type that holds no memory, of which contracts know which one is sent, not with `Vec<u8>`: write the impl of Serialize by hand
+// 11: C: serde's `into` is covered with a text, or a type that holds no memory, of which contracts know which one is sent, not with `crate::raw::Whole`: write the impl of Serialize by hand
+// 14: D: serde's `into` is covered with a text, or a type that holds no memory, of which contracts know which one is sent, not with `Option<[String; 2]>`: write the impl of Serialize by hand
+#[derive(PartialEq, Eq, Serialize, Deserialize)]
+#[serde(from = "Vec<u8>", into = "Raw")]
+struct A { #[serde(skip_serializing_if = "h")] x: f64, b: u8 }
+#[derive(Serialize)]
+struct Raw(u8, (bool, String));
+#[derive(Clone, Copy, Serialize)]
+#[serde(into = "Vec<u8>")]
+enum B { X, Y }
+#[derive(Default, Serialize, Deserialize)]
+#[serde(into = "crate::raw::Whole", default)]
+struct C { x: Option<u8>, y: String }
+#[derive(Serialize)]
+#[serde(into = "Option<[String; 2]>")]
+struct D { #[serde(with = "crate::rules")] x: std::time::Instant }
+
+// 4: A.a: the name `Result` is one that the module uses itself: import that type by another name
+// 5: A.b: the type `Mutex` is not known here: name it by its path, as `std::sync::Mutex`, or import it by `use`
+// 6: A.c: the type `PhantomData` is not known here: name it by its path, as `std::marker::PhantomData`, or import it by `use`
+// 7: A.d: a Result is not covered: hold an enum of both
+use crate::errors::Result;
+#[derive(Serialize, Deserialize)]
+struct A {
+    #[serde(skip)] a: Option<Result<u8>>,
+    #[serde(skip)] b: Option<Mutex<u8>>,
+    #[serde(skip)] c: PhantomData<u8>,
+    #[serde(skip)] d: Option<std::io::Result<u8>>,
+}
+
+// 3: A.a: a PhantomData of what begins with `fn` is not covered: write the parameter alone, as in `PhantomData<T>`
+// 4: A.b: a PhantomData of what begins with `*` is not covered: write the parameter alone, as in `PhantomData<T>`
+// 7: B.b: what is borrowed is covered where it is only sent: write the parameter alone, as in `PhantomData<T>`
+#[derive(Serialize, Deserialize)]
+struct A<T> {
+    #[serde(skip)] a: std::marker::PhantomData<fn() -> T>,
+    #[serde(skip)] b: std::marker::PhantomData<*const T>,
+}
+#[derive(Serialize, Deserialize)]
+struct B<'a, T> { x: u8, #[serde(skip)] b: std::marker::PhantomData<&'a T> }
+
+// 4: Node.id: `Node` leads to itself by a name in `Id<Node>`, which is not covered: name another type there, such as a struct without fields
+// 4: Node.parent: `Node` leads to itself by a name in `Id<Node>`, which is not covered: name another type there, such as a struct without fields
+// 6: A.of: `A` leads to itself by a name in `std::marker::PhantomData<A>`, which is not covered: name another type there, such as a struct without fields
+// 8: B: `B` contains itself, which is not covered through `C`: write its impls by hand
+// 10: C.of: `C` leads to itself by a name in `std::marker::PhantomData<B>`, which is not covered: name another type there, such as a struct without fields
+// 14: E.x: `E` contains itself, which is not covered in `D<E>`: hold it in Box, Vec or Option<Box>
+#[derive(Serialize, Deserialize)]
+struct Id<T> { raw: u32, #[serde(skip)] of: std::marker::PhantomData<T> }
+#[derive(Serialize, Deserialize)]
+struct Node { id: Id<Node>, parent: Option<Id<Node>>, next: Vec<Node> }
+#[derive(Serialize, Deserialize)]
+struct A { x: u8, #[serde(skip)] of: std::marker::PhantomData<A> }
+#[derive(Serialize, Deserialize)]
+struct B { c: C }
+#[derive(Serialize, Deserialize)]
+struct C { x: u8, #[serde(skip)] of: std::marker::PhantomData<B> }
+#[derive(Serialize, Deserialize)]
+struct D<T> { x: Vec<T> }
+#[derive(Serialize, Deserialize)]
+struct E { x: D<E> }
+
+// 3: A: its conversions stand in another module, which can't name `A`: write `pub(crate)` before that
+// 6: B: its conversions stand in another module, which can't name `Raw`: write `pub(crate)` before that
+// 11: C: its conversions stand in another module, which can't make `C`, as it doesn't see its field `y`: write `pub(crate)` before that
+#[derive(Serialize, Deserialize)]
+#[serde(from = "u8", into = "u8")]
+struct A(pub u8);
+#[derive(Serialize)]
+#[serde(into = "Raw")]
+pub struct B { x: u8 }
+#[derive(Serialize)]
+struct Raw(u8);
+#[derive(Deserialize)]
+#[serde(from = "u8")]
+pub struct C { pub x: u8, y: u8 }
+
+// 2: A: `A` contains itself, which is not covered in a type with parameters or lifetimes: write its impls by hand
+// 6: C: `C` contains itself, which is not covered in a type with parameters or lifetimes: write its impls by hand
+#[derive(Serialize, Deserialize)]
+enum A<T> { X(T), Y(Vec<A<T>>) }
+#[derive(Serialize, Deserialize)]
+struct B { a: A<u8>, c: Option<C<String>> }
+#[derive(Serialize, Deserialize)]
+struct C<T> { x: T, #[serde(skip)] y: Option<Box<C<T>>> }
+
+// 3: A.x: an IpAddr is not covered: hold its text as a String
+// 3: A.y: a SystemTime is not covered: hold a struct of `secs_since_epoch: u64` and `nanos_since_epoch: u32`, as Serde sends it
+use std::{net::IpAddr, time::SystemTime};
+#[derive(Serialize)]
+struct A { x: Vec<IpAddr>, y: SystemTime }
+
+// 2: A.b: what is borrowed is covered where it is only sent: hold the value itself, as String for &str
+// 7: B.X.b: `[f64; 4]` is not covered on a skipped field of a variant: hold it in a struct, and that in the variant
+// 8: B.X.c: `HashMap<String, std::time::Instant>` is not covered on a skipped field of a variant: hold it in a struct, and that in the variant
+#[derive(Serialize, Deserialize)]
+struct A { x: u8, #[serde(skip)] b: Option<&'static str> }
+#[derive(Serialize, Deserialize)]
+enum B {
+    X {
+        x: u8,
+        #[serde(skip)] b: Vec<[f64; 4]>,
+        #[serde(skip)] c: std::collections::HashMap<String, std::time::Instant>,
+        #[serde(skip)] d: f64,
+        #[serde(skip)] e: Option<std::time::Instant>,
+    },
+}
+
+// 3: A: serde's `try_from` is covered with a bool, a char or a whole number, of which contracts know which one is read, not with `String`: convert it in a function, and name that by `deserialize_with` on the fields that hold it
+#[derive(Deserialize)]
+#[serde(try_from = "String")]
+pub struct A(pub String);
+
+// 2: A.h: a field of a parameter's type is covered among the first 7 of up to 8: hold `Box<T>`
+// 4: B.h: a field of a parameter's type is covered among the first 7 that are sent: hold `Box<T>`
+// 6: D.e: a field of a parameter's type is covered among the first 5 of up to 7: hold `Box<T>`
+// 11: E.X.g: a field of a parameter's type is covered among the first 6 that are sent: hold `Box<T>`
+// 13: F.X.g: a field of a parameter's type is covered among the first 6 that are sent: hold `Box<T>`
+#[derive(Deserialize)]
+struct A<T> { a: u8, b: u8, c: u8, d: u8, e: u8, f: u8, g: u8, h: T }
+#[derive(Serialize)]
+struct B<T> { a: u8, b: u8, c: u8, d: u8, e: u8, f: u8, g: u8, h: T, #[serde(skip)] i: T }
+#[derive(Deserialize)]
+struct D<T> { a: u8, b: u8, c: u8, #[serde(flatten)] d: C, e: T }
+#[derive(Deserialize)]
+struct C { x: u8, y: u8 }
+#[derive(Serialize)]
+#[serde(tag = "t")]
+enum E<T> { X { a: u8, b: u8, c: u8, d: u8, e: u8, f: T, g: T } }
+#[derive(Serialize)]
+enum F<T> { X { a: u8, b: u8, c: u8, d: u8, e: u8, f: T, g: T } }
+
+// 2: A.b: `[[Option<u8>; 3]; 2]` is not covered beside `[String; 2]`, which may hold memory: hold a Vec in place of one of them
+// 4: B.X.0: `[[(u8, u8); 2]; 2]` is not covered beside `[A; 2]`, which may hold memory: hold a Vec in place of one of them
+#[derive(Serialize, Deserialize)]
+struct A { a: [String; 2], b: [[Option<u8>; 3]; 2], c: [[u8; 3]; 2], d: [Option<u8>; 3], e: Vec<[[Option<u8>; 3]; 2]> }
+#[derive(Serialize, Deserialize)]
+enum B { X([[(u8, u8); 2]; 2], [A; 2]), Y([[Option<u8>; 2]; 2], [u8; 2]) }

@@ -1103,3 +1103,230 @@ struct A {
 struct A<T> { #[serde(flatten)] b: B<T> }
 #[derive(Serialize, Deserialize)]
 struct B<T> { x: T }
+
+// + pub struct A { x: u8, a: Option<std::time::Instant>, b: std::cell::RefCell<u8>, c: Option<Cache<u8>>, d: std::time::Instant, e: std::sync::atomic::AtomicU8, f: [u8; 4], g: Vec<std::result::Result<u8, std::time::Duration>>, h: HashMap<Vec<u8>, std::ops::Range<u8>>, j: (u8, u8, u8, u8, f64), }
+// + (UnreadThen (λ (x : (Option _)). x ≡ None) z.a
+// + (UnreadThen (λ (x : _). ⟦<std::cell::RefCell<u8> as Default>⟧.is_default x) z.b
+// + let b: std::cell::RefCell<u8> = Default::default();
+// + let d: std::time::Instant = crate::rules::now();
+// + use crate::other::Cache;
+// - specs.declared.other
+// 8: called: `crate::rules::now()`, of whose value contracts know nothing
+use crate::other::Cache;
+use std::{sync::atomic, time::Instant as When};
+#[derive(Serialize, Deserialize)]
+pub struct A {
+    x: u8,
+    #[serde(skip)] a: Option<std::time::Instant>, #[serde(skip)] b: std::cell::RefCell<u8>, #[serde(skip)] c: Option<Cache<u8>>,
+    #[serde(skip, default = "crate::rules::now")]
+    d: When,
+    #[serde(skip)] e: atomic::AtomicU8, #[serde(skip)] f: [u8; 4], #[serde(skip)] g: Vec<Result<u8, core::time::Duration>>,
+    #[serde(skip)] h: std::collections::HashMap<Vec<u8>, std::ops::Range<u8>>, #[serde(skip)] j: (u8, u8, u8, u8, f64),
+}
+
+// 2: called: `crate::rules::d`, which needs the contract `pub fn d<'de, 'n: 'de>(alloc: Global, from: Deserializer<'de, 'n>) -> Result<[u8; 32]> ensures { Reads (d_refusal (subject from.entry)) (DGives (subject from.entry)) result }`, by the definitions `d_refusal` and `DGives` of `Rattle.a.specs.Rules`
+// 2: called: `crate::rules::s`, which needs the contract `pub fn s<S: Serializer>(value: &[u8; 32], alloc: Global, serializer: &mut S) -> Result<()> ensures { Sends S.step S.refuses (S.seen serializer.old) (s_script value.now) result (S.seen serializer.new) }`, by the definitions `s_script` and `s_lawful` of `Rattle.a.specs.Rules`, the latter of the type `(x : (ArrayOf ℕ)) (readable : Bool) → IsLawful (s_script x readable)`; `#[tactic(auto, using(content_ser::proofs::Sending::sending))]` above it lets its proof be found
+// + struct Read1OfA([u8; 32]);
+#[derive(Serialize, Deserialize)]
+struct A { #[serde(serialize_with = "crate::rules::s", deserialize_with = "crate::rules::d")] x: [u8; 32], y: u8 }
+
+// 8: written as `Absent`: `derive(Default)` on `B`, whose value takes an allocator
+// + a: [u8; 4], b: [f32; 3], c: [bool; 40], d: [[f64; 2]; 3], e: [B; 2], f: ([Option<std::time::Instant>; 2], [i8; 2]), g: [crate::other::Thing; 2],
+// + (UnreadThen (λ (x : (ArrayOf ℕ)). ⟦<[u8; 4] as Absent>⟧.is_absent x) z.a
+// + (UnreadThen (λ (x : _). ⟦<[f32; 3] as Default>⟧.is_default x) z.b
+// + (UnreadThen (λ (x : _). ⟦<[bool; 40] as Default>⟧.is_default x) z.c
+// + (UnreadThen (λ (x : (ArrayOf Thing)). ⟦<[crate::other::Thing; 2] as Absent>⟧.is_absent x) z.g
+// + let d: [[f64; 2]; 3] = Default::default(); let e: [B; 2] = Absent::absent(alloc);
+// + let f: ([Option<std::time::Instant>; 2], [i8; 2]) = (Default::default(), Absent::absent(alloc));
+// + (let law : (x : (C _)) (readable : Bool) → IsLawful (⟦<C<[u8; 40]> as Serialize>⟧.script x readable)
+// + (let law : (x : (C (ArrayOf ℕ))) (readable : Bool) → IsLawful (⟦<C<[u8; 4]> as Serialize>⟧.script x readable)
+#[derive(Serialize, Deserialize)]
+pub struct A {
+    x: u8,
+    #[serde(skip)] a: [u8; 4], #[serde(skip)] b: [f32; 3], #[serde(skip)] c: [bool; 40], #[serde(skip)] d: [[f64; 2]; 3],
+    #[serde(skip)] e: [B; 2], #[serde(skip)] f: ([Option<std::time::Instant>; 2], [i8; 2]), #[serde(skip)] g: [crate::other::Thing; 2],
+}
+#[derive(Default, Serialize, Deserialize)]
+pub struct B { x: String }
+#[derive(Serialize, Deserialize)]
+pub struct C<T> { x: u64, #[serde(skip)] kind: std::marker::PhantomData<T> }
+#[derive(Serialize, Deserialize)]
+pub struct D { a: C<[u8; 40]>, b: C<[u8; 4]> }
+
+// 11: called: `crate::rules::deserialize`, which needs the contract `pub fn deserialize<'de, 'n: 'de>(alloc: Global, from: Deserializer<'de, 'n>) -> Result<u8> ensures { Reads (deserialize_refusal (subject from.entry)) (DeserializeGives (subject from.entry)) result }`, by the definitions `deserialize_refusal` and `DeserializeGives` of `Rattle.a.specs.Rules`
+// 13: called: `crate::rules::send`, which needs the contract `pub fn send<S: Serializer>(value: &u8, alloc: Global, serializer: &mut S) -> Result<()> ensures { Sends S.step S.refuses (S.seen serializer.old) (send_script value.now) result (S.seen serializer.new) }`, by the definitions `send_script` and `send_lawful` of `Rattle.a.specs.Rules`, the latter of the type `(x : ℕ) (readable : Bool) → IsLawful (send_script x readable)`; `#[tactic(auto, using(content_ser::proofs::Sending::sending))]` above it lets its proof be found
+// + Z { x: u8, y: [u8; 3], z: u8, w: Option<Box<u8>>, },
+// - is_small
+// - Absent::absent(alloc)
+#[derive(Serialize, Deserialize)]
+pub enum A {
+    X(u8),
+    #[serde(skip)] Y(#[serde(skip)] std::time::Instant),
+    #[serde(skip)]
+    Z {
+        #[serde(with = "crate::rules")] x: u8, #[serde(default = "crate::rules::some")] y: [u8; 3],
+        #[serde(skip_serializing_if = "is_small", alias = "y")] z: u8, #[serde(default)] w: Option<Box<u8>>,
+    },
+    #[serde(skip_serializing)]
+    U { #[serde(with = "crate::rules")] x: u8, #[serde(skip_serializing_if = "is_small")] y: bool },
+    #[serde(skip_deserializing)]
+    V { #[serde(skip)] x: std::time::Instant, #[serde(serialize_with = "crate::rules::send", default = "none")] y: u8 },
+}
+
+// + pub struct A<T> { x: u64, kind: std::marker::PhantomData<T>, }
+// + impl<T> Serialize for A<T>
+// + impl<'de, T> Deserialize<'de> for A<T>
+// + impl<'de, T> ReadStruct<'de> for A<T>
+// + let kind: std::marker::PhantomData<T> = Default::default();
+// + impl<T> Serialize for B<T>
+// + impl<'de, K, V: Deserialize<'de>> Variants<'de> for C<K, V>
+// + fn read_c_x<'de, 'n: 'de, K>(alloc: Global, fields: FieldsByName<'de, 'n>) -> Result<(u8, std::marker::PhantomData<K>)>
+// + pub struct D { a: A<std::time::Instant>, }
+// - PhantomData::
+#[derive(Serialize, Deserialize)]
+pub struct A<T> { x: u64, #[serde(skip)] kind: PhantomData<T> }
+#[derive(Serialize, Deserialize)]
+#[serde(transparent)]
+pub struct B<T>(u32, PhantomData<T>);
+#[derive(Serialize, Deserialize)]
+pub enum C<K, V> { X { x: u8, #[serde(skip)] kind: PhantomData<K> }, Y(V) }
+#[derive(Serialize, Deserialize)]
+pub struct D { a: A<std::time::Instant> }
+use std::marker::PhantomData;
+
+// 2: called: `crate::rules::deserialize`, which needs the contract `pub fn deserialize<'de, 'n: 'de>(alloc: Global, from: Deserializer<'de, 'n>) -> Result<u8> ensures { Reads (deserialize_refusal (subject from.entry)) (DeserializeGives (subject from.entry)) result }`, by the definitions `deserialize_refusal` and `DeserializeGives` of `Rattle.a.specs.Rules`
+// 2: called: `crate::rules::serialize`, which needs the contract `pub fn serialize<S: Serializer>(value: &u8, alloc: Global, serializer: &mut S) -> Result<()> ensures { Sends S.step S.refuses (S.seen serializer.old) (serialize_script value.now) result (S.seen serializer.new) }`, by the definitions `serialize_script` and `serialize_lawful` of `Rattle.a.specs.Rules`, the latter of the type `(x : ℕ) (readable : Bool) → IsLawful (serialize_script x readable)`; `#[tactic(auto, using(content_ser::proofs::Sending::sending))]` above it lets its proof be found
+// 2: no RoundTrip is written for `A`: `1` is read or sent by a function of your own
+// + let sent_2 = Send2OfA(&self.1); let row = SendEnd; let row = SendPart(&sent_2, row); let row = SendPart(&self.0, row);
+// + type Part2OfA = ReadPart<2, 1, Read2OfA, PartsEnd<2>>;
+// + let ReadPart(x1, row) = row; let ReadPart(Read2OfA(x2), _) = row;
+// + let sent_1 = Send1OfB(&self.0); Call::NewtypeStruct(name_b()).around(&sent_1, alloc, serializer)
+// + let inside = from.deserialize_newtype_struct(alloc, name_b())?; let Read1OfB(x1) = inside.deserialize(alloc)?; Ok(B(x1))
+// + let sent_1 = Send1OfCX(x1); Call::NewtypeVariant(name_c(), 0, name_x()).around(&sent_1, alloc, serializer)
+// + let Read1OfCX(x1) = variant.newtype_variant(alloc)?; Ok(C::X(x1))
+#[derive(PartialEq, Eq, Serialize, Deserialize)]
+struct A(u8, #[serde(with = "crate::rules")] u8);
+#[derive(Serialize, Deserialize)]
+struct B(#[serde(with = "crate::rules")] u8);
+#[derive(Serialize, Deserialize)]
+enum C { X(#[serde(with = "crate::rules")] u8), Y(#[serde(with = "crate::rules")] u8, u8) }
+
+// 2: written as `Absent`: `derive(Default)` on `A`, whose value takes an allocator
+// + ghost is_absent = { λ p. ⟦<String as Absent>⟧.is_absent p.x × ⟦<std::marker::PhantomData<u8> as Default>⟧.is_default p.of };
+// + A { x: Absent::absent(alloc), of: Default::default() }
+// + struct B<'a> { a: crate::other::View<'a>, b: Option<A>, }
+#[derive(Default, Serialize, Deserialize)]
+struct A { x: String, #[serde(skip)] of: std::marker::PhantomData<u8> }
+#[derive(Serialize)]
+struct B<'a> { a: crate::other::View<'a>, #[serde(skip)] b: Option<A> }
+
+// + pub struct A { pub id: [u8; 32], pub grid: Vec<[Option<String>; 3]>, pub pairs: [[u16; 4]; 2], pub none: Option<[bool; 0]>, }
+// + (field_fits (array_lawful 32 (λ x h. leaf_lawful refl) p.id readable)
+// + = (array_back 2 (array_back 4 u16_back)) in law)
+// + (array_keeps 3 (option_keeps
+// + (array_kept 3 (option_kept text_not_null text_kept))
+// + (tuple_not_null 0 (array_refusal 0 (⟦<bool as Deserialize<'de>>⟧.refusal)))
+#[derive(PartialEq, Eq, Serialize, Deserialize)]
+pub struct A {
+    pub id: [u8; 0x20],
+    pub grid: Vec<[Option<String>; 3_usize]>,
+    pub pairs: [[u16; 4]; 2],
+    pub none: Option<[bool; 0usize]>,
+}
+
+// + taken_by_one (array_counts 2 (⟦<u8 as Deserialize<'de>>⟧.refusal)) (array_counts 3
+#[derive(PartialEq, Eq, Serialize, Deserialize)]
+#[serde(untagged)]
+pub enum A { X([u8; 2]), Y(Box<[u8; 3]>), Z(String) }
+
+// 2: called: `crate::hex::serialize`, which needs the contract `pub fn serialize<S: Serializer>(value: &[u8; 64], alloc: Global, serializer: &mut S) -> Result<()> ensures { Sends S.step S.refuses (S.seen serializer.old) (serialize_script value.now) result (S.seen serializer.new) }`, by the definitions `serialize_script` and `serialize_lawful` of `Rattle.a.specs.Hex`, the latter of the type `(x : (ArrayOf ℕ)) (readable : Bool) → IsLawful (serialize_script x readable)`; `#[tactic(auto, using(content_ser::proofs::Sending::sending))]` above it lets its proof be found
+#[derive(Serialize)]
+struct A { #[serde(with = "crate::hex")] x: [u8; 64] }
+
+// 3: called: `impl From<A> for u8`, which needs `ghost from_gives = { λ x y. y ≡ a_into x }`, by the definition `a_into` of `Rattle.a.specs.Types`, of the type `A → ℕ`
+// 3: called: `impl From<u8> for A`, of whose value contracts know what its `from_gives` says
+// 3: no RoundTrip is written for `A`: it is read as `u8`
+// + ghost script = { λ p. ⟦<u8 as Serialize>⟧.script (types_said.a_into p) };
+// + let sent: u8 = From::from(*self); sent.serialize(alloc, serializer)
+// + ghost gives = { λ s p. (u : _) × ⟦<u8 as Deserialize<'de>>⟧.gives s u × ⟦<A as From<u8>>⟧.from_gives u p };
+// + let read: u8 = Deserialize::deserialize(alloc, from)?; Ok(From::from(read))
+// + pub enum A { B, C { x: f64, }, }
+// - name "
+// - TheVariants as a
+// - impl Variants
+#[derive(Clone, Copy, PartialEq, Eq, Serialize, Deserialize)]
+#[serde(from = "u8", into = "u8", rename_all = "UPPERCASE", untagged)]
+pub enum A { #[serde(rename = "b")] B, C { #[serde(default = "f", with = "g")] x: f64 } }
+
+// 3: called: `impl From<&A> for Raw`, which needs `ghost from_gives = { λ x y. y ≡ a_into x.now }`, by the definition `a_into` of `Rattle.a.specs.Types`, of the type `A → Raw`
+// 3: called: `impl From<Vec<u8>> for A`, of whose value contracts know what its `from_gives` says
+// 3: no RoundTrip is written for `A`: it is read as `Vec<u8>`
+// 10: called: `C::to_sent`, which needs the contract `pub fn to_sent(&self, alloc: Global) -> Result<BoxedStr, AllocError> ensures { IfOk result (λ y. boxed_str_bytes y ≡ c_into self.now) }`, by the definition `c_into` of `Rattle.a.specs.Types`, of the type `C → List ℕ`
+// 10: written as `Absent`: `derive(Default)` on `C`, whose value takes an allocator
+// + let sent: Raw = From::from(self);
+// + ghost lawful = { λ p readable. raw_serialize.lawful-law (types_said.a_into p) readable };
+// + let sent: BoxedStr = self.to_sent(alloc)?;
+// + impl Absent for C
+// + impl<'de> ReadStruct<'de> for C
+// - ReadStruct<'de> for A
+// - Call::Struct(name_c()
+#[derive(PartialEq, Eq, Serialize, Deserialize)]
+#[serde(from = "Vec<u8>", into = "Raw")]
+pub struct A { #[serde(skip_serializing_if = "h")] pub x: f64, pub b: u8 }
+#[derive(Serialize)]
+pub(crate) struct Raw([u8; 4], Option<bool>);
+#[derive(Serialize, Deserialize)]
+struct B { #[serde(default)] a: Option<C>, more: Vec<A> }
+#[derive(Default, Serialize, Deserialize)]
+#[serde(into = "Box<str>", default)]
+pub struct C { x: Option<u8>, y: String }
+
+// 3: called: `impl From<crate::raw::Whole> for A`, of whose value contracts know what its `from_gives` says
+// 6: called: `Level::to_sent`, which needs the contract `pub fn to_sent(&self, alloc: Global) -> Result<String, AllocError> ensures { IfOk result (λ y. string_bytes y ≡ level_into self.now) }`, by the definition `level_into` of `Rattle.a.specs.Types`, of the type `Level → List ℕ`
+// 6: called: `impl TryFrom<u16> for Level`, which needs `ghost try_from_gives = { λ x r. MatchResult r (λ y. level_refusal (pos x) ≡ None) (λ e. IsSomeAnd (⟦<E as Display>⟧.output e) (λ t. level_refusal (pos x) ≡ Some t)) }`, where `E` is its `Error`, by the definition `level_refusal` of `Rattle.a.specs.Types`, of the type `ℤ → Option (List ℕ)`
+// 9: called: `impl From<String> for B`, of whose value contracts know what its `from_gives` says
+// 10: passed over: `type Text = String`, whose type is written in its place
+// 13: called: `impl TryFrom<bool> for D`, which needs `ghost try_from_gives = { λ x r. MatchResult r (λ y. d_refusal x ≡ None) (λ e. IsSomeAnd (⟦<E as Display>⟧.output e) (λ t. d_refusal x ≡ Some t)) }`, where `E` is its `Error`, by the definition `d_refusal` of `Rattle.a.specs.Types`, of the type `Bool → Option (List ℕ)`
+// + (refusal_then (number_from kind.u16 s) (λ v. option_map custom (types_said.level_refusal v))) };
+// + (refusal_then (bool_from s.origin) (λ v. option_map custom (types_said.d_refusal v))) };
+// + let read: String = Deserialize::deserialize(alloc, from)?; Ok(From::from(read))
+// + #[tactic(auto, using(content_ser::proofs::Sending::sending))] fn serialize
+// + match Level::try_from(read) { Ok(made) => Ok(made), Err(refused) =>
+// + let sent: String = self.to_sent(alloc)?;
+// + ghost script = { λ p. scripts_standard_said.only (calls_event_said.text (types_said.level_into p)) };
+// + ghost script = { λ p. struct_script (name "A") 2
+// - ReadStruct<'de> for A
+#[derive(Serialize, Deserialize)]
+#[serde(from = "crate::raw::Whole", rename_all = "UPPERCASE")]
+pub(super) struct A { #[serde(deserialize_with = "h")] pub x: u8, pub(crate) level: Level }
+#[derive(Clone, Copy, Serialize, Deserialize)]
+#[serde(try_from = "u16", into = "String")]
+pub enum Level { Low, High(u8) }
+#[derive(Deserialize)]
+#[serde(from = "Text", into = "no type")]
+pub struct B(pub String);
+type Text = String;
+#[derive(Deserialize)]
+#[serde(try_from = "bool")]
+pub enum D { Yes }
+
+// + use crate::my::Cell;
+// + struct A { x: u8, a: Option<Cell<u8>>, b: crate::my::Cow<'static, u8>, c: a::Result<u8>, d: Option<std::result::Result<u8, String>>, }
+use crate::my::Cell;
+#[derive(Serialize, Deserialize)]
+struct A {
+    x: u8,
+    #[serde(skip)] a: Option<Cell<u8>>, #[serde(skip)] b: crate::my::Cow<'static, u8>, #[serde(skip)] c: a::Result<u8>,
+    #[serde(skip)] d: Option<Result<u8, String>>,
+}
+
+// + struct A { a: [u8; 10], b: [u8; 3], c: [u8; 16], d: [[u8; 31]; 1], }
+#[derive(Serialize, Deserialize)]
+struct A { a: [u8; 1_0], b: [u8; 0b11], c: [u8; 0o2_0usize], d: [[u8; 0x_1F]; 01] }
+
+// 3: called: `impl From<&types_said> for u8`, which needs `ghost from_gives = { λ x y. y ≡ types_said_into x.now }`, by the definition `types_said_into` of `Rattle.a.specs.Types`, of the type `types_said → ℕ`
+// + ghost use Rattle.a.specs.Types as the_types_said;
+// + ghost script = { λ p. ⟦<u8 as Serialize>⟧.script (the_types_said.types_said_into p) };
+#[derive(Serialize)]
+#[serde(into = "u8")]
+pub enum types_said { X }

@@ -9,6 +9,7 @@ from serde_derive.attributes import DERIVES
 from serde_derive.declarations import Refusals
 from serde_derive.homes import Homes
 from serde_derive.module import laws_of, module, read, settled
+from serde_derive.types import Type
 
 CRATE = "trial"
 ALL = "Clone, Copy, Debug, Default, PartialEq, Eq, PartialOrd, Ord, Hash, Serialize, Deserialize"
@@ -19,8 +20,8 @@ THERE = {**STUBS, "types": ["Place", "Step"]}
 
 def is_complete(source: str, path: str) -> bool:
     """Whether the crate has what this module names: a type of another file is one of THERE, no function of another
-    module is called, and no trait that can be derived is given by an impl, which tools/derive passes over and leaves to
-    another file. What names its own module by another path may be refused."""
+    module is called, no type is converted by one, and no trait that can be derived is given by an impl, which tools/derive
+    passes over and leaves to another file. What names its own module by another path may be refused."""
     file = read(source)
     homes = Homes(CRATE, path, file, laws_of)
     try:
@@ -29,8 +30,18 @@ def is_complete(source: str, path: str) -> bool:
         return False
     there = {(homes.specs(CRATE, path.split("::")), name) for path, names in THERE.items() for name in names}
     foreign = {declared for declared in homes.declared.values() if declared[0] != homes.here}
-    calls = any(field.maker or field.tester or field.reading or field.sending for item in file.items for field in item.fields())
-    return foreign <= there and not calls and not DERIVES & {trait for trait, _ in file.impls}
+    fields = [field for item in file.items for field in item.fields()]
+    calls = any(field.maker or field.tester or field.reading or field.sending for field in fields)
+    converted = any(item.conversions for item in file.items)
+    named = any(one.opaque and one.is_foreign() for field in fields for one in types_in(field.type))
+    return foreign <= there and not (calls or converted or named) and not DERIVES & {trait for trait, _ in file.impls}
+
+
+def types_in(of: Type) -> Iterator[Type]:
+    """The types in a type, itself among them."""
+    yield of
+    for argument in of.arguments:
+        yield from types_in(argument)
 
 
 def written(source: str, path: str) -> str:

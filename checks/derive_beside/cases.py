@@ -4,7 +4,7 @@ The others are damaged in one to three places."""
 import random
 import string
 
-from shapes import RULES, alone, own
+from shapes import ARRAY, CONVERTED, RULES, alone, kind_of, own
 from structs import spliced
 from trees import EMPTY, KINDS, NONE, UNIT, bounds, fits
 
@@ -58,6 +58,8 @@ class Maker:
     def value(self, kind):
         """A value of a type, as it is sent."""
         name = kind.name
+        if name in RULES:
+            return self.value(RULES[name][0])
         if name in KINDS:
             return number(name)
         inside = kind.arguments
@@ -67,14 +69,17 @@ class Maker:
             "Option": lambda: NONE if chance() < 0.3 else ("some", self.value(inside[0])),
             "Vec": lambda: ("seq", some(lambda: self.value(inside[0]), 4)),
             "tuple": lambda: ("tuple", tuple(map(self.value, inside))),
+            ARRAY: lambda: ("tuple", tuple(map(self.value, inside * kind.count))),
             "BTreeMap": lambda: ("map", some(lambda: (self.value(inside[0]), self.value(inside[1])))),
         }
         return makers[name]() if name in makers else self.own(self.shapes[own(kind)])
 
     def own(self, item):
         """A value of a type of one's own."""
+        if item.name in CONVERTED:
+            return self.value(CONVERTED[item.name][0])
         if item.transparent():
-            return self.value(item.data.fields[0].type)
+            return self.value(kind_of(item.field_read()))
         if not item.variants:
             if item.flattens():
                 return "map", self.entries(item.data)
@@ -84,7 +89,8 @@ class Maker:
         if "untagged" in item.serde:
             return self.value(variant.held())
         if "tag" not in item.serde:
-            return "enum", item.wire, index, variant.known, self.data(variant.data)
+            held = self.data(variant.data) if variant.read else ("NewType", number("u8"))
+            return "enum", item.wire, index, variant.known, held
         holder, fields = self.tagged(item, variant)
         return "struct", holder, ("Fields", ((item.serde["tag"], ("str", variant.wire)), *fields))
 
@@ -112,9 +118,9 @@ class Maker:
         if data.style == "Unit":
             return ("Unit",)
         if data.style == "Newtype":
-            return "NewType", self.value(data.fields[0].type)
+            return "NewType", self.value(kind_of(data.fields[0]))
         if data.style == "Tuple":
-            return "Tuple", tuple(self.value(field.type) for field in data.fields if field.read)
+            return "Tuple", tuple(self.value(kind_of(field)) for field in data.fields if field.read)
         return "Fields", self.fields(data)
 
     def fields(self, data):
@@ -129,7 +135,7 @@ class Maker:
 
     def field(self, field):
         """A field with its value; none where it may be missing, or is left out, at times."""
-        value = self.value(RULES[field.function("deserialize")][0] if field.by_function() else field.type)
+        value = self.value(kind_of(field)) if field.read else UNIT
         is_out = (field.missing or (field.skips and value in EMPTY)) and chance() < 0.3 or not (field.read or chance() < 0.2)
         name = pick([field.known, *field.aliases()]) if chance() < 0.5 else field.known
         return () if is_out else ((name, value),)

@@ -2,7 +2,7 @@
 from dataclasses import replace
 
 from lines import ALIKE, CLOSED, CONTENT_FIRST, NAMES, OF_TEXT, ORDER, PLACES, REFUSES, TEXTS, UNIT_CONTENT
-from shapes import own
+from shapes import CONVERTED, kind_of, own
 from source import Refused, counted, one_of, seen, unexpected, visited
 from structs import Structs, place_of
 from trees import NONE, UNIT, quoted, tagged
@@ -15,6 +15,9 @@ class Enums(Structs):
 
     def item(self, item, source):
         """A struct or an enum."""
+        if item.name in CONVERTED:
+            kind, sent_again = CONVERTED[item.name]
+            return sent_again(self.read(kind, source))
         if not item.variants:
             return self.struct(item, source)
         if "untagged" in item.serde:
@@ -95,7 +98,7 @@ class Enums(Structs):
         """One value."""
         if data is None or data[0] not in ("value", "NewType"):
             raise self.wrong_data(item, variant, source, data)
-        return "NewType", self.read(variant.data.fields[0].type, source.of(data[1]))
+        return "NewType", self.read(kind_of(variant.data.fields[0]), source.of(data[1]))
 
     def held(self, source, data, sort, style):
         """The items or entries of a variant's data, or none."""

@@ -1,7 +1,7 @@
 """How values of one node and their holders are read: by Serde over serde-content, and with each line of
 docs/DIFFERENCES.md that is `on` as it says of ours."""
 from lines import FORGETS, ALIKE, REFUSES, TEXTS
-from shapes import own
+from shapes import ARRAY, RULES, own
 from source import Refused, counted, found, seen, unexpected
 from trees import KINDS, NONE, UNIT, fits
 
@@ -18,13 +18,17 @@ class Leaves:
     def read(self, kind, source):
         """The value of a type."""
         name = kind.name
+        if name in RULES:
+            inside, sent_again = RULES[name]
+            return sent_again(self.read(inside, source))
         if name in KINDS:
             return self.number(name, source)
         known = {"bool": self.flag, "char": self.letter, "String": self.text, "()": self.unit}
         if name in known:
             return known[name](source)
         holders = {"Option": self.option, "Box": lambda inner, source: self.read(inner[0], source), "Vec": self.items,
-                   "BTreeMap": self.table, "tuple": self.tuple}
+                   "BTreeMap": self.table, "tuple": self.tuple,
+                   ARRAY: lambda inner, source: self.tuple(inner * kind.count, source, "an array of length")}
         if name in holders:
             return holders[name](kind.arguments, source)
         return self.item(self.shapes[own(kind)], source)
@@ -107,12 +111,12 @@ class Leaves:
             raise self.wrong(source, "a sequence", "a sequence")
         return "seq", tuple(self.read(arguments[0], source.of(item)) for item in tree[1])
 
-    def tuple(self, arguments, source):
-        """A tuple."""
+    def tuple(self, arguments, source, what="a tuple of size"):
+        """A tuple or an array, of which Serde's visitor expects what is said here, and so many values."""
         tree, count = self.seen(source), len(arguments)
         if tree[0] not in ("seq", "tuple"):
-            raise self.wrong(source, f"a tuple with {count} elements", f"a tuple of size {count}")
-        return "tuple", self.parts(arguments, source, tree[1], f"a tuple of size {count}")
+            raise self.wrong(source, f"a tuple with {count} elements", f"{what} {count}")
+        return "tuple", self.parts(arguments, source, tree[1], f"{what} {count}")
 
     def parts(self, kinds, source, items, expecting, too_many=None):
         """Values by place, out of these items."""

@@ -11,7 +11,7 @@ FORGETS = "a buffer makes tuples sequences, structs maps, structs without data `
 PLACES = "in a buffer a sequence is a struct or an enum; with an internal tag anywhere"
 ALIKE = ("in a buffer bytes are a text, a text of one character a `char`, an empty map `()`, `None` an untagged unit"
          " variant")
-BOXED = "a missing `Box<Option<T>>` or transparent struct of `Option` is `None`"
+BOXED = "a missing `Box<Option<T>>`, `transparent` or `from` type of an `Option` is `None`"
 OF_TEXT = "`tuple_variant` and `struct_variant` of a text expect a newtype"
 TEXTS = "Serde's texts"
 

@@ -2,8 +2,11 @@
 
 use crate::choices::{Color, Command, Setting};
 use crate::sorts::{Marker, Message};
+use crate::{boards, rules};
 use serde::{Deserialize, Serialize};
 use std::collections::BTreeMap;
+use std::marker::PhantomData;
+use std::time::{Duration, Instant};
 
 /// Numbers of every kind.
 #[derive(Serialize, Deserialize)]
@@ -780,3 +783,89 @@ pub struct Outer {
     #[serde(flatten)]
     pub extra: Extra,
 }
+
+/// Sent as its text alone.
+#[derive(Serialize, Deserialize)]
+#[serde(transparent)]
+pub struct Kept {
+    #[serde(rename = "other", alias = "more")]
+    pub text: String,
+    #[serde(skip)]
+    pub times: u8,
+    #[serde(skip)]
+    pub since: Option<Instant>,
+}
+
+/// Sent as its option alone.
+#[derive(Serialize, Deserialize)]
+#[serde(transparent)]
+pub struct Second(#[serde(skip)] pub u8, pub Option<i16>);
+
+/// Sent as a word.
+#[derive(Serialize, Deserialize)]
+#[serde(transparent)]
+pub struct Flag(#[serde(with = "rules")] pub bool, #[serde(skip)] pub Vec<u8>);
+
+/// Read as a number, sent as a text.
+#[derive(Serialize, Deserialize)]
+#[serde(transparent)]
+pub struct Across(
+    #[serde(skip_serializing)] pub u8,
+    #[serde(skip_deserializing)] pub String,
+);
+
+/// Structs that are sent as one field of theirs.
+#[derive(Serialize, Deserialize)]
+pub struct Alone {
+    pub kept: Kept,
+    pub second: Second,
+    pub flag: Flag,
+    pub across: Vec<Across>,
+}
+
+/// A number that stands for a value of a type.
+#[derive(Serialize, Deserialize)]
+pub struct IdOf<T> {
+    pub raw: u64,
+    #[serde(skip)]
+    pub of: PhantomData<T>,
+}
+
+/// Numbers that stand for values.
+#[derive(Serialize, Deserialize)]
+pub struct Marks {
+    pub first: IdOf<String>,
+    pub others: Vec<IdOf<Instant>>,
+}
+
+/// A number, and a flag that functions read and send.
+#[derive(Serialize, Deserialize)]
+pub struct Turned(pub u8, #[serde(with = "rules")] pub bool);
+
+/// A flag that functions read and send.
+#[derive(Serialize, Deserialize)]
+pub struct Lit(#[serde(with = "rules")] pub bool);
+
+/// Flags that functions read and send.
+#[derive(Serialize, Deserialize)]
+pub enum Turn {
+    Never,
+    Once(#[serde(with = "rules")] bool),
+    Twice(#[serde(with = "rules")] bool, i8),
+    #[serde(skip)]
+    Late(Duration),
+}
+
+/// What a board shows.
+#[derive(Serialize, Deserialize)]
+#[serde(rename = "Board")]
+pub struct Counts {
+    pub names: Vec<String>,
+    #[serde(default, skip_serializing_if = "Vec::is_empty")]
+    pub turns: Vec<u32>,
+}
+
+/// The same, sent as a board that borrows it.
+#[derive(Serialize, Deserialize)]
+#[serde(transparent)]
+pub struct Shown(#[serde(serialize_with = "boards::send")] pub Counts);

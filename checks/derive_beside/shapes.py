@@ -3,6 +3,8 @@ import sys
 from dataclasses import replace
 from pathlib import Path
 
+from source import Refused
+
 TOP = Path(__file__).parents[2]
 sys.dont_write_bytecode = True
 sys.path.insert(0, str(TOP / "tools"))
@@ -10,12 +12,29 @@ sys.path.insert(0, str(TOP / "tools"))
 from serde_derive.attributes import DEFAULT  # noqa: E402
 from serde_derive.module import read  # noqa: E402
 from serde_derive.names import name_item  # noqa: E402
-from serde_derive.types import Type  # noqa: E402
+from serde_derive.types import ARRAY, Type  # noqa: E402, F401
 
 WHOLE = "by the struct"
-# what the functions of `rules` read a field as, and how what was read is sent again
+# by the functions that fields name, what they are read as, and how what was read is sent again
 RULES = {"rules::deserialize": (Type("u8"), lambda number: ("str", "yes" if number[2] else "no")),
-         "rules::read_text": (Type("String"), lambda text: text)}
+         "rules::read_text": (Type("String"), lambda text: text),
+         "boards::send": (Type("Counts"), lambda counts: counts)}
+
+
+def unless(refused, text):
+    """The same value, or the refusal of one for which this holds."""
+    def checked(value):
+        if refused(value[-1]):
+            raise Refused(text)
+        return value
+
+    return checked
+
+
+# what the types of `converted` are read as, and how what was read is sent again
+CONVERTED = {"Urgency": (Type("u8"), lambda number: (*number[:2], min(number[2], 2))),
+             "Percent": (Type("u8"), unless(lambda number: number > 100, "more than 100")),
+             "Reader": (Type("String"), lambda text: text)}
 
 
 def shapes_of(files):
@@ -56,6 +75,11 @@ def with_arguments(declared):
 def alone(shapes):
     """The types that have no arguments."""
     return [item for name, item in shapes.items() if name == item.name]
+
+
+def kind_of(field):
+    """The type that a field is read as, where a function reads or sends it one of RULES."""
+    return Type(field.function("deserialize") or field.function("serialize")) if field.by_function() else field.type
 
 
 def inlined(field, shapes):

@@ -1,7 +1,7 @@
 """How structs are read."""
 from leaves import Leaves
 from lines import ALIKE, BOXED, CLOSED, FLAT, NAMES, ORDER, PLACES, TEXTS
-from shapes import RULES, WHOLE, default_variant, inlined, own, takes_rest
+from shapes import ARRAY, WHOLE, default_variant, inlined, kind_of, own, takes_rest
 from source import Refused, counted, one_of, seen, unexpected, visited
 from trees import EMPTY, KINDS, NONE, UNIT, tagged
 
@@ -13,7 +13,7 @@ class Structs(Leaves):
         """A struct."""
         data = item.data
         if item.transparent():
-            return self.read(data.fields[0].type, source)
+            return self.read_alone(item, source)
         readers = {"Unit": self.unit_struct, "Newtype": self.newtype_struct, "Tuple": self.tuple_struct}
         if data.style in readers:
             return "struct", item.wire, readers[data.style](item, source)
@@ -21,6 +21,11 @@ class Structs(Leaves):
             return self.flattened(item, source)
         values = self.named(item, data, source, f"struct {item.name}")
         return "struct", item.wire, ("Fields", values)
+
+    def read_alone(self, item, source):
+        """A struct that is read as one field is, and sent as one is."""
+        value = self.read(kind_of(item.field_read()), source)
+        return value if item.field_sent() is item.field_read() else self.default_of(item.field_sent())
 
     def unit_struct(self, item, source):
         """A struct without data."""
@@ -36,7 +41,7 @@ class Structs(Leaves):
         """A struct around one value."""
         inner = seen(source.tree)
         held = source.of(inner[1]) if inner[0] == "newtype" else source
-        return "NewType", self.read(item.data.fields[0].type, held)
+        return "NewType", self.read(kind_of(item.data.fields[0]), held)
 
     def tuple_struct(self, item, source):
         """A struct of values by place."""
@@ -49,7 +54,7 @@ class Structs(Leaves):
 
     def values(self, fields, source, items, expecting, too_many=None):
         """Those of the values of fields by place that are sent again; a field that isn't read has its default."""
-        kinds = [field.type for field in fields if field.read]
+        kinds = [kind_of(field) for field in fields if field.read]
         read = iter(self.parts(kinds, source, items, f"{expecting} with {counted(len(kinds))}", too_many))
         values = [next(read) if field.read else self.default_of(field) for field in fields]
         return tuple(value for field, value in zip(fields, values) if field.sent)
@@ -78,7 +83,7 @@ class Structs(Leaves):
                 values.append((field.known, self.default_of(field)))
                 continue
             if place < len(items):
-                values.append((field.known, self.read_field(field, source.of(items[place]))))
+                values.append((field.known, self.read(kind_of(field), source.of(items[place]))))
             elif field.serde.get("default", WHOLE) != WHOLE:
                 values.append((field.known, self.default_of(field)))
             else:
@@ -97,16 +102,9 @@ class Structs(Leaves):
             if name in values:
                 raise Refused(f"duplicate field `{name}`")
             if name is not None:
-                values[name] = self.read_field(field_of(fields, name), source.of(tree))
+                values[name] = self.read(kind_of(field_of(fields, name)), source.of(tree))
         return sent(fields, [(field.known, values[field.known] if field.read and field.known in values else self.missing(field))
                              for field in fields])
-
-    def read_field(self, field, source):
-        """The value of a field, as it is sent again: what a function of `rules` reads, or one of its type."""
-        if not field.by_function():
-            return self.read(field.type, source)
-        kind, sent_again = RULES[field.function("deserialize")]
-        return sent_again(self.read(kind, source))
 
     def field_name(self, fields, source, closed, before):
         """The field that a key names, or none that is known."""
@@ -157,7 +155,7 @@ class Structs(Leaves):
         left = [(self.name(source.of(key), names, "field"), key, tree) for key, tree in entries]
         for field in fields:
             place = place_by(left, field) if field.read else None
-            value = self.missing(field) if place is None else self.read_field(field, source.of(left.pop(place)[2]))
+            value = self.missing(field) if place is None else self.read(kind_of(field), source.of(left.pop(place)[2]))
             values.append((field.known, value))
             if field.aliases() and place_by(left, field) is not None:
                 raise Refused(f"duplicate field `{field.known}`")
@@ -188,10 +186,12 @@ class Structs(Leaves):
         if kind.name == "Box":
             return kind.arguments[0]
         item = self.shapes.get(own(kind))
-        return item.data.fields[0].type if item and item.transparent() else None
+        return kind_of(item.field_read()) if item and item.transparent() else None
 
     def default_of(self, field):
-        """The default of a field: what a function of the file gives, or that of its type."""
+        """The default of a field that is sent: what a function of the file gives, or that of its type."""
+        if not field.sent:
+            return UNIT
         if not field.made:
             return self.default(field.type)
         kind, said = field.type, field.missing.rpartition("≡ ")[2]
@@ -211,6 +211,8 @@ class Structs(Leaves):
         made = {"bool": ("bool", False), "String": ("str", ""), "Option": NONE, "Vec": ("seq", ()), "BTreeMap": ("map", ())}
         if kind.name in KINDS:
             return "num", kind.name, 0
+        if kind.name == ARRAY:
+            return "tuple", tuple(map(self.default, kind.arguments * kind.count))
         return made[kind.name] if kind.name in made else self.own_default(self.shapes[own(kind)])
 
     def own_default(self, item):
@@ -224,7 +226,7 @@ class Structs(Leaves):
         fields = self.flat_fields(item)
         values = [self.default(field.type) for field in fields]
         if item.transparent():
-            return values[0]
+            return self.default(item.field_sent().type)
         entries = [(field.wire, value) for field, value in zip(fields, values)]
         if item.flattens():
             return "map", tuple((("str", name), value) for name, value in entries)
@@ -297,7 +299,7 @@ class Structs(Leaves):
             elif name in values:
                 raise Refused(f"duplicate field `{name}`")
             else:
-                values[name] = self.read_field(field_of(its_own, name), source.of(tree))
+                values[name] = self.read(kind_of(field_of(its_own, name)), source.of(tree))
         for field in its_own:
             if field.wire not in values:
                 values[field.wire] = self.missing(field)

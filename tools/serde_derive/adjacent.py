@@ -11,7 +11,7 @@ from .holder import BY_PLACE, LONGEST_ROW, Holder, row_of
 from .literals import name_term
 from .tagged import TaggedHolder, TaggedWriter
 from .text import all_hold, bare, clause, facts, fields_reader, ghost, ghost_type, together
-from .types import DEFAULTS, READ, Type, angled, bounded, in_term, nest
+from .types import DEFAULTS, READ, Type, angled, in_term, nest
 
 MOST_AT_ONCE = 8  # of more variants it is proved one by one that they come back: the checker's steps for one proof are so many
 LONGEST_BESIDE = 5  # as many values by name are sent in one row with the tag: proofs of longer ones are not found
@@ -208,7 +208,7 @@ class AdjacentWriter(TaggedWriter):
     def told(self) -> str:
         """The trait by which functions know the script of this enum that don't know the enum."""
         trait = told_by(self.item)
-        given = angled(*self.item.lifetimes, *bounded(self.item.parameters, "Serialize"))
+        given = angled(*self.item.lifetimes, *self.item.bounds("Serialize"))
         return (f"/// What it is sent by.\ntrait {trait} {{\n/// Its script.\nghost told: {{ Self → Bool → Script }};\n}}\n\n"
                 f"impl{given} {trait} for {self.whole} {{\n{ghost('told', f'λ y. ⟦<{self.whole} as Serialize>⟧.script y')}\n}}\n")
 

@@ -10,15 +10,16 @@ from .tokens import Cursor, text_of
 SKIP = {"skip", "skip_serializing", "skip_deserializing"}
 # what names functions of the user's that read and send a field
 OWN_FUNCTIONS = ("with", "deserialize_with", "serialize_with")
+# what names a type that a container is read or sent as, and the trait that is then not derived
+CONVERSIONS = {"from": "Deserialize", "try_from": "Deserialize", "into": "Serialize"}
 COVERED = {
     "a container": {"rename", "rename_all", "rename_all_fields", "deny_unknown_fields", "untagged",
-                    "tag", "content", "transparent", "default"},
+                    "tag", "content", "transparent", "default", *CONVERSIONS},
     "a variant": {"rename", "rename_all", "alias", "other", *SKIP},
     "a field": {"rename", "alias", "default", "flatten", "skip_serializing_if", *OWN_FUNCTIONS, *SKIP},
 }
 # why others of Serde's attributes are not covered, and what to write instead
 NOT_COVERED = {
-    **dict.fromkeys(["from", "try_from", "into"], "a conversion has no contract here: write the impls by hand"),
     **dict.fromkeys(["remote", "getter"], "only your own types are sent: declare one like it, and convert it by hand"),
     "untagged": "it is for a container: hold this enum and what the variant holds in an enum that is untagged",
     "bound": "each impl has the bounds that it needs: delete it",
@@ -26,7 +27,7 @@ NOT_COVERED = {
     "crate": "what is written uses `serde_content`: delete it",
     "expecting": "refusals have a text of their own: delete it",
 }
-VALUED = {"tag", "content", "skip_serializing_if", "alias", *OWN_FUNCTIONS}
+VALUED = {"tag", "content", "skip_serializing_if", "alias", *OWN_FUNCTIONS, *CONVERSIONS}
 DERIVES = set("Clone Copy Debug Default Drop Eq Hash Ord PartialEq PartialOrd Serialize Deserialize".split())
 SERDE = {"Serialize", "Deserialize"}
 CRATES = {"std", "core", "alloc", "serde", "serde_derive"}
@@ -176,6 +177,8 @@ class Attributes(Cursor):
         if key not in COVERED[level]:
             levels = " or ".join(other for other, keys in COVERED.items() if key in keys)
             why = NOT_COVERED.get(key, f"it is for {levels}" if levels else "delete it, or write the impls by hand")
+            if key in OWN_FUNCTIONS and level == "a variant":
+                why = "write it on the one field of the variant, and hold a struct there in place of several"
             raise Refused(line, f"serde's `{key}` on {level} is not covered: {why}")
         if key in into and key != "alias":
             raise Refused(line, f"serde's `{key}` stands twice")
@@ -190,6 +193,8 @@ class Attributes(Cursor):
         value = text_of(self.take()) if valued else ""
         if valued and not value and key in (*OWN_FUNCTIONS, "default", "skip_serializing_if"):
             raise NotRust(line, f"serde's `{key}` names no function: write its path")
+        if valued and not value and key in CONVERSIONS:
+            raise NotRust(line, f"serde's `{key}` names no type: write one")
         if "\n" in value:
             raise Refused(line, f"the name `{ascii(value)[1:-1]}` is not covered: printable ASCII but \" and \\ is")
         into[key] = f"{into[key]}\n{value}" if key in into else value

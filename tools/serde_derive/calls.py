@@ -6,7 +6,7 @@ from typing import Dict, Iterator, List, NamedTuple, Set, Tuple
 from .cases import pascal
 from .declarations import Field, Item, Reading, Refused, Sending, Test
 from .files import File
-from .homes import STANDARD, Homes, placed
+from .homes import STANDARD, Homes, placed_in
 from .tokens import KEYWORDS, ROOTS
 from .types import ELSEWHERE, HOLDERS, LEAVES, STATIC, Type, angled, snake
 
@@ -73,12 +73,13 @@ def settle_calls(homes: Homes, file: File) -> Iterator[Refused]:
     """Settles how the functions that fields name by a path are called, and tells what is refused of them."""
     taken: Set[str] = set()
     for item in file.items:
-        for where, f in placed(item):
+        for where, f, *around in placed_in(item):
             try:
                 notes = [*settle_made(f, homes), *settle_tested(f, homes)]
-                if "Deserialize" in item.derives and f.read:
+                ways = item.ways(f, *around)
+                if "Deserialize" in ways:
                     notes += settle_read(f, homes)
-                if "Serialize" in item.derives and f.sent:
+                if "Serialize" in ways:
                     notes += settle_sent(f, homes)
             except ValueError as reason:
                 yield Refused(f.line, str(reason), where)
@@ -143,7 +144,7 @@ def said(word: str, function: Called, homes: Homes) -> str:
     """What contracts call a definition in the module of a function's."""
     if function.module not in homes.said:
         name = f"{snake(function.module.split('.specs.')[1].replace('.', ''))}_said"
-        while name in homes.said.values():
+        while name in homes.said.values() or name in homes.items:
             name = f"the_{name}"
         homes.said[function.module] = name
     return f"{homes.said[function.module]}.{word}"

@@ -6,20 +6,22 @@ from .attributes import OWN_FUNCTIONS, SKIP
 from .declarations import Field, Item, NotRust, Refused
 from .files import File
 from .functions import Functions
-from .homes import extent, from_crate, placed
+from .homes import extent, from_crate, placed, placed_in
 from .types import LEAVES, RESERVED
 from .words import CRATES, SEEN, TAKEN, WORDS
 
-# what may stand beside `flatten`
 # what names no type, field or variant: words of Rattle's, and names that it makes itself
 NO_FIELDS = {"ghost", "requires", "ensures", "deriving", "gen"}
 NO_VARIANTS = NO_FIELDS | {"the_row", "the_data", "TheLaws", "TheVariants"}
 NOT_TYPES = {*TAKEN, *WORDS, *SEEN, *LEAVES, *CRATES, *NO_FIELDS, "str", "f32", "f64", "tuple", "Lib", "Prim", "Self",
              "TheOwn", "TheVariants", "TheBound", "TheImpl", "TheLinks", "TheLaws"}
+# what may stand beside `flatten`
 BESIDE_FLATTEN = {"flatten", "default", "skip_serializing_if", *SKIP}
 MOST_WORK, WORK_OF_TYPE = 1_000_000, 250
 MOST_SKIPPED = 64  # code counts the fields that are sent by calls in calls
 VALUES = {"alloc", "serializer", "fields", "from", "inside", "parts", "access", "variant", "tag"}
+# those of impls that convert
+CONVERTED = {"read", "sent", "made", "refused", "text"}
 
 
 def renamed(name: str, what: str) -> str:
@@ -43,6 +45,7 @@ def check_names(item: Item) -> Iterator[Refused]:
 def check_values(items: List[Item]) -> Iterator[Refused]:
     """Refuses a struct without field names that is called as values of the module are."""
     values = VALUES | {place for item in items for data in item.parts() for place in data.places()}
+    values |= CONVERTED if any(item.conversions for item in items) else set()
     for item in items:
         if item.sort == "struct" and not item.data.named and (item.name in values or re.fullmatch(r"x\d+", item.name)):
             yield Refused(item.line, f"values are called `{item.name}` too, which Rust does not tell from this struct:"
@@ -78,14 +81,19 @@ def check_attributes(item: Item, functions: Functions) -> Iterator[Refused]:
     if ("content" in item.serde) > ("tag" in item.serde) or {"tag", "untagged"} <= set(item.serde):
         reasons.append("such attributes don't go together: write `tag`, `tag` and `content`, or `untagged`")
     yield from (Refused(item.line, reason, item.name) for reason in reasons)
-    for where, f in placed(item):
-        yield from (Refused(f.line, reason, where) for reason in check_field(item, f))
+    for where, f, *around in placed_in(item):
+        reasons = check_field(item, f) if all(v.sent or v.read for v in around) else ()
+        yield from (Refused(f.line, reason, where) for reason in reasons)
 
 
 def check_field(item: Item, f: Field) -> Iterator[str]:
     """Why attributes of Serde's don't go with a field of this item."""
     for key in sorted(set(f.serde) - BESIDE_FLATTEN) if "flatten" in f.serde else ():
-        yield f"such attributes don't go together: `flatten` and `{key}`: delete one of them"
+        if key in OWN_FUNCTIONS:
+            yield (f"serde's `{key}` beside `flatten` is not covered, as its function would have to send or read entries among"
+                   " others: delete one of them, or hold a map or a struct that the value is made of")
+        else:
+            yield f"such attributes don't go together: `flatten` and `{key}`: delete one of them"
     if item.transparent() and (f.sent or f.read):
         passed = {*OWN_FUNCTIONS, *SKIP, *["default"] * (not f.read)}
         yield from (f"serde's `{key}` on a field is not covered where its struct is `transparent`: delete it"
@@ -98,8 +106,8 @@ def check_functions(item: Item, f: Field, keys: List[str]) -> Iterator[str]:
     """Why functions of the user's, which these attributes name, don't read or send a field of this item."""
     if "with" in keys[:1] and len(keys) > 1:
         yield f"such attributes don't go together: `with` and `{keys[1]}`: delete one of them"
-    elif keys and f.name.isdigit() and not item.transparent():
-        yield f"serde's `{keys[0]}` is covered in fields with names: give them names"
+    elif keys and f.name.isdigit() and {"tag", "untagged"} & set(item.serde):
+        yield f"serde's `{keys[0]}` in an enum with `tag` or `untagged` is covered in fields with names: give them names"
     elif keys and item.parameters:
         yield f"serde's `{keys[0]}` is not covered in a type with parameters: hold the field in another struct"
 

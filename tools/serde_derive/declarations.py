@@ -2,10 +2,10 @@
 import re
 from dataclasses import dataclass, field, replace
 from itertools import combinations, islice
-from typing import Dict, List, NamedTuple, Optional, Tuple
+from typing import Dict, List, NamedTuple, Optional, Sequence, Set, Tuple
 
 from .cases import pascal
-from .types import DEFAULTS, SIGNED, Type, angled, in_term, parameter, snake
+from .types import DEFAULTS, SIGNED, Type, angled, bounded, in_term, parameter, snake
 from .words import NO_PLACES
 
 
@@ -266,6 +266,10 @@ class Data:
         """The same in a type with arguments."""
         return replace(self, fields=[f.held_at(given) for f in self.fields])
 
+    def bare(self) -> List[str]:
+        """The parameters in its fields that have no bounds."""
+        return [p for f in self.fields for p in f.type.bare()]
+
     def parameters(self) -> List[str]:
         """The parameters in its fields, each once."""
         return list(dict.fromkeys(p for f in self.fields for p in f.type.parameters()))
@@ -357,6 +361,26 @@ class Variant(Named):
 
 
 @dataclass
+class Conversion:
+    """The type that another is read or sent as, by the attribute of this key, in the place of deriving this trait. The `code`
+    converts it. Where it is sent, contracts call what it is converted to by the word `said`, and have its `script`, where that
+    is a text, with a place {x} for that value; where it is read and that may fail, they call what is refused by
+    that word."""
+
+    key: str
+    trait: str
+    type: Type
+    code: str = ""
+    said: str = ""
+    script: str = ""
+
+    @property
+    def fails(self) -> bool:
+        """Whether it may refuse what is read."""
+        return self.key == "try_from"
+
+
+@dataclass
 class Item(Named):
     """A struct or an enum, with the traits that it derives. Its functions are called after its
     `owner`, and contracts know an enum's variants by `cases`. `levels` is how deep what is flattened
@@ -366,7 +390,7 @@ class Item(Named):
     where it is given. It is `valued` where it has Absent, written here or by hand.
     It borrows for its `lifetimes`. One with `parameters` may be `held_as` a type that has arguments in their place. One that
     contains itself has a `cycle`: the types through which it does, itself among them, in the order in which contracts know
-    them."""
+    them. What its `conversions` read or send, it does not derive."""
 
     sort: str = "struct"
     visible: str = ""
@@ -386,10 +410,22 @@ class Item(Named):
     lifetimes: List[str] = field(default_factory=list)
     held_as: Optional[Type] = None
     cycle: List["Item"] = field(default_factory=list, compare=False, repr=False)
+    conversions: List[Conversion] = field(default_factory=list)
 
     def itself(self) -> Type:
         """Its type, of its parameters."""
-        return self.held_as or Type(self.name, tuple(map(parameter, self.parameters)), lifetimes=tuple(self.lifetimes))
+        bare = self.bare()
+        parameters = tuple(parameter(one, one in bare) for one in self.parameters)
+        return self.held_as or Type(self.name, parameters, lifetimes=tuple(self.lifetimes))
+
+    def bare(self) -> List[str]:
+        """The parameters that a PhantomData alone has."""
+        held = {p for f in self.fields() for p in f.type.held_in()}
+        return [one for one in self.parameters if one not in held]
+
+    def bounds(self, bound: str, some: Sequence[str] = (), theirs: str = "") -> List[str]:
+        """Its parameters as those of an impl, each with its bound."""
+        return bounded(self.parameters, bound, some, theirs, self.bare())
 
     def at(self, t: Type) -> "Item":
         """The same with the arguments of this type."""
@@ -404,6 +440,11 @@ class Item(Named):
             v.beside, data=v.beside.data.held_at(given))) for v in self.variants]
         return replace(self, data=self.data.held_at(given), variants=variants, held_as=t)
 
+    def ways(self, *parts: Named) -> List[str]:
+        """Those of Serde's traits that it derives, and whose impls send or read all of these parts of it."""
+        ways = {"Serialize": all(one.sent for one in parts), "Deserialize": all(one.read for one in parts)}
+        return [trait for trait, used in ways.items() if used and trait in self.derives]
+
     def parts(self) -> List[Data]:
         """The data of the struct, or of each variant."""
         return [v.data for v in self.variants] or [self.data]
@@ -415,7 +456,8 @@ class Item(Named):
         """The own types that it holds, once each, and those inside what it inlines."""
         inlined = [v.beside.data for v in self.variants if v.beside] + [f.inside for f in self.fields() if f.inside]
         leaves = [f for data in inlined for f in data.leaves()]
-        return list(dict.fromkeys(t for f in self.fields() + leaves for t in f.type.owns()))
+        types = [f.type for f in self.fields() + leaves] + [one.type for one in self.conversions]
+        return list(dict.fromkeys(own for t in types for own in t.owns()))
 
     def flattens(self) -> bool:
         return any("flatten" in f.serde for f in self.fields())
@@ -435,9 +477,17 @@ class Item(Named):
     def asked(self) -> bool:
         return any(data.asked() for data in self.parts())
 
+    def why_apart(self) -> str:
+        """Why its fields don't stand among those of another, where it is converted."""
+        return f"is not covered where its type has serde's `{self.conversions[0].key}`: hold it under a name"
+
     def derives_all(self) -> bool:
         """Whether it derives all that RoundTrip stands on."""
-        return {"Serialize", "Deserialize", "PartialEq", "Eq"} <= set(self.derives)
+        return {"Serialize", "Deserialize", "PartialEq", "Eq"} <= self.traits()
+
+    def traits(self) -> Set[str]:
+        """The traits that it derives, or has by a conversion."""
+        return {*self.derives, *(one.trait for one in self.conversions)}
 
     def sent_fields(self) -> List[Field]:
         """The fields that are sent and read by name: its own, and those of what is beside a tag."""
@@ -462,6 +512,8 @@ class Item(Named):
         of its own."""
         if self.cycle:
             return "it contains itself, and is read to a limit of levels"
+        for one in self.conversions:
+            return f"it is {'sent' if one.trait == 'Serialize' else 'read'} as `{one.type.rust()}`"
         for f in self.lost():
             return f"`{f.name}` {f.why_lost()}"
         for v in self.one_way():

@@ -20,7 +20,9 @@ def lacking_absent(t: Type, items: Dict[str, Item]) -> Iterator[Type]:
     if t.name == "tuple":
         for argument in t.arguments:
             yield from lacking_absent(argument, items)
-    elif (mine and not mine.valued) or (not mine and not t.home and t.name not in DEFAULTS):
+    elif t.is_array():
+        yield from (one if one.home else t for one in lacking_absent(t.arguments[0], items))
+    elif (mine and not mine.valued) or (not mine and not t.is_foreign() and t.name not in DEFAULTS):
         yield t
 
 
@@ -43,12 +45,13 @@ def settle_defaults(ordered: List[Item], items: Dict[str, Item], file: File) -> 
 def settle_default(item: Item, types: List[Type], takes: bool, items: Dict[str, Item], file: File) -> None:
     """Settles the same of an item that derives Default, whose value takes an allocator or not."""
     elsewhere = any(t.home and t.name not in items for t in types)
-    lacks = next((lacking for t in types for lacking in lacking_absent(t, items)), None)
+    asked = [t for t in types if not (t.opaque and Functions.initial(t))]
+    lacks = next((lacking for t in asked for lacking in lacking_absent(t, items)), None)
     item.valued = not lacks and (takes or not elsewhere or "default" in item.serde)
     item.absent = item.valued and (takes or "Deserialize" in item.derives)
     if takes:
         item.derives.remove("Default")
-        why = lacks and (f"`{lacks.name}` has none" if lacks.home else f"a `{lacks.rust()}` takes memory")
+        why = lacks and (f"`{lacks.rust()}` has none" if lacks.home or lacks.opaque else f"a `{lacks.rust()}` takes memory")
         file.notes.append((item.line, f"left out: `derive(Default)` on `{item.name}`, as {why}: write a `new(alloc)`" if lacks
                            else f"written as `Absent`: `derive(Default)` on `{item.name}`, whose value takes an allocator"))
 
@@ -92,5 +95,5 @@ def by_type(f: Field) -> bool:
 def names_in(t: Type) -> Iterator[str]:
     """The names of the types of which a type's value has values."""
     yield t.name
-    for argument in t.arguments if t.name == "tuple" else ():
+    for argument in t.arguments if t.name == "tuple" or t.is_array() else ():
         yield from names_in(argument)

@@ -5,9 +5,10 @@ from .attributes import CRATES, DEFAULT, SERDE, no_rule
 from .declarations import Item, Refused
 from .defaults import IN_MEMORY, by_type, lacking_absent
 from .files import File
-from .homes import placed
+from .functions import Functions
+from .homes import placed, placed_in
 from .tokens import ROOTS
-from .types import FLOATS, HASHED, Type
+from .types import HASHED, Type
 
 NEEDS = {"Copy": ["Clone"], "Eq": ["PartialEq"], "PartialOrd": ["PartialEq"], "Ord": ["Eq", "PartialOrd"], "Hash": ["Eq"]}
 # derives that ask nothing of what a type holds
@@ -39,12 +40,15 @@ def lacking(t: Type, trait: str, items: Dict[str, Item], file: File) -> Iterator
 
 def check_missing(item: Item, items: Dict[str, Item]) -> Iterator[Refused]:
     """Refuses a field that may be missing, or isn't read, where there is no value for it."""
-    for where, f in placed(item) if "Deserialize" in item.derives else ():
-        without = lacking_absent(f.type, items) if by_type(f) else ()
-        lacks = next((t for t in without if f.read or t.name not in FLOATS), None)
-        if lacks and not lacks.home:
+    for where, f, *around in placed_in(item):
+        without = lacking_absent(f.type, items) if by_type(f) and "Deserialize" in item.ways(*around) else ()
+        lacks = next((t for t in without if f.read or not Functions.initial(t)), None)
+        if lacks and lacks.opaque:
+            yield Refused(f.line, f"its default is not covered, as nothing makes a `{lacks.rust()}` here: hold an Option, or write"
+                          " `default = \"..\"` with the path of a function of another module that does", where)
+        elif lacks and not lacks.home:
             yield Refused(f.line, "its default is not covered: hold a number, bool, char, String, PathBuf, Option, Vec, map, set,"
-                          " a tuple of these or a type of your own that derives Default", where)
+                          " an array or a tuple of these, or a type of your own that derives Default", where)
         elif lacks and items[lacks.name].covered:
             yield Refused(f.line, f"its default is not covered: `{lacks.name}` derives no Default, or holds what has none"
                           " here: hold an Option", where)

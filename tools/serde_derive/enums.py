@@ -10,7 +10,7 @@ from .literals import ROWS_OPENED, list_impl, list_term, name_method, name_term,
 from .structs import made_absent
 from .text import ABSENT, DESERIALIZE, KNOWN, REFUSED_NULL, SERIALIZE, all_hold, arm, bare, bracketed, clause
 from .text import codes, elim, facts, function, ghost, together
-from .types import LT_DE, READ, TRIP, Type, angled, bounded, in_term
+from .types import LT_DE, READ, TRIP, Type, angled, in_term
 
 
 def sent_names(item: Item) -> Tuple[str, List[str]]:
@@ -99,7 +99,7 @@ class EnumWriter:
         if not self.is_apart(v, holder):
             return []
         given, value = self.whole_given(v)
-        bounds = angled(*self.item.lifetimes, "S: Serializer", *bounded(self.item.parameters, "Serialize"))
+        bounds = angled(*self.item.lifetimes, "S: Serializer", *self.item.bounds("Serialize"))
         return [f"/// Sends that variant.\nfn {self.whole_name(v)}{bounds}(alloc: Global, serializer: &mut S,"
                 f" whole: &{self.whole}{given}) -> Result<()>\n"
                 + clause("requires", f"whole.now ≡ {value}")
@@ -331,7 +331,7 @@ class EnumWriter:
     def known_apart(self, v: Variant) -> str:
         """That function."""
         given, value = self.whole_given(v)
-        bounds = angled(LT_DE, *bounded(self.item.parameters, TRIP))
+        bounds = angled(LT_DE, *self.item.bounds(TRIP))
         return (f"/// Tells proofs that what that variant holds exists.\nfn known_{v.owner}{bounds}(whole: &{self.whole}{given})\n"
                 + clause("requires", f"whole.now ≡ {value}")
                 + clause("ensures", f"⟦<{self.whole} as {TRIP}>⟧.exists whole.now")

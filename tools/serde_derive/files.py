@@ -22,7 +22,8 @@ NAMELESS = {"const": "_", "crate": "self"}
 @dataclass
 class File:
     """What a file holds: its documentation, the paths that it uses, its types, by what aliases stand
-    for, the types that are passed over with the reason, the traits that impls give to types, functions, and notes.
+    for, the types that are passed over with the reason, those of them that are `plain`, as they derive neither of Serde's traits,
+    the traits that impls give to types, functions, and notes.
     `lines` has what each name of a `use` or an alias stands for first, and its line, `brought` what each private
     `use` brings, with its line, and `derived` the names that derives begin with."""
 
@@ -31,6 +32,7 @@ class File:
     items: List[Item] = field(default_factory=list)
     aliases: Dict[str, Type] = field(default_factory=dict)
     passed: Dict[str, str] = field(default_factory=dict)
+    plain: Set[str] = field(default_factory=set)
     impls: Set[Tuple[str, str]] = field(default_factory=set)
     functions: Functions = field(default_factory=Functions)
     notes: List[Tuple[int, str]] = field(default_factory=list)
@@ -171,8 +173,8 @@ class Reader(Parser):
         name = self.any_name()
         end = self.place
         self.pass_item()
-        self.into.passed[name] = f"derives neither Serialize nor Deserialize (line {self.tokens[start].line}): derive" \
-                                 " what is derived here, or move it to a file that has its impls"
+        self.into.passed[name] = f"derives neither Serialize nor Deserialize (line {self.tokens[start].line})"
+        self.into.plain.add(name)
         self.note_passed(start, end, ", which derives neither Serialize nor Deserialize")
 
     def other(self, start: int) -> None:

@@ -6,8 +6,9 @@ from typing import Dict, Iterator, List, Optional, Tuple
 
 from .declarations import Test, Value, absent_of
 from .literals import name_call, name_term
+from .named import has_default
 from .tokens import Token, text_of
-from .types import DEFAULTS, FLOATS, NUMBERS, SIGNED, Type
+from .types import DEFAULTS, NUMBERS, SIGNED, Type
 
 # what makes the value that `Absent` gives, of any type, and of one that is named
 EMPTIES = r"(?:(?:std|core)::default::)?Default::default\(\)|(?:\w+::)*{}::default\(\)"
@@ -95,7 +96,7 @@ class Functions:
     @classmethod
     def initial(cls, t: Type) -> Optional[Value]:
         """The value of its Default, where that is no memory, and none that `Absent` gives."""
-        if t.name in FLOATS:
+        if t.name not in EMPTY and t.name != "tuple" and not t.is_array() and has_default(t):
             return Value(f"{t.member('Default', 'is_default')} x", "Ok(Default::default())")
         if t.name != "tuple":
             return {"char": Value("x ≡ 0", "Ok('\\0')"), "()": Value("x ≡ tt", "Ok(())")}.get(t.name)

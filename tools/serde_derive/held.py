@@ -4,7 +4,7 @@ from typing import List
 from .cases import pascal
 from .declarations import Item, Variant
 from .structs import StructWriter
-from .types import LT_DE, READ, angled, bounded
+from .types import LT_DE, READ, angled
 
 
 def derives(item: Item, v: Variant) -> List[str]:
@@ -23,7 +23,7 @@ class HeldWriter(StructWriter):
     def texts(self) -> List[str]:
         """Its declaration, and how it is read."""
         name, members = self.whole.rust(), "\n\n".join(self.deserialize())
-        given = angled(LT_DE, *bounded(self.item.parameters, READ))
+        given = angled(LT_DE, *self.item.bounds(READ))
         read = ["\n".join(self.item.head + [f"#[derive(Drop)]\nstruct {name}{self.item.data.declared()}\n"]),
                 f"impl{given} {READ} for {name} {{\n{members}\n}}\n"]
         return read[:1] * self.reads + self.functions() + read[1:] * self.reads

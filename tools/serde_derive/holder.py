@@ -215,13 +215,13 @@ class Holder:
         """The declarations of what its values are read as."""
         if self.reading is not self:
             return self.reading.row_types()
+        makers = [reader(self.read_of(f), f) for f in self.fields if f.reading]
         if not self.many or not self.fields:
-            return []
+            return makers
         parts = [f"ReadPart<{self.count}, {place}" if not self.data.named else
                  f"{self.sort(f)}<{', '.join(self.read_by_names(f, place))}" for place, f in enumerate(self.fields)]
         rows = "".join(f"type {self.row_type(place)} = {part}{', ' * (part[-1] != '<')}{self.type_read(f).rust()},"
                        f" {self.after(place + 1)}>;\n" for place, (part, f) in enumerate(zip(parts, self.fields)) if place >= self.steps)
-        makers = [reader(self.read_of(f), f) for f in self.fields if f.reading]
         makers += [self.default_impl(f) for f in self.fields if self.made(f)]
         return (makers + [rows] + [self.run_read(start) for start in self.starts()]
                 + [text for place in range(self.steps) for text in [self.one_read(place)] * self.data.named + [self.step(place)]])
@@ -262,14 +262,14 @@ class Holder:
         return f"{self.reader}_at_{place + 1}"
 
     def one_read(self, place: int) -> str:
-        """That function."""
+        """That function. It knows the type as a parameter, as proofs find it so whatever the type is."""
         f, name = self.fields[place], name_term(self.fields[place].known)
-        left = f"(field_named {name} (fields_left fields.old))"
-        given = angled(LT_DE, f"'n: {LT_DE}", *bounded(list(f.arguments().values()), READ))
+        read, left = f.type if f.type.parameter else parameter("V"), f"(field_named {name} (fields_left fields.old))"
+        given = angled(LT_DE, f"'n: {LT_DE}", *bounded([read.rust()], READ))
         return (f"/// Reads the field `{f.known}`, wherever it is.\nfn {self.one_name(place)}{given}(alloc: Global,"
-                f" fields: &mut FieldsByName<'de, 'n>) -> Result<{f.type.rust()}>\n"
-                + clause("ensures value", f"Reads\n(found_refusal (Some (missing_field {name})) ({f.type.member(READ, 'refusal')})\n{left})\n"
-                         f"(FoundGives (λ a. ⊥) ({f.type.member(READ, 'gives')})\n{left}) result")
+                f" fields: &mut FieldsByName<'de, 'n>) -> Result<{read.rust()}>\n"
+                + clause("ensures value", f"Reads\n(found_refusal (Some (missing_field {name})) ({read.member(READ, 'refusal')})\n{left})\n"
+                         f"(FoundGives (λ a. ⊥) ({read.member(READ, 'gives')})\n{left}) result")
                 + clause("ensures rest", f"fields_left fields.new ≡\nwithout_field {name} (fields_left fields.old)")
                 + f"{{\nserde_content::de::named_field(alloc, fields, {name_call(f.known)})\n}}\n")
 
@@ -531,8 +531,11 @@ class Holder:
 
     def send(self, values: List[str]) -> List[str]:
         """The statements that make them."""
+        if not self.many and values:
+            value = f"&{self.lent(self.fields[0])}" if self.fields[0].sending else values[0]
+            return self.lending(values) + [f"{self.call}.around({value}, alloc, serializer)"]
         if not self.many:
-            return [f"{self.call}.around({values[0]}, alloc, serializer)" if values else f"{self.call}.send(serializer)"]
+            return [f"{self.call}.send(serializer)"]
         return self.lending(values) + sending(self.opening(values), self.before + self.sent_row(values, 0), self.sent_last(values, 0))
 
     def lending(self, values: List[str], start: int = 0) -> List[str]:
@@ -583,7 +586,7 @@ class Holder:
         tests += [sender(self.sent_of(f), f, self.test_of(f)) for f in self.fields if f.sending]
         holder = self.with_one_lifetime() if self.lends else self
         starts = range(self.sent_end(0), self.count, holder.sent_end(0))
-        return tests + [holder.run_sent(start) for start in starts] if self.many else []
+        return tests + [holder.run_sent(start) for start in starts if self.many]
 
     def run_sent(self, start: int) -> str:
         """The struct of references to the values from a place on, and how it is sent."""
@@ -599,15 +602,17 @@ class Holder:
         parameters = self.data.arguments(start)
         lifetimes = [LT_SENT, *(one for f in self.fields[start:] for one in f.type.borrows() if one != STATIC)]
         borrows = list(dict.fromkeys(lifetimes))
-        whole, given = f"{whole}{angled(*borrows, *parameters)}", angled(*borrows, *bounded(parameters, "Serialize"))
+        whole, given = f"{whole}{angled(*borrows, *parameters)}", angled(*borrows, *bounded(parameters, "Serialize", bare=self.data.bare()))
         return (f"/// The values from place {start + 1} on, as they are sent.\n#[derive(Drop)]\nstruct {whole}({types});\n\n"
                 f"impl{given} serde_content::derive_support::SendRow for {whole} {{\n"
                 f"{ghost('script', f'λ row. {bare(script)}')}\n\n{send}\n}}\n")
 
     def sent(self, f: Field, value: str) -> str:
         """A value as a row has it, before those after it."""
-        if f.rest or not self.data.named:
-            return f"{'SendAll' if f.rest else 'SendPart'}({value}, row)"
+        if f.rest:
+            return f"SendAll({value}, row)"
+        if not self.data.named:
+            return f"SendPart({f'&{self.lent(f)}' if f.sending else value}, row)"
         if f.sending:
             return f"{self.row_named}{'Unless' * f.skips}({self.announced(f)}, &{self.lent(f)}, row)"
         if f.test:
@@ -667,9 +672,10 @@ class Holder:
         if self.many:
             taken = self.variant_taken(places) if self.of_variant else self.all_taken("ReadParts", "parts")
             return [f"let parts = {start};", *taken, f"Ok({make(places)})"]
-        if self.of_variant:
-            return [f"Ok({make([start])})"]
-        return [f"let inside = {start};", f"Ok({make(['inside.deserialize(alloc)?'])})"]
+        before, given = ([], start) if self.of_variant else ([f"let inside = {start};"], "inside.deserialize(alloc)?")
+        if self.fields[0].reading:
+            return [*before, f"let {self.read_of(self.fields[0])}({places[0]}) = {given};", f"Ok({make(places)})"]
+        return [*before, f"Ok({make([given])})"]
 
     def variant_taken(self, places: List[str]) -> List[str]:
         """The statements that read a variant's fields or values."""
@@ -712,7 +718,7 @@ class Holder:
         members = [ghost("refusal", bare(self.refusal_row())), ghost("gives", f"λ z. {self.gives_row(values)}")]
         members = [*self.named_by(ghost("name", bare(name_term(self.wire)))), *members,
                    *self.named_by(name_method("name", self.wire)), read]
-        given = angled(LT_DE, *bounded(whole.parameters(), READ))
+        given = angled(LT_DE, *bounded(whole.parameters(), READ, bare=whole.bare()))
         return [f"impl{given} {self.read_by}<'de> for {whole.rust()} {{\n" + "\n\n".join(members) + "\n}\n"]
 
     @staticmethod

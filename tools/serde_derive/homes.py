@@ -4,13 +4,14 @@ from dataclasses import replace
 from typing import Callable, Dict, Iterable, Iterator, List, Optional, Set, Tuple
 
 from .attributes import SERDE
-from .declarations import Field, Item, Named, Refused
+from .declarations import Conversion, Field, Item, Named, Refused
 from .files import File
+from .named import NAMED, PRELUDE
 from .parser import DEEPEST, MOST_FIELDS
 from .rests import check_rests
 from .spread import is_inlined, why_unspread
-from .types import (ARGUMENTS, ELSEWHERE, FLOATS, HASHED, HOLDERS, IN_ORDER, LEAVES, MOST_IN_TUPLE, NUMBERS, LawsOf, Type,
-                    snake)
+from .types import (ARGUMENTS, ARRAY, ELSEWHERE, FLOATS, HASHED, HOLDERS, IN_ORDER, LEAVES, MOST_IN_ARRAY, MOST_IN_TUPLE, NUMBERS,
+                    PHANTOM, STATIC, LawsOf, Type, snake)
 from .unique import fresh
 from .words import SEEN, TAKEN, WORDS
 
@@ -29,7 +30,13 @@ NOT_COVERED = {
     "str": "`str` is covered in `Box<str>` and `&'a str` alone: hold a String",
     "Cow": "a Cow is not covered: hold a String or a Vec",
     "Result": "a Result is not covered: hold an enum of both",
-    "PhantomData": "a PhantomData is not covered: delete it",
+    "PhantomData": "a PhantomData is covered where it is neither sent nor read: write `#[serde(skip)]` above it",
+    "Duration": "a Duration is not covered, as std's contracts don't say which are equal: hold a struct of `secs: u64` and"
+                " `nanos: u32`, as Serde sends it",
+    "SystemTime": "a SystemTime is not covered: hold a struct of `secs_since_epoch: u64` and `nanos_since_epoch: u32`, as Serde"
+                  " sends it",
+    **{name: f"{'an' if name[0] == 'I' else 'a'} {name} is not covered: hold its text as a String" for name in (
+        "IpAddr", "Ipv4Addr", "Ipv6Addr", "SocketAddr", "SocketAddrV4", "SocketAddrV6")},
     **{name: f"a {name} is not covered: hold a struct of its ends" for name in ("Range", "RangeInclusive", "RangeFrom", "RangeTo")},
     **{name: f"a {name} is not covered: hold the value in it" for name in (
         "Cell", "RefCell", "OnceCell", "Mutex", "RwLock", "Wrapping", "Saturating", "Reverse", "NonZero")},
@@ -54,6 +61,13 @@ def placed(item: Item) -> Iterator[Tuple[str, Field]]:
             yield f"{item.name}.{v.name}.{f.name}", f
     for f in item.data.fields:
         yield f"{item.name}.{f.name}", f
+
+
+def placed_in(item: Item) -> Iterator[Tuple]:
+    """The same, each with the variant around it, if there is one."""
+    for v in item.variants:
+        yield from ((f"{item.name}.{v.name}.{f.name}", f, v) for f in v.data.fields)
+    yield from ((f"{item.name}.{f.name}", f) for f in item.data.fields)
 
 
 def check_leaves(item: Item) -> Iterator[Refused]:
@@ -109,10 +123,17 @@ def rings(held: Dict[str, List[str]]) -> Iterator[List[str]]:
 def needed(item: Item, f: Field, *around: Named) -> Set[str]:
     """The traits that the type of a field has to derive for the impls of what holds it, where no function of the user's does
     what they do; its variant is around the field."""
-    ways = {"Serialize": all(one.sent for one in (f, *around)) and not f.function("serialize"),
-            "Deserialize": all(one.read for one in (f, *around)) and not f.function("deserialize")}
-    equal = {"PartialEq", "Eq"} if item.derives_all() and all(ways.values()) else set()
-    return equal | {trait for trait, used in ways.items() if used and trait in item.derives}
+    used = {trait for trait in item.ways(f, *around) if not f.function(trait.lower())}
+    return used | ({"PartialEq", "Eq"} if item.derives_all() and used == SERDE else set())
+
+
+class Plain(ValueError):
+    """That a type of this file derives neither of Serde's traits: what it says where the type is only named is `named`."""
+
+    def __init__(self, name: str, why: str):
+        super().__init__(f"`{name}` {why}: derive what is derived here, or move it to a file that has its impls")
+        self.named = (f"`{name}` {why}, so that the module doesn't have it: move it to another file, and name it by its path, as"
+                      f" `crate::other::{name}`, or import it by `use`")
 
 
 class Homes:
@@ -155,12 +176,26 @@ class Homes:
     def resolve(self) -> None:
         """Writes out the aliases and the names of std's types in all fields."""
         for item in self.file.items:
-            for where, f in placed(item):
+            for where, f, *around in placed_in(item):
+                traits = needed(item, f, *around)
                 try:
                     f.type = self.resolved(f.type, item)
+                    if not item.ways(f, *around):
+                        f.type = self.marked(f.type)
                 except ValueError as reason:
-                    self.refuse(Refused(f.line, str(reason), where))
+                    plain = isinstance(reason, Plain) and not traits
+                    self.refuse(Refused(f.line, reason.named if plain else str(reason), where))
                     f.type = Type("()")
+            self.convert(item, lambda one, holder=item: self.resolved(one.type, holder))
+
+    def convert(self, item: Item, settled: Callable[[Conversion], Type]) -> None:
+        """Gives the conversions of an item the types that they have by this."""
+        for one in item.conversions:
+            try:
+                one.type = settled(one)
+            except ValueError as reason:
+                self.refuse(Refused(item.line, f"serde's `{one.key}`: {reason}", item.name))
+                one.type = Type("()")
 
     def resolved(self, t: Type, holder: Item) -> Type:
         """The type with aliases written out and std's names short; a ValueError says why it is not covered."""
@@ -177,6 +212,10 @@ class Homes:
             raise ValueError(f"a type of more than {DEEPEST} levels or {MOST_PARTS} parts is not covered:"
                              " divide it into structs")
         return whole
+
+    def marked(self, t: Type) -> Type:
+        """The same type, with its opaque arrays marked, as they have a default of their own."""
+        return replace(t, arguments=tuple(map(self.marked, t.arguments)), opaque=t.name == ARRAY and self.is_opaque(t))
 
     def alias(self, name: str, holder: Item) -> Type:
         """What an alias stands for."""
@@ -205,6 +244,8 @@ class Homes:
     def nearer(self, path: List[str]) -> List[str]:
         """A path with what the file uses in the place of its first name, or without the way to this module."""
         first, here = path[0], ["crate", *self.module]
+        if first in self.file.plain:
+            raise Plain(first, self.file.passed[first])
         if first in self.file.passed:
             raise ValueError(f"`{first}` {self.file.passed[first]}")
         if first in self.file.uses:
@@ -233,21 +274,22 @@ class Homes:
         if len(path) == 1:
             return path[0]
         if path[0] in STANDARD:
-            known = path[-1] in NOT_COVERED or "::".join(path[1:-1]) in MODULES.get(path[-1], [])
-            return path[-1] if known else "::".join(path)
+            known = "::".join(path[1:-1]) in ["primitive", *MODULES.get(path[-1], [])]
+            std = "::".join(["std", *path[1:]])
+            return path[-1] if known else std if std in NAMED else "::".join(path)
         if name in (*LEAVES, *HOLDERS):
             raise ValueError(f"`{name}` is `{'::'.join(path)}` here, which is not covered: import it by another name")
         return name if name.split("::")[0] in self.file.uses else "::".join(path)
 
-    def parts_of(self, item: Item) -> Iterator[Tuple[str, Field, str]]:
-        """The names of this file's types in an item, each with the field and its path."""
-        for where, f in placed(item):
-            inside = [f.type]
+    def parts_of(self, item: Item) -> Iterator[str]:
+        """The names of this file's types in an item, and in those that it is read or sent as."""
+        for whole in [f.type for f in item.fields()] + [one.type for one in item.conversions]:
+            inside = [whole]
             while inside:
                 t = inside.pop()
                 inside += t.arguments
                 if t.name in self.items and not t.parameter:
-                    yield where, f, t.name
+                    yield t.name
 
     def ordered(self) -> Iterator[Item]:
         """The items, each after those that it holds, but those through which it contains itself."""
@@ -258,7 +300,7 @@ class Homes:
             begun.add(first.name)
             while stack:
                 item, parts = stack[-1]
-                for _, _, name in parts:
+                for name in parts:
                     if name not in begun:
                         begun.add(name)
                         stack.append((self.items[name], self.parts_of(self.items[name])))
@@ -270,7 +312,7 @@ class Homes:
     def find_cycles(self) -> None:
         """Finds of each item the types through which it contains itself, in the order in which contracts know them: enums first,
         each sort by name."""
-        held = {item.name: [name for _, _, name in self.parts_of(item)] for item in self.file.items}
+        held = {item.name: list(self.parts_of(item)) for item in self.file.items}
         for names in rings(held):
             cycle = sorted(map(self.items.get, names), key=lambda item: (not item.variants, item.name))
             for item in cycle:
@@ -282,16 +324,23 @@ class Homes:
         known = {id(item) for item in ordered}
         twins = [item for item in self.file.items if id(item) not in known]
         for item in ordered + twins:
-            variants = {id(f): [v] for v in item.variants for f in v.data.fields}
-            for where, f in placed(item):
+            for where, f, *around in placed_in(item):
                 try:
-                    if f.type.borrows() and "Deserialize" in item.derives:
-                        raise ValueError("what is borrowed is covered where it is only sent: hold the value itself, as String for"
-                                         " &str")
-                    f.type = self.settled(f.type, item, needed(item, f, *variants.get(id(f), ())))
+                    traits, named = needed(item, f, *around), not item.ways(f, *around)
+                    lent = f.type.refers() or any(one != STATIC or not named for one in f.type.borrows())
+                    if "Deserialize" in item.derives and lent:
+                        advice = ("write the parameter alone, as in `PhantomData<T>`" if f.type.name == PHANTOM else
+                                  "hold the value itself, as String for &str")
+                        raise ValueError(f"what is borrowed is covered where it is only sent: {advice}")
+                    f.type = self.settled(f.type, item, traits, named)
+                    hidden = f.type.unseen() if any(v.sent or v.read for v in around) else None
+                    if hidden:
+                        raise ValueError(f"`{hidden.rust()}` is not covered on a skipped field of a variant: hold it in a struct, and"
+                                         " that in the variant")
                 except ValueError as reason:
                     self.refuse(Refused(f.line, str(reason), where))
                     f.type = Type("()")
+            self.convert(item, lambda one, holder=item: self.settled(one.type, holder, {one.trait}, False))
             self.levels[item.name] = 1 + max((self.held(f.type) for f in item.fields()), default=0)
             if self.levels[item.name] > DEEPEST_HELD:
                 self.levels[item.name] = 0
@@ -350,6 +399,8 @@ class Homes:
         if not part or not part.data.named or part.data.closed or part.transparent() or (part.flattens() and not flattens):
             reason = ("is covered where it is a struct of this file with named fields and without `deny_unknown_fields` and"
                       " `flatten`: hold such a struct")
+        elif part.conversions:
+            reason = part.why_apart()
         elif flattens and any(inside.aliases() for inside in part.data.leaves()):
             reason = "is not covered where a field of it has an `alias`, which Serde doesn't read there: delete that"
         elif part.levels > DEEPEST_FLATTENED:
@@ -359,21 +410,27 @@ class Homes:
         self.refuse(Refused(f.line, f"{what} {reason}", where))
         return None
 
-    def settled(self, t: Type, holder: Item, traits: Set[str]) -> Type:
-        """The type with its home, where it has to derive these for what holds it; a ValueError says why it is not covered."""
-        if traits or t.name not in FLOATS:
+    def settled(self, t: Type, holder: Item, traits: Set[str], named: bool) -> Type:
+        """The type with its home, where it has to derive these for what holds it, or is `named` alone, as nothing sends or reads
+        it; a ValueError says why it is not covered."""
+        if named and self.is_opaque(t):
+            return self.opaque(t, holder)
+        if not (t.name in FLOATS and not traits) and not (t.name == "tuple" and named):
             self.check_std(t)
-        arguments = tuple(self.settled(a, holder, traits) for a in t.arguments)
         if t.parameter:
-            return t
+            return replace(t, is_bare=t.name in holder.bare())
+        bare = self.bare_places(t)
+        arguments = tuple(self.settled(a, holder, set() if i in bare else traits, named or i in bare) for i, a in enumerate(t.arguments))
         if not arguments and (t.name in LEAVES or (t.name in FLOATS and not traits)):
             return Type(t.name, plain=True, lifetimes=t.lifetimes)
-        if t.name == "tuple" and len(arguments) <= MOST_IN_TUPLE:
+        if t.name == "tuple":
             return Type(t.name, arguments)
         if len(arguments) == ARGUMENTS.get(t.name):
-            if t.name in IN_ORDER | HASHED:
+            if t.count > MOST_IN_ARRAY and traits:
+                raise ValueError(f"an array of more than {MOST_IN_ARRAY} values is not covered, as in Serde: hold a Vec")
+            if t.name in IN_ORDER | HASHED and not named:
                 self.check_key(t.name, arguments[0])
-            return Type(t.name, arguments, lifetimes=t.lifetimes)
+            return Type(t.name, arguments, lifetimes=t.lifetimes, count=t.count)
         of_std = t.name in (*HOLDERS, *LEAVES) or (arguments and self.path(t.name)[0] in STANDARD)
         if of_std or (arguments and t.name not in self.items and len(self.path(t.name)) < 2):
             raise ValueError(f"the type `{t.rust()}` is not covered: the types that are stand in docs/OWN_TYPES.md")
@@ -381,24 +438,73 @@ class Homes:
             if arguments:
                 raise ValueError(f"`{t.rust()}` is not covered: a type with arguments is where this file declares it, or std's"
                                  " is: write in another file a struct around it, with its impls by hand, and hold that")
-            return self.own(t.name)
+            return replace(self.own(t.name), lifetimes=t.lifetimes)
         item = self.items[t.name]
         whole = replace(self.part(t, holder, traits), arguments=arguments,
-                        laws_of=(lambda one: self.laws_of(item, one)) if arguments else None)
+                        laws_of=(lambda one: self.laws_of(item, one)) if arguments and not item.cycle else None)
         if self.size(whole) > MOST_WRITTEN_OUT:
             raise ValueError(f"a type with parameters that is made of more than {MOST_WRITTEN_OUT} types is not covered:"
                              " divide it")
         return whole
+
+    def bare_places(self, t: Type) -> Tuple[int, ...]:
+        """The places of a type's arguments that stand for parameters without bounds."""
+        item = self.items.get(t.name)
+        return item.places_of(item.bare()) if item else ()
+
+    def is_opaque(self, t: Type) -> bool:
+        """Whether a type is not covered but where the module needs its name alone: a long array, one of what is not covered, one
+        of std's that Rattle's has too, or one of another file with arguments."""
+        if t.name == ARRAY:
+            return not self.covers(t)
+        if t.parameter or t.name in (*self.items, *LEAVES, *FLOATS, *HOLDERS, "tuple"):
+            return False
+        path = self.path(t.name)
+        if self.of_std(t.name):
+            return True
+        known = next((one for one in sorted(NAMED) if one.endswith(f"::{t.name}")), "")
+        if len(path) < 2 and (known or t.name not in NOT_COVERED):
+            raise ValueError(f"the type `{t.name}` is not known here: name it by its path, as `{known or f'crate::other::{t.name}'}`,"
+                             " or import it by `use`")
+        if len(path) < 2 or (path[0] in STANDARD and path[-1] in NOT_COVERED):
+            return False
+        if path[0] in STANDARD:
+            raise ValueError(f"the type `{'::'.join(path)}` is not covered, as Rattle's std has none: hold a type of your own of"
+                             " another file")
+        return bool(t.arguments or t.lifetimes)
+
+    def of_std(self, name: str) -> str:
+        """The path of a type of std's that Rattle's has too, or nothing."""
+        path = "::".join(self.path(name))
+        path = PRELUDE.get(path, path)
+        return path if path in NAMED else ""
+
+    def covers(self, t: Type) -> bool:
+        """Whether a type is covered where it is sent and read, as far as its names and counts say."""
+        if t.lifetimes or t.name in FLOATS or t.count > MOST_IN_ARRAY or (t.name == "tuple" and len(t.arguments) > MOST_IN_TUPLE):
+            return False
+        if t.parameter or t.name in (*self.items, *LEAVES, *HOLDERS, "tuple"):
+            return all(map(self.covers, t.arguments))
+        path = self.path(t.name)
+        return len(path) > 1 and path[0] not in STANDARD and not t.arguments
+
+    def opaque(self, t: Type, holder: Item) -> Type:
+        """Such a type; a ValueError says why the module can't name it."""
+        name = t.name if t.name == ARRAY else self.of_std(t.name) or t.name
+        if name not in (ARRAY, *NAMED):
+            self.importable(name)
+        return replace(t, name=name, arguments=tuple(self.settled(a, holder, set(), True) for a in t.arguments), plain=True, opaque=True)
 
     def check_std(self, t: Type) -> None:
         """Refuses a type of std's of which it is known what to write instead, as a ValueError; one of the user's may have its
         name."""
         if t.name == "tuple" and len(t.arguments) > MOST_IN_TUPLE:
             raise ValueError(f"a tuple of more than {MOST_IN_TUPLE} values is not covered: hold a struct of them")
-        if t.name in NOT_COVERED and not t.parameter and t.name not in self.items:
+        last = t.name.split("::")[-1]
+        if last in NOT_COVERED and not t.parameter and t.name not in self.items:
             path = self.path(t.name)
             if len(path) < 2 or path[0] in STANDARD:
-                raise ValueError(NOT_COVERED[t.name])
+                raise ValueError(NOT_COVERED[last])
 
     def size(self, t: Type) -> int:
         """Of how many types' laws those of a type are made; those of other own types have names."""
@@ -420,7 +526,7 @@ class Homes:
         if len(t.arguments) != len(part.parameters):
             raise ValueError(f"`{name}` has {len(t.arguments)} arguments here, and its parameters are:"
                              f" {', '.join(part.parameters) or 'none'}")
-        lacking = traits - set(part.derives)
+        lacking = traits - part.traits()
         if not part.covered:
             return Type(name, home=self.here, declared=name, called=snake(name))
         astray = part.derives_all() and not part.comes_back()
@@ -435,6 +541,14 @@ class Homes:
 
     def own(self, name: str) -> Type:
         """An own type of another file; a ValueError says why it is not covered."""
+        path = self.importable(name)
+        if path[-1] in (*WORDS, *SEEN):
+            raise ValueError(f"the name `{path[-1]}` is one that contracts use themselves: declare that type by another name")
+        home = self.specs(self.crate if path[0] == "crate" else path[0], path[1:-1])
+        return Type(name, home=home, declared=path[-1], called=self.called(name, home, path[-1]))
+
+    def importable(self, name: str) -> List[str]:
+        """The path of a type of another file, which the module then names; a ValueError says why it can't."""
         path = self.path(name)
         if path[0] in STANDARD | {"serde"} and len(path) > 1:
             raise ValueError(f"the type `{'::'.join(path)}` is not covered: hold what it is made of, as a number or"
@@ -449,11 +563,8 @@ class Homes:
         first = name.split("::")[0]
         if first in TAKEN:
             raise ValueError(f"the name `{first}` is one that the module uses itself: import that type by another name")
-        if path[-1] in (*WORDS, *SEEN):
-            raise ValueError(f"the name `{path[-1]}` is one that contracts use themselves: declare that type by another name")
         self.used.add(first)
-        home = self.specs(self.crate if path[0] == "crate" else path[0], path[1:-1])
-        return Type(name, home=home, declared=path[-1], called=self.called(name, home, path[-1]))
+        return path
 
     def called(self, name: str, home: str, declared: str) -> str:
         """What contracts call an own type by: as it is declared, but where that is the name of another, which one of this

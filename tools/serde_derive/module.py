@@ -3,9 +3,10 @@ import re
 from typing import Callable, Dict, Iterable, Iterator, List, Optional, Set, Tuple, Union
 
 from .adjacent import AdjacentWriter
-from .attributes import doc_line
+from .attributes import SERDE, doc_line
 from .calls import settle_calls
 from .checks import check, check_work
+from .conversions import check_hidden, read_members, sent_members, settle_conversions, take_conversions
 from .declarations import Item, Refusals, Refused
 from .defaults import settle_defaults
 from .derives import check_derives, check_missing
@@ -17,14 +18,14 @@ from .literals import with_names
 from .names import name_item
 from .nested import NestedWriter
 from .nested_checks import check_nested
-from .sizes import check_sizes
+from .sizes import check_arrays, check_rows, check_sizes
 from .structs import StructWriter, TransparentWriter
 from .text import ghost
 from .tagged import TaggedWriter, check_tagged
-from .types import CBOR, LT_DE, NOT_NULL, READ, TRIP, Type, angled, bounded, in_term
+from .types import CBOR, LT_DE, NOT_NULL, READ, TRIP, Type, angled, in_term
 from .unique import KINDS, name_cases, name_functions
 from .untagged import UntaggedWriter, check_untagged
-from .words import ALIASES, METHODS, NESTED_ITEMS, NESTED_WORDS, SEEN, TOLD, TOLD_WORDS, USES, WORDS, words_in, words_of
+from .words import ALIASES, METHODS, NESTED_ITEMS, NESTED_WORDS, SEEN, TOLD, TOLD_WORDS, TRIED_WORDS, USES, WORDS, words_in, words_of
 
 Writer = Union[StructWriter, EnumWriter]
 TRAITS = dict(zip(KINDS, ("Serialize", "SendEntries", "RoundTrip", "CborRoundTrip", "NotNull", "Ord", "Eq")))
@@ -73,8 +74,14 @@ def laws_of(item: Item, t: Type) -> Writer:
 
 def impls(item: Item, writer: Writer, cbor: bool) -> Iterator[str]:
     """The impls of the traits that an item derives, and for CBOR."""
-    yield from writer.functions()
-    reading = [LT_DE, *bounded(item.parameters, READ)]
+    if not item.conversions or SERDE & set(item.derives):
+        yield from writer.functions()
+    for one in item.conversions:
+        if one.trait == "Serialize":
+            yield impl(item, "Serialize", sent_members(one))
+        else:
+            yield impl(item, READ, read_members(item, one), LT_DE)
+    reading = [LT_DE, *item.bounds(READ)]
     if item.absent:
         yield impl(item, "Absent", writer.absent(), *item.lifetimes, *item.parameters)
     if "Serialize" in item.derives and item.cycle:
@@ -84,7 +91,7 @@ def impls(item: Item, writer: Writer, cbor: bool) -> Iterator[str]:
         yield impl(item, "Tells", writer.tells_members())
         yield impl(item, "SendNested", writer.sending())
     if "Serialize" in item.derives:
-        yield impl(item, "Serialize", writer.serialize(), *item.lifetimes, *bounded(item.parameters, "Serialize"))
+        yield impl(item, "Serialize", writer.serialize(), *item.lifetimes, *item.bounds("Serialize"))
     if item.spread:
         yield from writer.entries_senders()
         yield impl(item, "SendEntries", writer.entries(), *item.lifetimes)
@@ -102,13 +109,12 @@ def impls(item: Item, writer: Writer, cbor: bool) -> Iterator[str]:
         yield impl(item, f"{writer.back_name()}<'de>", writer.back_members(), LT_DE)
     if item.comes_back():
         yield from writer.trip_functions()
-        yield impl(item, TRIP, writer.round_trip(), LT_DE, *bounded(item.parameters, TRIP))
+        yield impl(item, TRIP, writer.round_trip(), LT_DE, *item.bounds(TRIP))
     if cbor and item.comes_back_from_cbor():
-        yield impl(item, CBOR, writer.cbor_round_trip(), LT_DE, *bounded(
-            item.parameters, CBOR, item.optionals(), f"{CBOR} + {NOT_NULL}"))
+        yield impl(item, CBOR, writer.cbor_round_trip(), LT_DE, *item.bounds(CBOR, item.optionals(), f"{CBOR} + {NOT_NULL}"))
         if not item.may_be_null():
-            yield impl(item, NOT_NULL, [ghost("refuses_null", writer.not_null())], LT_DE, *bounded(
-                item.parameters, READ, item.null_by(), NOT_NULL))
+            not_null = [ghost("refuses_null", writer.not_null())]
+            yield impl(item, NOT_NULL, not_null, LT_DE, *item.bounds(READ, item.null_by(), NOT_NULL))
 
 
 def read(source: str) -> File:
@@ -134,6 +140,7 @@ def settled(file: File, homes: Homes) -> Dict[str, Writer]:
         """Keeps what this refuses of each item."""
         homes.keep(refused for item in file.items for refused in refusals(item))
 
+    keep(take_conversions)
     for refused in check(file, homes.module):
         homes.refuse(refused)
     homes.resolve()
@@ -143,11 +150,15 @@ def settled(file: File, homes: Homes) -> Dict[str, Writer]:
     keep(lambda item: name_item(item, file.functions))
     homes.settle()
     homes.keep(settle_calls(homes, file))
+    homes.keep(settle_conversions(homes))
+    keep(lambda item: check_hidden(item, homes))
     settle_defaults(list(homes.ordered()), homes.items, file)
     keep(lambda item: check_missing(item, homes.items))
     keep(lambda item: check_nested(item, file.items))
     keep(check_variants)
     keep(check_sizes)
+    keep(check_rows)
+    keep(lambda item: check_arrays(item, homes))
     covered = [item for item in file.items if item.covered]
     keep(lambda item: check_derives(item, homes.items, file))
     for refused in check_work(covered):
@@ -184,9 +195,11 @@ def uses(file: File, homes: Homes, texts: List[str]) -> List[str]:
     held = dict.fromkeys(found for text in texts for found in re.findall(r"\(λ\s\(q\s:\s(\w+)\)\.", text))
     ghosts += [f"ghost use {declared}.{name}.{{{name}}};" for name in held]
     ghosts += [f"ghost use {declared}.{item.name}.TheVariants as {item.cases};"
-               for item in file.items if item.variants and not item.cycle]
+               for item in file.items if item.variants and not item.cycle
+               and not (item.conversions and not any(names(text, item.cases) for text in texts))]
     nested = [item for item in file.items if item.cycle]
-    ghosts += words_of(words, NESTED_WORDS) if nested else []
+    tried = any(one.fails for item in file.items for one in item.conversions)
+    ghosts += words_of(words, {**(NESTED_WORDS if nested else {}), **(TRIED_WORDS if tried else {})})
     ghosts += words_of(words, TOLD_WORDS) if any(map(TOLD.search, texts)) else []
     for item in nested:
         sends = [f"fold-{item.name}", f"fold_out-{item.name}", f"map-{item.name}"] * ("Serialize" in item.derives)

@@ -28,7 +28,8 @@ def name_item(item: Item, functions: Functions) -> Iterator[Refused]:
     yield from check_tags(item, variants)
     for where, v in variants:
         of_fields = v.serde.get("rename_all", item.serde.get("rename_all_fields"))
-        yield from name_fields(where, v.data, of_fields, functions, item.derives)
+        refused = list(name_fields(where, v.data, of_fields, functions, item.ways(v)))
+        yield from refused if v.sent or v.read else ()
     yield from name_fields(item.name, item.data, case, functions, item.derives)
 
 

@@ -1,10 +1,11 @@
 """Which types that contain themselves are covered."""
 import re
-from typing import Iterator, List
+from typing import Dict, Iterator, List, Optional
 
 from .declarations import Data, Item, NotRust, Refused
 from .holder import LONGEST_HELD
-from .types import ELSEWHERE, Type
+from .homes import placed
+from .types import ELSEWHERE, PHANTOM, Type
 from .words import NESTED_ITEMS, NESTED_WORDS
 
 USED = re.compile(rf"Below|Inner\d+|{'|'.join([*NESTED_ITEMS, *NESTED_WORDS])}")
@@ -24,11 +25,22 @@ def holds_as(t: Type) -> str:
 
 
 def inside(t: Type) -> Iterator[str]:
-    """The own types of which a type has values in itself, not elsewhere in memory."""
+    """The own types of which a type has values in itself, not elsewhere in memory, as far as that is known."""
     if t.nested:
         yield t.name
-    for argument in t.arguments if t.name not in ELSEWHERE else ():
-        yield from inside(argument)
+    places = t.inside if t.home else () if t.opaque or t.name in ELSEWHERE else range(len(t.arguments))
+    for place in places:
+        yield from inside(t.arguments[place])
+
+
+def naming(t: Type, items: Dict[str, Item]) -> Optional[Type]:
+    """The type in this one, if any, that leads back by a name alone: a PhantomData, or one of this file around one."""
+    item = items.get(t.name)
+    bare = item.places_of(item.bare()) if item else ()
+    for place, argument in enumerate(t.arguments):
+        if argument.leads_back() and (t.name == PHANTOM or place in bare):
+            return t
+    return next(filter(None, (naming(argument, items) for argument in t.arguments)), None)
 
 
 def is_endless(item: Item) -> bool:
@@ -49,6 +61,12 @@ def check_nested(item: Item, items: List[Item]) -> Iterator[Refused]:
                       f" give the type another name, and this one by `#[serde(rename = \"{item.name}\")]`", item.name)
     if not item.cycle:
         return
+    known = {one.name: one for one in items}
+    named = [(f.line, where, found) for where, f in placed(item) if (found := naming(f.type, known))]
+    yield from (Refused(line, f"`{item.name}` leads to itself by a name in `{found.rust()}`, which is not covered: name another type"
+                        " there, such as a struct without fields", where) for line, where, found in named)
+    if named:
+        return
     if len(item.cycle) <= MOST_NAMED and is_endless(item):
         yield NotRust(item.line, "it has a value of its own type in itself: put that into a Box", item.name)
         return
@@ -67,6 +85,7 @@ def check_nested(item: Item, items: List[Item]) -> Iterator[Refused]:
                        " hold some in another enum")
     if item.parameters or item.lifetimes:
         reasons.append(f"{what} not covered in a type with parameters or lifetimes: {by_hand}")
+    reasons += [f"{what} not covered beside `{one.key}`: {by_hand}" for one in item.conversions]
     unproved = ["content", "untagged", "transparent"] + ["deny_unknown_fields"] * (not item.variants or "tag" in item.serde)
     reasons += [f"{what} not covered beside `{key}`: {by_hand}" for key in unproved if key in item.serde]
     if item.flattens() or "default" in item.serde:

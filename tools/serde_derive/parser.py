@@ -1,18 +1,21 @@
 """Reads structs and enums."""
+import re
 from typing import Callable, List, Optional, Tuple
 
 from .attributes import Attributes, Head
 from .declarations import Data, Field, Item, Named, NotRust, Refused, Variant
 from .tokens import KEYWORDS, ROOTS
-from .types import STATIC, Type, parameter
+from .types import ARRAY, STATIC, Type, parameter
 
 DEEPEST = 48
 MOST_FIELDS, MOST_VARIANTS = 250, 500
+MOST_DIGITS = 8  # of the length of an array
+BASES = {"0b": 2, "0o": 8, "0x": 16}
+LENGTH = re.compile(r"(0b_*[01][01_]*|0o_*[0-7][0-7_]*|0x_*[0-9a-fA-F][0-9a-fA-F_]*?|[0-9][0-9_]*)(?:_?usize)?")
 # keywords that begin an item, and are in none outside of brackets but before its name
 BEGIN_ITEMS = {"enum", "mod", "pub", "struct", "trait", "type"}
 BEGINS = {
-    "&": "hold the value itself, as String for &str", "[": "write a Vec, or a tuple of up to four",
-    "*": "hold the value itself", "dyn": "write an enum of the types that it may be",
+    "&": "hold the value itself, as String for &str", "*": "hold the value itself", "dyn": "write an enum of the types that it may be",
     **dict.fromkeys(["<", "impl", "_"], "write the type itself"),
     **dict.fromkeys(["fn", "unsafe", "extern", "for"], "write an enum of the functions that it may be"),
     "!": "delete what holds it, as no value does",
@@ -56,6 +59,8 @@ class Parser(Attributes):
             return Type("tuple", tuple(arguments)) if arguments else Type("()")
         if self.next.text == "&" and self.after().sort == "lifetime":
             return self.borrowed(depth)
+        if self.eat("["):
+            return self.array(line, depth)
         self.check_begins(line)
         path, lifetimes = self.path(), []
         if path[-1] in ROOTS - {"Self"}:
@@ -63,6 +68,9 @@ class Parser(Attributes):
         if path[0] in ("Self", *self.parameters) and len(path) > 1:
             raise Refused(line, f"a type that begins with `{path[0]}::` is not covered: write the type itself")
         if self.eat("<") or (self.next.text == "::" and self.after().text == "<" and self.take() and self.take()):
+            if path[-1] == "PhantomData" and self.next.text in ("fn", "*", "dyn"):
+                raise Refused(line, f"a PhantomData of what begins with `{self.next.text}` is not covered: write the parameter alone,"
+                              " as in `PhantomData<T>`")
             self.listed(">", lambda: lifetimes.append(self.lifetime()) if self.next.sort == "lifetime" else
                         arguments.append(self.type(depth + 1)))
         if self.next.text in ("::", "!", "=") or (self.next.text == "(" and path[-1] in ("Fn", "FnMut", "FnOnce")):
@@ -87,6 +95,25 @@ class Parser(Attributes):
             self.expect("]")
             return Type("&[]", (item,), lifetimes=(lifetime,))
         return Type("&", (self.type(depth + 1),), lifetimes=(lifetime,))
+
+    def array(self, line: int, depth: int) -> Type:
+        """An array, after its opening bracket in this line."""
+        item = self.type(depth + 1)
+        if self.eat("]"):
+            raise Refused(line, f"`[{item.rust()}]` is covered behind a reference alone: write a Vec")
+        self.expect(";")
+        start = self.place
+        self.pass_to("]")
+        length = self.shown(start, self.place)
+        if not length:
+            raise NotRust(line, "expected the length of an array, found `]`")
+        self.expect("]")
+        digits = LENGTH.fullmatch(length)
+        if not digits:
+            raise Refused(line, f"an array of `{length}` values is not covered: write how many as a number")
+        if len(digits.group(1)) > MOST_DIGITS:
+            raise Refused(line, f"an array of `{length}` values is not covered: write a Vec")
+        return Type(ARRAY, (item,), count=int(digits.group(1).replace("_", ""), BASES.get(length[:2], 10)))
 
     def lifetime(self) -> str:
         """A lifetime of what is read, or that of the whole program."""

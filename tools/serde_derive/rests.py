@@ -2,6 +2,7 @@
 from typing import Dict, Iterator, List, Tuple
 
 from .declarations import Field, Item, Refused
+from .spread import OF_PARAMETER
 from .types import POINTERS, Type
 
 MAPS = {"BTreeMap", "HashMap"}
@@ -18,12 +19,14 @@ def why_not(t: Type, items: Dict[str, Item]) -> str:
     if t.name in POINTERS:
         return why_not(t.arguments[0], items)
     if t.parameter:
-        return f"{WHAT} is not covered where a parameter is its type, as it may be no struct or map: name the type itself"
+        return f"{WHAT} {OF_PARAMETER}"
     if t.home and t.name not in items:
         return f"{WHAT} is not covered where its type is of another file: declare `{t.name}` in this one"
     if t.name not in items:
         return COVERED
     item = items[t.name].at(t)
+    if item.conversions:
+        return f"{WHAT} {item.why_apart()}"
     return why_not_enum(item) if item.variants else why_not_struct(item, items)
 
 

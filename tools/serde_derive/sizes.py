@@ -1,14 +1,21 @@
-"""Which fields are refused since their size depends on a parameter: proofs know nothing of it."""
+"""Which fields are refused for what the checker knows of their size: of one that depends on a parameter, nothing."""
 from itertools import islice, takewhile
 from typing import Iterator, List
 
+from .conversions import may_hold_memory
 from .declarations import Data, Field, Item, Refused
 from .holder import LONGEST_HELD, LONGEST_ROW
+from .homes import Homes
+from .types import ARRAY, FLOATS, LEAVES, Type
+
+# rows are refused by the checker in which more values stand before one of a parameter's type, or entries where some are flattened
+MOST_BEFORE, MOST_BEFORE_FLATTENED = 6, 4
 
 
 def check_sizes(item: Item) -> Iterator[Refused]:
     """Refuses fields whose size depends on a parameter, where they are read and that isn't covered."""
-    parts = [(v.data, v.beside, f"{item.name}.{v.name}") for v in item.variants] or [(item.data, None, item.name)]
+    parts = [(v.data, v.beside, f"{item.name}.{v.name}") for v in item.variants if v.read] if item.variants else [
+        (item.data, None, item.name)]
     for data, beside, where in parts if "Deserialize" in item.derives else ():
         leaves = beside.data.leaves() if beside else data.leaves()
         alone = not beside and "tag" not in item.serde and (data.style == "Newtype" or item.transparent())
@@ -33,11 +40,44 @@ def reason(item: Item, data: Data, leaves: List[Field], f: Field, alone: bool) -
     if not f.read:
         return ""
     read = sorted((one for one in leaves if one.read), key=lambda one: one.rest)
-    if len(read) > (LONGEST_HELD if item.variants else LONGEST_ROW):
-        return (f"a field of a parameter's type is covered among up to {LONGEST_ROW} of a struct and {LONGEST_HELD} of a variant:"
-                f" hold `Box<{name}>`")
-    before = list(takewhile(lambda one: (one.line, one.known) != (f.line, f.known), read))
-    if not (f.is_plain() and all(one.is_plain() for one in before)):
+    first = list(takewhile(lambda one: (one.line, one.known) != (f.line, f.known), read))
+    most, longest = most_before(item), LONGEST_HELD if item.variants else MOST_BEFORE + 1 if item.flattens() else LONGEST_ROW
+    if len(read) > longest or len(first) > most:
+        return f"a field of a parameter's type is covered among the first {min(most + 1, longest)} of up to {longest}: hold `Box<{name}>`"
+    if not (f.is_plain() and all(one.is_plain() for one in first)):
         return ("a field of a parameter's type is covered before those that may be missing or have an alias: move it there, or"
                 f" hold `Box<{name}>`")
     return ""
+
+
+def most_before(item: Item) -> int:
+    """How many fields may stand before one of a parameter's type."""
+    return MOST_BEFORE_FLATTENED if item.flattens() else MOST_BEFORE
+
+
+def check_rows(item: Item) -> Iterator[Refused]:
+    """Refuses fields of a parameter's type that are sent after too many others: in a variant after one less."""
+    parts = [(item.data, item.name), *(((v.beside or v).data, f"{item.name}.{v.name}") for v in item.variants if v.sent)]
+    first = most_before(item) + 1 - bool(item.variants)
+    for data, where in parts if "Serialize" in item.derives else ():
+        for f in [f for f in data.leaves() if f.sent][first:]:
+            if f.type.parameter:
+                yield Refused(f.line, f"a field of a parameter's type is covered among the first {first} that are sent:"
+                              f" hold `Box<{f.type.rust()}>`", f"{where}.{f.name}")
+
+
+def check_arrays(item: Item, homes: Homes) -> Iterator[Refused]:
+    """Refuses arrays of arrays of parts without memory where one that may hold memory is beside them: the checker doesn't let
+    both be put in one value."""
+    for data, where in [(item.data, item.name), *((v.data, f"{item.name}.{v.name}") for v in item.variants)]:
+        arrays = [f for f in data.leaves() if f.type.name == ARRAY] if "Deserialize" in item.derives else []
+        owned = [f for f in arrays if f.type.parameters() or may_hold_memory(f.type, homes)]
+        for f in arrays if owned else ():
+            if f not in owned and innermost(f.type).name not in (*LEAVES, *FLOATS) and f.type.arguments[0].name == ARRAY:
+                yield Refused(f.line, f"`{f.type.rust()}` is not covered beside `{owned[0].type.rust()}`, which may hold memory: hold"
+                              " a Vec in place of one of them", f"{where}.{f.name}")
+
+
+def innermost(t: Type) -> Type:
+    """What an array, or arrays in it, are of."""
+    return innermost(t.arguments[0]) if t.name == ARRAY else t

@@ -6,6 +6,7 @@ from .types import SPREAD, Type
 
 UNSPREAD = ("is covered where it is a struct or an enum of this file, without parameters, a BTreeMap, a HashMap, or one of these"
             " in an Option or a Box: hold one, or delete `flatten`")
+OF_PARAMETER = "is not covered where a parameter is its type, as it may be no struct or map: name the type itself"
 MOST_SPREAD = 8  # proofs of longer rows that go on with what follows are not found
 
 
@@ -26,6 +27,10 @@ def why_unspread(t: Type, items: Dict[str, Item]) -> str:
         return why_unspread(t.arguments[0], items)
     if t.name in SPREAD or (part and not part.covered):
         return ""
+    if part and part.conversions:
+        return part.why_apart()
+    if t.parameter:
+        return OF_PARAMETER
     if not part or t.arguments or not (part.variants or part.data.style in ("Struct", "Newtype")):
         return UNSPREAD
     part.spread = True
@@ -42,6 +47,8 @@ def why_unspread(t: Type, items: Dict[str, Item]) -> str:
 def why_variant_unspread(part: Item, v: Variant, items: Dict[str, Item]) -> str:
     """The same of a variant."""
     alone, name = v.data.style == "Newtype", f"{part.name}::{v.name}"
+    if alone and v.data.fields[0].function("serialize"):
+        return f"is not covered where a function of yours sends a value by place, as in `{name}`: give it a name"
     if not v.sent:
         return f"is not covered where it is an enum with a variant that isn't sent, as `{name}`: delete that"
     if "untagged" in part.serde:

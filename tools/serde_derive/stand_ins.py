@@ -8,7 +8,7 @@ def reader(name: str, f: Field) -> str:
     """The type of this name that holds what is read for a field, and how that is read."""
     members = [ghost("refusal", f.reading.refusal), ghost("gives", f"λ s x. {f.reading.gives} s x.0"),
                function(DESERIALIZE.format("Self"), f"Ok({name}({f.reading.code}(alloc, from)?))")]
-    return (f"/// What is read for the field `{f.known}`.\n#[derive(Drop)]\nstruct {name}({f.type.rust()});\n\n"
+    return (f"/// What is read for the field `{f.known or f.name}`.\n#[derive(Drop)]\nstruct {name}({f.type.rust()});\n\n"
             f"impl{angled(LT_DE)} {READ} for {name} {{\n" + "\n\n".join(members) + "\n}\n")
 
 
@@ -19,7 +19,7 @@ def sender(name: str, f: Field, test: str) -> str:
     members = [ghost("script", f"λ r. {f.sending.script} r.0.now"),
                ghost("lawful", f"λ r readable. {f.sending.lawful} r.0.now readable"),
                function(SERIALIZE, f"{f.sending.code}(self.0, alloc, serializer)")]
-    texts = [f"/// The field `{f.wire}`, as it is sent.\n#[derive(Drop)]\nstruct {name}{given}(&{LT_SENT} {f.type.rust()});\n",
+    texts = [f"/// The field `{f.wire or f.name}`, as it is sent.\n#[derive(Drop)]\nstruct {name}{given}(&{LT_SENT} {f.type.rust()});\n",
              f"impl{given} Serialize for {name}{given} {{\n" + "\n\n".join(members) + "\n}\n"]
     if f.skips:
         empty = ghost("is_empty", f"λ r. {f.skipped('r.0.now')}")

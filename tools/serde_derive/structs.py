@@ -3,8 +3,8 @@ from typing import Callable, Iterator, List
 
 from .declarations import Data, Item
 from .entries import entries_inside, row_entries
-from .functions import said_of
-from .holder import FLATTENED, KEYED_ENTRY, UNLESS_ENTRY, Holder
+from .functions import Functions, said_of
+from .holder import FLATTENED, KEYED_ENTRY, UNLESS_ENTRY, Holder, plain
 from .text import ABSENT, DESERIALIZE, KNOWN, REFUSED_NULL, SERIALIZE, all_hold, facts, function, ghost
 from .types import READ, TRIP, in_term
 
@@ -84,8 +84,10 @@ class StructWriter:
         """What is read where a field of this type is missing."""
         if self.item.absent_value:
             return made_absent(self.item)
-        facts_known = " × ".join(f"{f.type.member('Absent', 'is_absent')} {value}" for f, value in zip(self.fields, self.values))
-        made = self.item.data.made(self.item.name, ["Absent::absent(alloc)"] * len(self.fields))
+        given = [Functions.initial(f.type) if f.type.opaque else None for f in self.fields]
+        facts_known = " × ".join(said_of(by.fact, value) if by else f"{f.type.member('Absent', 'is_absent')} {value}"
+                                 for f, value, by in zip(self.fields, self.values, given))
+        made = self.item.data.made(self.item.name, [plain(by.code) if by else "Absent::absent(alloc)" for by in given])
         return [ghost("is_absent", f"λ p. {facts_known or '⊤'}"), function(ABSENT.format(self.whole.rust()), made)]
 
     def serialize(self) -> List[str]:

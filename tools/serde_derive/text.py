@@ -56,7 +56,7 @@ def fields_reader(name: str, result: Type, refusal: str, gives: str, lines: List
     """A function that reads fields by name or by place, under a contract of what it refuses and may give."""
     about, source, of, left = (("the fields, in any order", "fields", "FieldsByName", "fields_left") if by_name else
                                ("the values", "parts", "serde_content::de::Seq", "seq_view"))
-    given = angled(LT_DE, f"'n: {LT_DE}", *bounded(result.parameters(), READ))
+    given = angled(LT_DE, f"'n: {LT_DE}", *bounded(result.parameters(), READ, bare=result.bare()))
     signature = f"fn {name}{given}(alloc: Global, {source}: {of}<'de, 'n>) -> Result<{result.rust()}>"
     reads = clause("ensures", f"Reads ({refusal}\n({left} {source}.entry))\n(λ z. {gives}\n({left} {source}.entry)) result")
     body = "\n".join(lines)
@@ -81,8 +81,9 @@ def bracketed(term: str) -> str:
 
 
 def bare(term: str) -> str:
-    """A term without the brackets around it."""
-    return term.strip()[1:-1]
+    """A term without the brackets around it, if it has some."""
+    term = term.strip()
+    return term[1:-1] if term.startswith("(") else term
 
 
 def facts(count: int, such: str) -> List[str]:

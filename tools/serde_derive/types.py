@@ -44,11 +44,13 @@ LEAVES = {
         "text_from", "IsTaken (text_from o) (HasContent (boxed_str_bytes x))", "BoxedStr Global"), "boxed_text_kept", "text_not_null"),
     "PathBuf": leaf("path_back", "(PathBuf Global)", heedless(
         "text_from", "IsTaken (text_from o) (HasContent (path_buf_bytes x))", "PathBuf Global"), "path_kept", "text_not_null"),
-    "&str": leaf("", "", ""),  # what is borrowed is only sent
+    "&str": leaf("", "_", ""),  # what is borrowed is only sent
     **NUMBERS,
 }
 # covered where they are neither sent nor read; contracts find what they see
 FLOATS = dict.fromkeys(["f32", "f64"], leaf("", "_", ""))
+# the same of types of which the module needs the name alone, and the names of two of them
+OPAQUE, ARRAY, PHANTOM = leaf("", "_", ""), "[]", "std::marker::PhantomData"
 HASHER = "(BuildHasherDefault FoldHasher)"
 
 
@@ -74,8 +76,10 @@ HOLDERS = {
     "Box": pointer("Box"),
     "Rc": pointer("Rc"),
     "Arc": pointer("Arc"),
-    "&": Laws("{0}", "", "", ""),
-    "&[]": Laws("seq_lawful {0} {x}.now {h}", "", "", ""),
+    ARRAY: Laws("array_lawful {n} {0} {x} {h}", "(array_back {n} {0})", "(array_keeps {n} {0})", "(ArrayOf {0})",
+                "(array_kept {n} {0})", "(tuple_not_null {n} (array_refusal {n} ({refusals[0]})))"),
+    "&": Laws("{0}", "", "", "_"),
+    "&[]": Laws("seq_lawful {0} {x}.now {h}", "", "", "_"),
     "BTreeMap": Laws("map_lawful {0} {1} {x}.entries {h}",
                      "(seen_back (λ m. m.entries) (map_back {total} {ties} {0} {1}))",
                      "(seen_keeps (λ m. m.entries) (map_keeps ({order}) {0} {1}))",
@@ -97,14 +101,14 @@ SPREAD = {**dict.fromkeys(("BTreeMap", "HashMap"), "pairs_fit {0} {1} {x}.entrie
 # how many arguments each has; those that hold one value as itself; those that hold what they do elsewhere in memory
 ARGUMENTS = {name: 2 if name in ("BTreeMap", "HashMap") else 1 for name in HOLDERS}
 POINTERS, BORROWED = {"Box", "Rc", "Arc"}, {"&", "&[]"}
-ELSEWHERE = set(HOLDERS) - {"Option"}
+ELSEWHERE = set(HOLDERS) - {"Option", ARRAY}
 # those whose first argument is in order in them, or is hashed
 IN_ORDER, HASHED = {"BTreeMap", "BTreeSet"}, {"HashMap", "HashSet"}
 MAPS = {"BTreeMap", "HashMap"}
 # the class of trees that a type takes, and the law that it refuses all others
 CLASSES = {
     "()": ("units", "unit_takes"), "bool": ("booleans", "bool_takes"), "char": ("characters", "char_takes"),
-    "String": ("texts", "text_takes"), "Vec": ("rows", "seq_takes"), "tuple": ("rows", "tuple_takes"),
+    "String": ("texts", "text_takes"), "Vec": ("rows", "seq_takes"), **dict.fromkeys(("tuple", ARRAY), ("rows", "tuple_takes")),
     "BTreeMap": ("records", "map_takes"), "HashMap": ("records", "map_takes"),
     **dict.fromkeys(("BoxedStr", "PathBuf"), ("texts", "text_takes")),
     **dict.fromkeys(("BTreeSet", "HashSet", "VecDeque"), ("rows", "seq_takes")),
@@ -131,7 +135,7 @@ OWN = Laws("{own}_serialize.lawful-law {x} {h}", "{own}_round_trip.comes_back-la
 PARAMETER = Laws("{own}.lawful {x} {h}", "{own}.comes_back", "{own}.keeps", "{declared}", "{own}.kept", "{own}.refuses_null")
 SENT_AND_READ = (("RoundTrip<'de>", "exists"), ("Serialize", "script"), ("Deserialize<'de>", "refusal"),
                  ("Deserialize<'de>", "gives"), ("PartialEq", "eq"))
-MOST_IN_TUPLE = 4  # values of a tuple that is sent and read
+MOST_IN_TUPLE, MOST_IN_ARRAY = 4, 32  # values of a tuple that is sent and read, and of such an array
 RESERVED = set("data record deriving module where use mod pub package open as unfoldable abbrev axiom unfold unfolding"
                " ruleset mutual infix infixl infixr elim let in do Type coe fcoe tcoe hcom com".split())
 LT_SENT, LT_DE, STATIC = "'sent", "'de", "'static"
@@ -162,7 +166,7 @@ class LawsOf(Protocol):
 
 @dataclass(frozen=True)
 class Type:
-    """A field's type: a leaf, a holder, a tuple, or one of the user's own.
+    """A field's type: a leaf, a holder, a tuple, an array of `count` values, or one of the user's own.
 
     An own type has a `home`, the path of the specifications of the module that declares it under
     the name `declared`, and contracts call its laws by what it is `called`. It is `plain` where contracts take each of its values for one that exists,
@@ -171,9 +175,11 @@ class Type:
     those at the places `nulls` decide whether it may be read of null, those at `optional` are in an Option in it, and those
     at `inside` are in itself, not elsewhere in memory.
 
-    It is borrowed for its `lifetimes`. A `parameter` is one of what holds it, whose bounds have the laws. One that is `nested` is
+    It is borrowed for its `lifetimes`. A `parameter` is one of what holds it, whose bounds have the laws: it has
+    none where it `is_bare`, as a PhantomData alone has it. One that is `nested` is
     the type that holds it, or one that leads back to that. Of one of the same file with arguments `laws_of` has
-    the laws, written out: the name of a law does not say for which arguments it is.
+    the laws, written out: the name of a law does not say for which arguments it is. Of one that is
+    `opaque` the module knows the name alone; an array is of so many values as its `count` says.
     """
 
     name: str
@@ -190,12 +196,17 @@ class Type:
     optional: Tuple[int, ...] = ()
     inside: Tuple[int, ...] = ()
     parameter: bool = False
+    is_bare: bool = False
     nested: bool = False
     lifetimes: Tuple[str, ...] = ()
+    opaque: bool = False
+    count: int = 0
     laws_of: Optional[Callable[["Type"], "LawsOf"]] = field(default=None, compare=False, repr=False)
 
     @property
     def laws(self) -> Laws:
+        if self.opaque:
+            return OPAQUE
         return PARAMETER if self.parameter else OWN if self.home else {**LEAVES, **HOLDERS, **FLOATS}[self.name]
 
     def parameters(self) -> List[str]:
@@ -203,9 +214,40 @@ class Type:
         inside = [self.name] * self.parameter + [p for a in self.arguments for p in a.parameters()]
         return list(dict.fromkeys(inside))
 
+    def bare(self) -> List[str]:
+        """The parameters in it that have no bounds."""
+        return [self.name] * self.is_bare + [p for a in self.arguments for p in a.bare()]
+
+    def held_in(self) -> List[str]:
+        """The parameters in it but outside of each PhantomData."""
+        inside = self.arguments if self.name != PHANTOM else ()
+        return [self.name] * self.parameter + [p for a in inside for p in a.held_in()]
+
+    def is_array(self) -> bool:
+        """Whether it is an array of which contracts see the values."""
+        return self.name == ARRAY and not self.opaque
+
+    def is_foreign(self) -> bool:
+        """Whether it is one of the user's, where it is not of this file."""
+        return bool(self.home) or (self.opaque and self.name != ARRAY and not self.name.startswith("std::"))
+
     def leads_back(self) -> bool:
         """Whether it leads back to the type that holds it."""
         return self.nested or any(a.leads_back() for a in self.arguments)
+
+    def is_unknown(self) -> bool:
+        """Whether the module knows the name alone of a type in this one."""
+        return self.opaque or any(a.is_unknown() for a in self.arguments)
+
+    def unseen(self) -> Optional["Type"]:
+        """The first array or hash map in this type of which contracts of a variant see nothing, if there is one."""
+        if self.is_unknown() and self.name in (ARRAY, *HASHED):
+            return self
+        return next(filter(None, (a.unseen() for a in self.arguments)), None)
+
+    def refers(self) -> bool:
+        """Whether it is, or has values of, a reference."""
+        return self.name in (*BORROWED, "&str") or any(a.refers() for a in self.arguments if self.name != PHANTOM)
 
     def borrows(self) -> List[str]:
         """The lifetimes in it, each once."""
@@ -224,7 +266,7 @@ class Type:
 
     def sized_by(self) -> List[str]:
         """The parameters on which its size depends: those of which it has values in itself."""
-        if self.name in ELSEWHERE:
+        if self.name in ELSEWHERE | {PHANTOM}:
             return []
         places = self.inside if self.home else range(len(self.arguments))
         return [self.name] * self.parameter + [p for i in places for p in self.arguments[i].sized_by()]
@@ -233,7 +275,8 @@ class Type:
         """The first type in it, if any, that is no parameter, and whose size depends on one."""
         if self.sized_by() and not self.parameter:
             return self
-        return next(filter(None, (argument.unsized() for argument in self.arguments)), None)
+        inside = self.arguments if self.name != PHANTOM else ()
+        return next(filter(None, (argument.unsized() for argument in inside)), None)
 
     def null_by(self) -> List[str]:
         """The parameters that decide whether it may be read of null."""
@@ -269,6 +312,8 @@ class Type:
             return f"&{self.lifetimes[0]} {one if self.name == '&' else f'[{one}]'}"
         if self.name == "tuple":
             return f"({inside}{',' * (len(self.arguments) == 1)})"
+        if self.name == ARRAY:
+            return f"[{inside}; {self.count}]"
         return f"{self.name}<{inside}>" if inside else self.name
 
     def member(self, trait: str, member: str) -> str:
@@ -285,7 +330,7 @@ class Type:
         if self.name in POINTERS | {"&"}:
             return self.arguments[0].lawful(f"{x}.{'now' if self.name == '&' else 'value'}", h)
         inside = [f"(λ x h. {a.lawful('x', 'h')})" for a in self.arguments]
-        return self.laws.lawful.format(*inside, x=x, h=h, own=self.called)
+        return self.laws.lawful.format(*inside, x=x, h=h, n=self.count, own=self.called)
 
     def fit(self, x: str) -> str:
         """What it sends where it is flattened are entries of a map."""
@@ -302,7 +347,7 @@ class Type:
             return self.typed("ComesBack", SENT_AND_READ, self.laws_of(self).back())
         inside, count = [a.inner_back() for a in self.arguments], len(self.arguments)
         if self.name != "tuple":
-            return self.laws.back.format(*inside, own=self.called, **self.ordered())
+            return self.laws.back.format(*inside, n=self.count, own=self.called, **self.ordered())
         parts = nest([f"element_back {law} x.{i} real{f'.{i}' * (count > 1)} (λ y. y.{i}) {count} {i}"
                       for i, law in enumerate(inside)], f"(parts_end {count})")
         return f"(record {{ of_value = λ x real f. tuple_back{parts}\nf (λ y h. {both(count, 'h')}) }})"
@@ -313,7 +358,7 @@ class Type:
         inside, count = [a.inner_kept() for a in self.arguments], len(self.arguments)
         if self.name != "tuple":
             null = self.arguments[0].not_null() if self.name == "Option" else ""
-            return self.laws.kept.format(*inside, own=self.called, null=null, **self.ordered())
+            return self.laws.kept.format(*inside, n=self.count, own=self.called, null=null, **self.ordered())
         parts = nest([f"element_kept {law} x.{i} real{f'.{i}' * (count > 1)} (λ y. y.{i}) {count} {i}"
                       for i, law in enumerate(inside)], f"(parts_end_kept {count})")
         return f"(record {{ of_value = λ x real. tuple_kept{parts}\n(λ y h. {both(count, 'h')}) }})"
@@ -326,7 +371,7 @@ class Type:
             parts = nest([f"part_then {count} {i} ({refusal})" for i, refusal in enumerate(refusals)], f"(end_of_parts {count})")
             return f"(tuple_not_null {count}{parts})"
         null = self.arguments[0].not_null() if self.name in POINTERS else ""
-        return self.laws.not_null.format(own=self.called, null=null, refusals=refusals)
+        return self.laws.not_null.format(n=self.count, own=self.called, null=null, refusals=refusals)
 
     def comes_back_from_cbor(self) -> bool:
         """Whether CBOR keeps its values; so it does an optional one of what is never null."""
@@ -349,7 +394,7 @@ class Type:
             return self.typed("CoercionKeeps", READ_ALONE, self.laws_of(self).keeps())
         inside, count = [a.keeps() for a in self.arguments], len(self.arguments)
         if self.name != "tuple":
-            return self.laws.keeps.format(*inside, own=self.called, **self.ordered())
+            return self.laws.keeps.format(*inside, n=self.count, own=self.called, **self.ordered())
         return f"(tuple_keeps {count}" + nest(
             [f"part_keeps (λ y. y.{i}) {count} {i} {law}" for i, law in enumerate(inside)],
             f"(parts_end_keeps {count})") + ")"
@@ -402,10 +447,16 @@ class Type:
 
     def length(self) -> Optional[int]:
         """How many values the trees have that it takes, where all have as many."""
-        return self.arguments[0].length() if self.name in POINTERS else len(self.arguments) if self.name == "tuple" else None
+        if self.name in POINTERS:
+            return self.arguments[0].length()
+        return self.count if self.name == ARRAY else len(self.arguments) if self.name == "tuple" else None
 
     def counts(self) -> str:
         """The law that it takes trees of so many values."""
+        if self.name in POINTERS:
+            return self.arguments[0].counts()
+        if self.name == ARRAY:
+            return f"(array_counts {self.count} ({self.arguments[0].member(READ, 'refusal')}))"
         count = self.length()
         parts = "".join(f"(part_counts _ {count} {place} " for place in range(count))
         return f"(tuple_counts {parts}(parts_end_counts {count}){')' * (count + 1)}"
@@ -459,9 +510,9 @@ def nest(heads: List[str], end: str) -> str:
     return "\n" + "".join(f"({head}\n" for head in heads) + end + ")" * len(heads)
 
 
-def parameter(name: str) -> Type:
+def parameter(name: str, bare: bool = False) -> Type:
     """A type parameter of this name."""
-    return Type(name, called=name, parameter=True)
+    return Type(name, called=name, parameter=True, is_bare=bare)
 
 
 def angled(*inside: str) -> str:
@@ -469,9 +520,9 @@ def angled(*inside: str) -> str:
     return f"<{', '.join(inside)}>" if inside else ""
 
 
-def bounded(parameters: List[str], bound: str, some: Sequence[str] = (), theirs: str = "") -> List[str]:
-    """Each of these parameters with this bound, but some of them with theirs."""
-    return [f"{one}: {theirs if one in some else bound}" for one in parameters]
+def bounded(parameters: List[str], bound: str, some: Sequence[str] = (), theirs: str = "", bare: Sequence[str] = ()) -> List[str]:
+    """Each of these parameters with this bound, but some of them with theirs, and bare ones without any."""
+    return [one if one in bare else f"{one}: {theirs if one in some else bound}" for one in parameters]
 
 
 def both(count: int, such: str) -> str:

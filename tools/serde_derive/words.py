@@ -33,10 +33,12 @@ content_tree.specs.Errors.Cause custom
 content_ser.specs.Scripts.Script IsLawful
 content_ser.specs.Scripts.Sends Sends
 content_ser.specs.Scripts.Standard tuple_script element_first
+content_ser.specs.Scripts.Arrays ArrayOf
 content_ser.specs.Sending.Aside answer_of
 content_ser.specs.Scripts.Own field_first tuple_field_first end_script {' '.join(f'{s}_script' for s in STYLES)}
 content_ser.specs.Laws.StandardScripts leaf_lawful option_lawful seq_lawful map_lawful
 content_ser.specs.Laws.StandardScripts tuple_lawful element_fits end_fits
+content_ser.specs.Laws.Arrays array_lawful
 content_ser.specs.Laws.OwnScripts field_fits struct_end_fits tuple_field_fits tuple_end_fits
 content_ser.specs.Laws.OwnScripts {' '.join(f'{s}_lawful' for s in STYLES)}
 content_de.specs.Outcomes refusal_of taken IsTaken
@@ -44,6 +46,7 @@ content_de.specs.Requests.Leaves bool_from char_from unit_from text_from
 content_de.specs.Reads.Standard HasContent
 content_de.specs.Sources.Origin tree_under in_buffer buffering
 content_de.specs.Reads.Tuples part_then end_of_parts PartThen NoPart
+content_de.specs.Reads.Arrays array_refusal
 content_de.specs.Accesses.ByName fields_left field_named without_field
 content_de.specs.Accesses.Seq seq_view
 content_de.specs.Reads.Read Reads
@@ -71,6 +74,7 @@ serde_content.specs.Laws.Hashed hash_set_back hash_set_keeps hash_map_back hash_
 serde_content.specs.Laws.Spelled leaf_such
 serde_content.specs.Laws.Series both_hold element_back tuple_back tuple_field_back tuple_struct_back parts_end
 serde_content.specs.Laws.Series part_keeps tuple_keeps tuple_struct_keeps parts_end_keeps
+serde_content.specs.Laws.Arrays array_back array_keeps array_counts
 serde_content.specs.Laws.Records struct_back struct_keeps newtype_struct_back newtype_struct_keeps
 serde_content.specs.Laws.ByName by_name_back named_back named_or_back skipped_back closed_back
 serde_content.specs.Laws.ByName by_name_keeps named_keeps named_or_keeps skipped_keeps closed_keeps
@@ -101,6 +105,7 @@ content_cbor.specs.Typed.Holders seen_kept option_kept seq_kept seq_not_null
 content_cbor.specs.Typed.Maps map_kept map_not_null
 content_cbor.specs.Typed.Series element_kept tuple_kept tuple_field_kept tuple_struct_kept parts_end_kept
 content_cbor.specs.Typed.Series tuple_not_null
+content_cbor.specs.Typed.Arrays array_kept
 content_cbor.specs.Typed.Records struct_kept newtype_struct_kept
 content_cbor.specs.Typed.ByName by_name_kept named_kept named_or_kept skipped_kept closed_kept
 content_cbor.specs.Typed.Tagged tagged_kept content_kept
@@ -122,6 +127,13 @@ serde_content.specs.Skips has_none
 content_nested.specs.Nested Nested option_nested seq_nested map_nested told_by
 content_nested.specs.Levels levels_of most_levels
 content_nested.specs.Within refuses_all GivesNothing refusals_within gives_within
+""")
+# those of files with types that are converted, where that may fail
+TRIED_WORDS = word_table("""
+std.specs.Prelude Ok option_map
+content_de.specs.Outcomes refusal_then
+content_de.specs.Requests.Numbers number_from
+content_de.specs.Reads.Read first_of
 """)
 # that of files with a trait that tells a script
 TOLD, TOLD_WORDS = re.compile(r"^trait ToldOf", re.M), word_table("content_ser.specs.Scripts.Script Script")
@@ -171,7 +183,7 @@ USES = {
 }
 NO_PLACES = RESERVED | {"alloc", "fields", "serializer", "result", "row", "whole"} | {
     name for names in USES.values() for name in names.split() if name.islower()}
-IN_TEXT = {"[]": r"\[\]", "form": r"\(form t\)", "custom": r"\(custom ", "Some": r"(?:\(|≡ )Some \(|\| Some w\d",
+IN_TEXT = {"[]": r"\[\]", "form": r"\(form t\)", "custom": r"\(custom |option_map custom ", "Some": r"(?:\(|≡ )Some \(|\| Some w\d",
            "None": r"(?:≡|\[\]\)) None|\| None ↦",
            "true": r"(?:fits|λ b\.|≡) true", "false": r"(?:≡|λ n\.) false", "name": 'name "', "not": r"\(not ", "variants": r"variants \( \(name"}
 METHODS = {"Parts": r"\.(?:with|around)\("}

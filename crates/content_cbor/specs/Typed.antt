@@ -3,6 +3,7 @@ pub mod Kept
 pub mod Leaves
 pub mod Holders
 pub mod Series
+pub mod Arrays
 pub mod Maps
 pub mod Made
 pub mod Sets

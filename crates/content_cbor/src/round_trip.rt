@@ -14,6 +14,7 @@ use content_tree::Result;
 use serde_content::RoundTrip;
 use std::alloc::Global;
 
+mod array;
 mod holders;
 mod map;
 mod samples;
@@ -25,7 +26,7 @@ mod tuple;
 /// [`read_back`] reads an equal one.
 ///
 /// It holds of booleans, `String`, whole numbers of each kind, and where it does of what they hold,
-/// of `Box`, `Vec`, sets, maps, tuples, and an `Option` of what is [`NotNull`]. [`from_bytes`] says
+/// of `Box`, `Vec`, sets, maps, tuples, arrays, and an `Option` of what is [`NotNull`]. [`from_bytes`] says
 /// of what it doesn't.
 pub trait CborRoundTrip<'de>: RoundTrip<'de> {
     /// The calls of a value that exists spell a tree. What CBOR keeps of that, where it fits, isn't

@@ -12,3 +12,4 @@ pub mod KeyTrees
 pub mod LeftOver
 pub mod Ascending
 pub mod PutIn
+pub mod Alike

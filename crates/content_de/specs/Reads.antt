@@ -3,6 +3,7 @@ pub mod Read
 pub mod Access
 pub mod Standard
 pub mod Tuples
+pub mod Arrays
 pub mod Maps
 pub mod Pairs
 pub mod Sets

@@ -1,5 +1,6 @@
 //! What the standard library's types read.
 
+mod array;
 mod boxed_str;
 mod deque;
 mod hash_map;

@@ -3,5 +3,6 @@ pub mod Lists
 pub mod ScriptsInTurn
 pub mod Fits
 pub mod StandardScripts
+pub mod Arrays
 pub mod TreeScripts
 pub mod OwnScripts

@@ -2,6 +2,7 @@
 pub mod Script
 pub mod Sends
 pub mod Standard
+pub mod Arrays
 pub mod Replay
 pub mod Begins
 pub mod Own

@@ -1,6 +1,7 @@
 //! What the standard library's types send.
 
 mod arc;
+mod array;
 mod borrowed;
 mod boxed_str;
 mod deque;

@@ -2,6 +2,7 @@ pub mod Spelled
 pub mod Leaves
 pub mod Holders
 pub mod Series
+pub mod Arrays
 pub mod Maps
 pub mod Made
 pub mod Sets

@@ -1,9 +1,11 @@
 //! What is read where a field is missing.
 
+ghost use Rattle.std.specs.List.{AllByRecursion};
 ghost use Rattle.std.specs.Path.{path_buf_bytes};
 ghost use Rattle.std.specs.Prelude.{◌≡◌, [], None, false, pos, string_bytes, ⊤};
 
 use std::alloc::Global;
+use std::array;
 use std::collections::{BTreeMap, BTreeSet, HashMap, HashSet, VecDeque};
 use std::hash::Hash;
 use std::path::PathBuf;
@@ -242,5 +244,13 @@ impl<A: Absent, B: Absent, C: Absent, D: Absent> Absent for (A, B, C, D) {
             C::absent(alloc),
             D::absent(alloc),
         )
+    }
+}
+
+impl<T: Absent, const N: usize> Absent for [T; N] {
+    ghost is_absent = { λ x. AllByRecursion T.is_absent x };
+
+    fn absent(alloc: Global) -> [T; N] {
+        array::from_fn(|_| T::absent(alloc))
     }
 }

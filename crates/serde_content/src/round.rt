@@ -17,6 +17,7 @@ use content_tree::{NamedValue, Result, Value};
 use std::alloc::Global;
 
 mod arc;
+mod array;
 mod boxed_str;
 mod deque;
 mod hash_map;

@@ -2,9 +2,14 @@
 //! tree as a type, and sends the value again.
 #![allow(dead_code)]
 
+mod arrays;
 mod attributes;
+mod boards;
+mod borrowed;
 mod by_functions;
 mod choices;
+mod conversions;
+mod converted;
 mod cursor;
 mod inlined;
 mod more;

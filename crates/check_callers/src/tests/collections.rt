@@ -1,7 +1,7 @@
-//! Sets, hash maps, queues, paths and what several own.
+//! Arrays, sets, hash maps, queues, paths and what several own.
 
 use crate::tests::round_trips::comes_back;
-use serde_content::{Deserializer, Result as Answer, Serializer, Value, value};
+use serde_content::{Deserializer, Error, Result as Answer, Serializer, Value, value};
 use std::alloc::Global;
 use std::collections::{BTreeSet, HashMap, VecDeque};
 use std::path::PathBuf;
@@ -68,5 +68,37 @@ fn slices_are_sent_as_sequences(rt: HostRuntime) -> Result<(), Fail> {
     let alloc = rt.alloc();
     let (some, none) = (sent_slice(alloc, &[1, 2])?, sent_slice(alloc, &[])?);
     assert!(rt; some == value!(in alloc; [1u8, 2u8])? && none == value!(in alloc; [])?);
+    Ok(())
+}
+
+/// Reads two numbers, in a buffer or out of it.
+fn read_two(alloc: Global, items: &[u8], in_buffer: bool) -> Answer<[u8; 2]> {
+    let from = Deserializer::new(Serializer::new().serialize(alloc, &items)?);
+    if in_buffer {
+        from.buffered().deserialize(alloc)
+    } else {
+        from.deserialize(alloc)
+    }
+}
+
+#[test]
+fn arrays_are_sent_as_tuples(rt: HostRuntime) -> Result<(), Fail> {
+    let alloc = rt.alloc();
+    let (array, tuple) = ([(1u8, 'a'), (2, 'b')], ((1u8, 'a'), (2u8, 'b')));
+    let sent = Serializer::new().serialize(alloc, &array)?;
+    assert!(rt; sent == Serializer::new().serialize(alloc, &tuple)?);
+    assert!(rt; comes_back(alloc, &[array, array])?);
+    Ok(())
+}
+
+#[test]
+fn arrays_are_read_as_tuples(rt: HostRuntime) -> Result<(), Fail> {
+    let alloc = rt.alloc();
+    assert!(rt; read_two(alloc, &[1, 2], true)? == [1, 2]);
+    assert!(rt; read_two(alloc, &[1, 2, 3], false)? == [1, 2]);
+    let refused = read_two(alloc, &[1, 2, 3], true).err();
+    assert!(rt; refused == Some(Error::custom(alloc, "too many elements: expected 2")));
+    let refused = read_two(alloc, &[1], false).err();
+    assert!(rt; refused == Some(Error::custom(alloc, "too few elements: expected 2, found 1")));
     Ok(())
 }

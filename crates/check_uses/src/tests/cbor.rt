@@ -135,6 +135,15 @@ fn typed_data_come_back(rt: HostRuntime) -> Result<(), Fail> {
 }
 
 #[test]
+fn arrays_come_back(rt: HostRuntime) -> Result<(), Fail> {
+    let alloc = rt.alloc();
+    let bytes = to_bytes(alloc, &[[Some(1u8), None], [None, Some(2)]])?;
+    let back: [[Option<u8>; 2]; 2] = read_back(alloc, &bytes, 3)?;
+    assert!(rt; back == [[Some(1), None], [None, Some(2)]]);
+    Ok(())
+}
+
+#[test]
 fn numbers_and_lists_come_back(rt: HostRuntime) -> Result<(), Fail> {
     let alloc = rt.alloc();
     let list = vec![in alloc; Some(true), None]?;
