@@ -36,7 +36,7 @@ impl TryFrom<u8> for Percent {
 
     ghost try_from_gives = { λ x r. MatchResult r (λ y. percent_refusal (pos x) ≡ None)
         (λ e. IsSomeAnd (⟦<&'static str as Display>⟧.output e)
-            (λ t. percent_refusal (pos x) ≡ Some t)) };
+        (λ t. percent_refusal (pos x) ≡ Some t)) };
 
     fn try_from(number: u8) -> Result<Percent, &'static str> {
         if number > 100 {

@@ -14,7 +14,7 @@ returns-in_err-serialize_element g c =
     let len : length c.args.self.now ≡ g.row.N = search rules in
     let below : c.loop-item.item-index < length c.args.self.now = rw len c.loop-item-test.true in
     let e = drop_here c.args.self.now c.loop-item.item-index c.item-item.result below c.item-item.is
-        ∙ ap (λ y. y ∷ drop (c.loop-item.item-index + 1) c.args.self.now) c.item-item.is in
+    ∙ ap (λ y. y ∷ drop (c.loop-item.item-index + 1) c.args.self.now) c.item-item.is in
     at_exit_aside _ _ c.from_residual-in_err-serialize_element.ensures.1 (takes_then c.in_ok-serialize_tuple.ensures
     (c.loop-item.invariant _ _ (rw e (takes_err c.in_err-serialize_element.ensures))))
 
@@ -23,7 +23,7 @@ returns-in_err-serialize_aside g c =
     let len : length c.args.self.now ≡ g.row.N = search rules in
     let below : c.loop-item.item-index < length c.args.self.now = rw len c.loop-item-test.true in
     let e = drop_here c.args.self.now c.loop-item.item-index c.item-item.result below c.item-item.is
-        ∙ ap (λ y. y ∷ drop (c.loop-item.item-index + 1) c.args.self.now) c.item-item.is in
+    ∙ ap (λ y. y ∷ drop (c.loop-item.item-index + 1) c.args.self.now) c.item-item.is in
     at_exit_aside _ _ c.from_residual-in_err-serialize_aside.ensures.1 (takes_then c.in_ok-serialize_tuple.ensures
     (c.loop-item.invariant _ _ (rw e (takes_then c.in_ok-serialize_element.ensures (sends_err _ c.in_err-serialize_aside.ensures)))))
 
@@ -32,7 +32,7 @@ loop-item-preserved g c = λ r new rest.
     let len : length c.args.self.now ≡ g.row.N = search rules in
     let below : c.loop-item.item-index < length c.args.self.now = rw len c.loop-item-test.true in
     let e = drop_here c.args.self.now c.loop-item.item-index c.item-item.result below c.item-item.is
-        ∙ ap (λ y. y ∷ drop (c.loop-item.item-index + 1) c.args.self.now) c.item-item.is in
+    ∙ ap (λ y. y ∷ drop (c.loop-item.item-index + 1) c.args.self.now) c.item-item.is in
     c.loop-item.invariant r new (rw e (takes_then c.in_ok-serialize_element.ensures (sends_then c.in_ok-serialize_aside.ensures rest)))
 
 pub returns : goal.returns
