@@ -388,6 +388,8 @@ def one_way() -> Dict[str, str]:
             variants = ", ".join(f"#[serde({said})] V{i}{hold}" for i, (said, hold) in enumerate(
                 islice(zip(cycle(way[:2] + way[3:]), cycle([held_by, "", held_by, held_by])), count)))
             made[f"unsent_{sort}_{count}"] = f"{ALL}\n{f'#[serde({tag})]{chr(10)}' * bool(tag)}pub enum Tried {{ A{held_by}, {variants} }}"
+    made["unsent_variant_of_maps"] = (f"{ALL}\npub enum Tried {{ A {{ #[serde(skip_deserializing)] x: BTreeMap<u8, BTreeMap<u8, u8>>, y: u8,"
+                                      " z: String }, B(#[serde(skip_deserializing)] BTreeMap<u8, HashMap<u8, i8>>, u8) }")
     made["unsent_alone"] = f"{SENT}\npub struct Tried {{ #[serde(skip)] pub x: u8 }}"
     made["unsent_all"] = f"{ALL}\npub struct Tried {{ #[serde(skip)] pub x: u8, #[serde(skip_deserializing)] pub y: String }}"
     made["unsent_others"] = (f"{BOTH}\npub struct Tried {{ pub a: u8, #[serde(skip)] pub b: char, #[serde(skip)] pub c: (u8, (String, bool)),"

@@ -12,6 +12,7 @@ from typing import Dict, List, Optional
 
 from declarations import IMPORTS, declarations
 from matrix import matrix
+from randoms import randoms
 
 LIBRARIES = ["content_tree", "content_ser", "content_build", "content_de", "serde_content", "content_nested", "content_cbor"]
 TOGETHER, JOBS = int(os.environ.get("TOGETHER", 16)), os.environ.get("JOBS", "2")
@@ -21,7 +22,10 @@ CRATES = {"figment": ("util", "util"), "helpers": ("helpers", "lib")}
 
 
 def drawn(which: List[str]) -> Dict[str, str]:
-    """The types of the matrix, or the declarations, with these names; as many types as a count says, drawn by a seed, or all."""
+    """The types of the matrix, or the declarations, with these names; as many types as a count says, drawn by a seed; those that
+    are made at random of a seed; or all."""
+    if which[:1] == ["random"]:
+        return randoms(*map(int, (which[1:] + ["60"])[:2]))
     every = matrix()
     names = which or sorted(every)
     if which and which[0].isdigit():

@@ -1521,3 +1521,10 @@ enum F<T> { X { a: u8, b: u8, c: u8, d: u8, e: u8, f: T, g: T } }
 struct A { a: [String; 2], b: [[Option<u8>; 3]; 2], c: [[u8; 3]; 2], d: [Option<u8>; 3], e: Vec<[[Option<u8>; 3]; 2]> }
 #[derive(Serialize, Deserialize)]
 enum B { X([[(u8, u8); 2]; 2], [A; 2]), Y([[Option<u8>; 2]; 2], [u8; 2]) }
+
+// 2: A.X.0: a field of a parameter's type is not covered in a variant beside `BTreeMap<u8, BTreeMap<u8, T>>`: hold `Box<T>`
+// 4: B.Y.0: `BTreeSet<PathBuf>` is not covered in a type that contains itself: hold it in another struct
+#[derive(Deserialize)]
+enum A<T> { X(T, BTreeMap<u8, BTreeMap<u8, T>>), Y(T, BTreeMap<u8, T>) }
+#[derive(Serialize)]
+enum B { X(Box<B>), Y(BTreeSet<PathBuf>, u8) }

@@ -138,7 +138,7 @@ class Holder:
     @property
     def big(self) -> bool:
         """Whether it is read as a struct of its values."""
-        return self.many and self.reading.count > self.room()
+        return self.many and self.reading.count > self.reading.room()
 
     def part(self, fields: List[Field]) -> "Holder":
         """The same of some of its fields alone."""

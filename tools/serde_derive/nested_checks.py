@@ -110,7 +110,10 @@ def check_data(item: Item, data: Data, line: int, where: str) -> Iterator[Refuse
     if "tag" in item.serde and any(f.type.leads_back() for f in data.fields):
         most = LONGEST_BESIDE_TAG
     for f in data.fields:
-        if holds_as(f.type):
+        if f.type.is_deep():
+            yield Refused(f.line, f"`{f.type.rust()}` is not covered in a type that contains itself: hold it in another struct",
+                          f"{where}.{f.name}")
+        elif holds_as(f.type):
             yield Refused(f.line, f"`{item.name}` contains itself, which is not covered in `{holds_as(f.type)}`: hold it in Box,"
                           " Vec or Option<Box>", f"{where}.{f.name}")
         elif "tag" in item.serde and f.type.name == "Option" and f.type.leads_back():

@@ -42,6 +42,9 @@ def reason(item: Item, data: Data, leaves: List[Field], f: Field, alone: bool) -
     read = sorted((one for one in leaves if one.read), key=lambda one: one.rest)
     first = list(takewhile(lambda one: (one.line, one.known) != (f.line, f.known), read))
     most, longest = most_before(item), LONGEST_HELD if item.variants else MOST_BEFORE + 1 if item.flattens() else LONGEST_ROW
+    deep = next((one.type.rust() for one in read if one.type.is_deep()), "") if item.variants else ""
+    if deep:
+        return f"a field of a parameter's type is not covered in a variant beside `{deep}`: hold `Box<{name}>`"
     if len(read) > longest or len(first) > most:
         return f"a field of a parameter's type is covered among the first {min(most + 1, longest)} of up to {longest}: hold `Box<{name}>`"
     if not (f.is_plain() and all(one.is_plain() for one in first)):
