@@ -157,6 +157,14 @@ def collections() -> Dict[str, str]:
     for place, one in enumerate(COLLECTED):
         made[f"collected_{place}"] = f"{KEY * ('Key' in one)}{ALL}\npub struct Tried {{ pub only: {one}, pub y: u8 }}"
         made[f"collected_in_variant_{place}"] = f"{KEY * ('Key' in one)}{ALL}\npub enum Tried {{ A({one}), B {{ x: {one}, y: u8 }} }}"
+    for place, one in enumerate(["Vec<HashMap<u8, i8>>", "BTreeMap<u8, HashSet<u8>>"]):
+        made[f"collected_default_{place}"] = f"{ALL}\npub struct Tried {{ #[serde(default)] pub x: {one}, pub y: u8 }}"
+    for place, held_in in enumerate(["x: u8, #[serde(default)] y: HashMap<u8, HashSet<u8>>",
+                                     "x: u8, #[serde(skip_deserializing)] z: HashSet<u8>, #[serde(default)] y: HashMap<u8, u8>"]):
+        made[f"collected_default_in_variant_{place}"] = f"{READ}\npub enum Tried {{ A {{ {held_in} }}, B(u8) }}"
+    for place, held_in in enumerate(["u8, char, i64, PathBuf, BTreeSet<String>", "(String, isize), char, i64, PathBuf"]):
+        made[f"collected_by_place_{place}"] = f"{READ}\npub struct Tried({held_in});"
+    made["collected_paths_by_place"] = f"{ALL}\npub struct Tried(pub PathBuf, pub Option<PathBuf>, pub u8);"
     for place, (one, empty) in enumerate([("BTreeSet<String>", "BTreeSet"), ("HashMap<String, u8>", "HashMap"), ("HashSet<u8>", "HashSet"),
                                           ("VecDeque<u8>", "VecDeque")]):
         made[f"collected_skipped_{place}"] = (f'{ALL}\npub struct Tried {{ #[serde(default, skip_serializing_if = "{empty}::is_empty")]'
@@ -388,8 +396,9 @@ def one_way() -> Dict[str, str]:
             variants = ", ".join(f"#[serde({said})] V{i}{hold}" for i, (said, hold) in enumerate(
                 islice(zip(cycle(way[:2] + way[3:]), cycle([held_by, "", held_by, held_by])), count)))
             made[f"unsent_{sort}_{count}"] = f"{ALL}\n{f'#[serde({tag})]{chr(10)}' * bool(tag)}pub enum Tried {{ A{held_by}, {variants} }}"
-    made["unsent_variant_of_maps"] = (f"{ALL}\npub enum Tried {{ A {{ #[serde(skip_deserializing)] x: BTreeMap<u8, BTreeMap<u8, u8>>, y: u8,"
-                                      " z: String }, B(#[serde(skip_deserializing)] BTreeMap<u8, HashMap<u8, i8>>, u8) }")
+    unread = "#[serde(skip_deserializing)] "
+    made["unsent_variant_of_maps"] = f"{ALL}\npub enum Tried {{ A, B({unread}BTreeMap<u8, HashMap<u8, i8>>, u8) }}"
+    made["unsent_field_of_maps"] = f"{ALL}\npub enum Tried {{ A, B {{ {unread}x: BTreeMap<u8, HashMap<u8, i8>>, y: u8 }} }}"
     made["unsent_alone"] = f"{SENT}\npub struct Tried {{ #[serde(skip)] pub x: u8 }}"
     made["unsent_all"] = f"{ALL}\npub struct Tried {{ #[serde(skip)] pub x: u8, #[serde(skip_deserializing)] pub y: String }}"
     made["unsent_others"] = (f"{BOTH}\npub struct Tried {{ pub a: u8, #[serde(skip)] pub b: char, #[serde(skip)] pub c: (u8, (String, bool)),"

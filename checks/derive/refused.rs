@@ -1522,9 +1522,20 @@ struct A { a: [String; 2], b: [[Option<u8>; 3]; 2], c: [[u8; 3]; 2], d: [Option<
 #[derive(Serialize, Deserialize)]
 enum B { X([[(u8, u8); 2]; 2], [A; 2]), Y([[Option<u8>; 2]; 2], [u8; 2]) }
 
-// 2: A.X.0: a field of a parameter's type is not covered in a variant beside `BTreeMap<u8, BTreeMap<u8, T>>`: hold `Box<T>`
+// 2: A.X.0: a field of a parameter's type is not covered beside `BTreeMap<u8, BTreeMap<u8, T>>` in a variant: hold `Box<T>`
+// 2: A.Z.x: a field of a parameter's type is not covered beside `HashMap<u8, T>` in a variant: hold `Box<T>`
 // 4: B.Y.0: `BTreeSet<PathBuf>` is not covered in a type that contains itself: hold it in another struct
+// 6: C.0: a field of a parameter's type is not covered beside `Option<PathBuf>` by place: hold `Box<T>`
 #[derive(Deserialize)]
-enum A<T> { X(T, BTreeMap<u8, BTreeMap<u8, T>>), Y(T, BTreeMap<u8, T>) }
+enum A<T> { X(T, BTreeMap<u8, BTreeMap<u8, T>>), Y(T, BTreeMap<u8, T>), Z { x: T, #[serde(default)] y: HashMap<u8, T> } }
 #[derive(Serialize)]
 enum B { X(Box<B>), Y(BTreeSet<PathBuf>, u8) }
+#[derive(Deserialize)]
+struct C<T>(T, Option<PathBuf>);
+
+// 2: A.x: `&'a [&'a str]` is covered alone or in an Option: hold the values themselves, as String for &str
+// 4: B.X.0: `&'a [&'a u8]` is covered alone or in an Option: hold the values themselves, as String for &str
+#[derive(Serialize)]
+struct A<'a> { x: BTreeMap<u8, &'a [&'a str]>, y: Option<&'a [&'a str]>, z: &'a [&'a str], w: Vec<&'a [u8]> }
+#[derive(Serialize)]
+enum B<'a> { X(&'a [&'a [&'a u8]]), Y(Vec<&'a str>) }

@@ -11,7 +11,7 @@ from .functions import said_of
 from .literals import ROWS_OPENED, list_impl, list_term, name_call, name_method, name_term
 from .stand_ins import reader, sender
 from .text import bare, clause, fields_reader, function, ghost, together
-from .types import ALIKE, LT_DE, LT_SENT, READ, STATIC, TRIP, Type, angled, bounded, in_term, nest, parameter, snake
+from .types import ALIKE, HASHED, LT_DE, LT_SENT, READ, STATIC, TRIP, Type, angled, bounded, in_term, nest, parameter, snake
 
 
 LONGEST_ROW = 8  # types of longer rows take the checker's memory
@@ -82,6 +82,14 @@ UNLESS_ENTRY = {"script": "flattened_unless {skipped} {name} {inner}",
 # beside such a field a law says which names are sent
 KEYED = BY_NAME._replace(back=("keyed{or_}_back {name}{missing} {inner} {see}", "(keyed_{end}_back {known})"))
 KEYED_ENTRY = FLATTENED._replace(back=("entry_named{or_}_back {name}{missing} {inner} {see}", "(entries_end_back {known})"))
+
+
+def needs_struct(f: Field, of_variant: bool, named: bool) -> bool:
+    """Whether a value is read in a struct of it and all beside it, as else proofs get lost: in a variant one of which contracts
+    say much, or that is hashed and may be missing; by place in a struct one with paths."""
+    if of_variant:
+        return f.type.is_deep() or bool(f.missing) and f.type.has(*HASHED)
+    return not named and f.type.has("PathBuf")
 
 
 class Holder:
@@ -159,11 +167,13 @@ class Holder:
 
     def room(self) -> int:
         """How many values are read with no struct of them all."""
-        return self.room_in_variant() if self.of_variant else LONGEST_ROW
+        if self.of_variant:
+            return self.room_in_variant()
+        return 0 if any(needs_struct(f, False, self.data.named) for f in self.fields) else LONGEST_ROW
 
     def room_in_variant(self) -> int:
         """The same of a variant."""
-        return 0 if any(f.type.is_deep() for f in self.fields) else LONGEST_HELD
+        return 0 if any(needs_struct(f, True, self.data.named) for f in self.fields) else LONGEST_HELD
 
     def aliases(self) -> List[str]:
         """The further names of its fields."""

@@ -18,7 +18,7 @@ from .literals import with_names
 from .names import name_item
 from .nested import NestedWriter
 from .nested_checks import check_nested
-from .sizes import check_arrays, check_rows, check_sizes
+from .sizes import check_arrays, check_references, check_rows, check_sizes
 from .structs import StructWriter, TransparentWriter
 from .text import ghost
 from .tagged import TaggedWriter, check_tagged
@@ -158,6 +158,7 @@ def settled(file: File, homes: Homes) -> Dict[str, Writer]:
     keep(check_variants)
     keep(check_sizes)
     keep(check_rows)
+    keep(check_references)
     keep(lambda item: check_arrays(item, homes))
     covered = [item for item in file.items if item.covered]
     keep(lambda item: check_derives(item, homes.items, file))
@@ -181,8 +182,8 @@ def brought(words: Set[str], word: str, texts: List[str]) -> bool:
 
 def uses(file: File, homes: Homes, texts: List[str]) -> List[str]:
     """The lines that bring the words of contracts, and those that bring the items of code."""
-    seen = [found for text in texts for found in re.findall(r"λ (?:o )?\([xz] : (.*?)\)\.\s", text, re.S)
-            + re.findall(r"let law : \(x : (.*?)\) \(readable ", text, re.S)]
+    seen = [found for text in texts for found in re.findall(r"λ\s(?:o\s)?\([xz]\s:\s(.*?)\)\.\s", text, re.S)
+            + re.findall(r"let\slaw\s:\s\(x\s:\s(.*?)\)\s\(readable\s", text, re.S)]
     words, named = words_in(texts), words_in(re.sub(r"(_as_seen)\.\w+", r"\1", text) for text in seen)
     owns = {own.called: own for item in file.items for own in item.owns()}.values()
     ghosts = words_of(words, WORDS) + words_of(named, SEEN)

@@ -1,12 +1,12 @@
 """Which fields are refused for what the checker knows of their size: of one that depends on a parameter, nothing."""
 from itertools import islice, takewhile
-from typing import Iterator, List
+from typing import Iterator, List, Optional
 
 from .conversions import may_hold_memory
 from .declarations import Data, Field, Item, Refused
-from .holder import LONGEST_HELD, LONGEST_ROW
-from .homes import Homes
-from .types import ARRAY, FLOATS, LEAVES, Type
+from .holder import LONGEST_HELD, LONGEST_ROW, needs_struct
+from .homes import Homes, placed
+from .types import ARRAY, BORROWED, FLOATS, LEAVES, STATIC, Type
 
 # rows are refused by the checker in which more values stand before one of a parameter's type, or entries where some are flattened
 MOST_BEFORE, MOST_BEFORE_FLATTENED = 6, 4
@@ -42,9 +42,9 @@ def reason(item: Item, data: Data, leaves: List[Field], f: Field, alone: bool) -
     read = sorted((one for one in leaves if one.read), key=lambda one: one.rest)
     first = list(takewhile(lambda one: (one.line, one.known) != (f.line, f.known), read))
     most, longest = most_before(item), LONGEST_HELD if item.variants else MOST_BEFORE + 1 if item.flattens() else LONGEST_ROW
-    deep = next((one.type.rust() for one in read if one.type.is_deep()), "") if item.variants else ""
-    if deep:
-        return f"a field of a parameter's type is not covered in a variant beside `{deep}`: hold `Box<{name}>`"
+    beside = next((one.type.rust() for one in read if needs_struct(one, bool(item.variants), data.named)), "")
+    if beside:
+        return f"a field of a parameter's type is not covered beside `{beside}` {'in a variant' if item.variants else 'by place'}: hold `Box<{name}>`"
     if len(read) > longest or len(first) > most:
         return f"a field of a parameter's type is covered among the first {min(most + 1, longest)} of up to {longest}: hold `Box<{name}>`"
     if not (f.is_plain() and all(one.is_plain() for one in first)):
@@ -67,6 +67,24 @@ def check_rows(item: Item) -> Iterator[Refused]:
             if f.type.parameter:
                 yield Refused(f.line, f"a field of a parameter's type is covered among the first {first} that are sent:"
                               f" hold `Box<{f.type.rust()}>`", f"{where}.{f.name}")
+
+
+def check_references(item: Item) -> Iterator[Refused]:
+    """Refuses references to what is borrowed itself that aren't a field's whole type or in an Option: of what holds one, proofs
+    are not found."""
+    for where, f in placed(item) if "Serialize" in item.derives else ():
+        of = f.type.arguments[0] if f.type.name == "Option" else f.type
+        found = next(filter(None, map(reference, of.arguments)), None)
+        if found and f.sent and not f.by_function():
+            yield Refused(f.line, f"`{found.rust()}` is covered alone or in an Option: hold the values themselves, as String for &str",
+                          where)
+
+
+def reference(t: Type) -> Optional[Type]:
+    """A reference in a type, itself or one in it, to what is borrowed itself."""
+    if t.name in BORROWED and set(t.arguments[0].borrows()) - {STATIC}:
+        return t
+    return next(filter(None, map(reference, t.arguments)), None)
 
 
 def check_arrays(item: Item, homes: Homes) -> Iterator[Refused]:

@@ -90,10 +90,10 @@ HOLDERS = {
                      "(seen_keeps (λ s. s.keys) (set_keeps ({order}) {0}))", "(BTreeSet {0} Global)",
                      "(seen_kept (λ s. s.keys) (set_kept {total} {ties} {0}))", "(seq_not_null ({refusals[0]}))"),
     "HashMap": Laws("map_lawful {0} {1} {x}.entries {h}", "(hash_map_back {equal} {0} {1})",
-                    "(hash_map_keeps ({same}) {0} {1})", f"(HashMap {{0}} {{1}} {HASHER})",
+                    "(hash_map_keeps ({same}) {0} {1})", f"(hash_map.HashMap {{0}} {{1}} {HASHER})",
                     "(hash_map_kept {equal} {0} {1})", "(map_not_null ({refusals[0]}) ({refusals[1]}))"),
     "HashSet": Laws("seq_lawful {0} {x}.keys {h}", "(hash_set_back {equal} {0})",
-                    "(hash_set_keeps ({same}) {0})", f"(HashSet {{0}} {HASHER})",
+                    "(hash_set_keeps ({same}) {0})", f"(hash_set.HashSet {{0}} {HASHER})",
                     "(hash_set_kept {equal} {0})", "(seq_not_null ({refusals[0]}))"),
 }
 # those that send entries of a map where they are flattened, beside types of the user's: that their entries are such
@@ -292,6 +292,10 @@ class Type:
     def width(self) -> int:
         """How many types without arguments it is made of."""
         return sum(one.width() for one in self.arguments) or 1
+
+    def has(self, *names: str) -> bool:
+        """Whether it has one of these names, or a type in it."""
+        return self.name in names or any(argument.has(*names) for argument in self.arguments)
 
     def is_deep(self) -> bool:
         """Whether contracts say so much of it that proofs get lost that look into all variants of an enum: a map in another, or

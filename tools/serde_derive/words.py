@@ -140,7 +140,9 @@ TOLD, TOLD_WORDS = re.compile(r"^trait ToldOf", re.M), word_table("content_ser.s
 NESTED_ITEMS = ("FieldsWithin Inner Levels NestedField NestedFieldOr NestedPart Nests PartsWithin ReadNested ReadWithin"
                 " ReadsLevel ReadsNested ReadsWithin SendNested SendNestedField SendNestedPart SkipNested Steps StructWithin"
                 " TaggedWithin Tells Told VariantsWithin").split()
-ALIASES = {"kind": "content_tree.specs.Values.Ranges", "tree": "content_tree.specs.Values.Tree"}
+# the hashed ones by their modules: in the contract of a function their bare names are those of Rust's types, with an allocator
+ALIASES = {"kind": "content_tree.specs.Values.Ranges", "tree": "content_tree.specs.Values.Tree",
+           "hash_map": "std.specs.HashMap", "hash_set": "std.specs.HashSet"}
 SEEN = word_table("""
 std.specs.declared.alloc.Global Global
 std.specs.declared.string.String String
@@ -149,8 +151,6 @@ std.specs.declared.boxed.Box Box
 std.specs.declared.collections.BTreeMap BTreeMap
 std.specs.declared.collections.BTreeSet BTreeSet
 std.specs.declared.collections.VecDeque VecDeque
-std.specs.HashMap HashMap
-std.specs.HashSet HashSet
 std.specs.declared.hash.BuildHasherDefault BuildHasherDefault
 std.specs.declared.hash.FoldHasher FoldHasher
 std.specs.declared.boxed.BoxedStr BoxedStr
