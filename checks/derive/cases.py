@@ -111,12 +111,12 @@ def too_many() -> Iterator[str]:
 
 
 def slow_or_wrong() -> Iterator[str]:
-    """Which large files end otherwise than they should, or in more than 20 seconds."""
+    """Which large files end otherwise than they should, or in more than 60 seconds."""
     for what, status, source in large():
         start = time.monotonic()
         got, lines, _ = outcome(source)
         seconds = time.monotonic() - start
-        if got != status or seconds > 20:
+        if got != status or seconds > 60:
             yield f"{what}: wanted {status}, found {got} in {seconds:.0f} seconds: {lines[-1:]}"
 
 
