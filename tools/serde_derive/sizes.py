@@ -44,7 +44,8 @@ def reason(item: Item, data: Data, leaves: List[Field], f: Field, alone: bool) -
     most, longest = most_before(item), LONGEST_HELD if item.variants else MOST_BEFORE + 1 if item.flattens() else LONGEST_ROW
     beside = next((one.type.rust() for one in read if needs_struct(one, bool(item.variants), data.named)), "")
     if beside:
-        return f"a field of a parameter's type is not covered beside `{beside}` {'in a variant' if item.variants else 'by place'}: hold `Box<{name}>`"
+        where = "in a variant" if item.variants else "by place"
+        return f"a field of a parameter's type is not covered beside `{beside}` {where}: hold `Box<{name}>`"
     if len(read) > longest or len(first) > most:
         return f"a field of a parameter's type is covered among the first {min(most + 1, longest)} of up to {longest}: hold `Box<{name}>`"
     if not (f.is_plain() and all(one.is_plain() for one in first)):
