@@ -38,8 +38,10 @@ offline = true
 CONFIG
 }
 
-# build_port: the static library content_port, with a mark between phases.
+# build_port: the static library content_port, with a mark between phases. tools/derive writes its struct.
 build_port() {
+    "$room/ours/tools/derive" --crate content_port --module point "$room/ours/crates/content_port/point.rs" \
+        -o "$room/ours/crates/content_port/src/point.rt"
     (cd "$room/ours/crates/content_port" && RT_ALLOW_C=content_port rt lib) \
         > "$room/ours.log" 2>&1 || { tail -n 5 "$room/ours.log"; exit 1; }
 }

@@ -16,7 +16,7 @@ room=$(cd "$2" && pwd)
 . "$top/bench/common.sh"
 
 place_ours content_port "$here/content_port" \
-    'content_port staticlib: content_build content_de content_ser content_tree'
+    'content_port staticlib: serde_content content_build content_de content_ser content_tree'
 build_port
 place_original "$crate" "$here/driver"
 build_driver

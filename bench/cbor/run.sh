@@ -18,7 +18,7 @@ room=$(cd "$1" && pwd)
 rsync -a --delete "$top/bench/beside/content_port/" "$room/port/"
 rsync -a "$here/content_port/" "$room/port/"
 place_ours content_port "$room/port" \
-    'content_port staticlib: content_cbor content_de content_ser content_tree'
+    'content_port staticlib: content_cbor serde_content content_de content_ser content_tree'
 build_port
 place_driver "$here/driver"
 cp "$top/bench/beside/driver/build.rs" "$room/driver/"
