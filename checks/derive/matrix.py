@@ -157,6 +157,8 @@ def collections() -> Dict[str, str]:
     for place, one in enumerate(COLLECTED):
         made[f"collected_{place}"] = f"{KEY * ('Key' in one)}{ALL}\npub struct Tried {{ pub only: {one}, pub y: u8 }}"
         made[f"collected_in_variant_{place}"] = f"{KEY * ('Key' in one)}{ALL}\npub enum Tried {{ A({one}), B {{ x: {one}, y: u8 }} }}"
+    for place, one in enumerate(["HashMap<String, u8>", "Arc<HashMap<PathBuf, HashSet<String>>>"]):
+        made[f"collected_alone_{place}"] = f"{ALL}\npub enum Tried {{ A({one}) }}"
     for place, one in enumerate(["Vec<HashMap<u8, i8>>", "BTreeMap<u8, HashSet<u8>>"]):
         made[f"collected_default_{place}"] = f"{ALL}\npub struct Tried {{ #[serde(default)] pub x: {one}, pub y: u8 }}"
     for place, held_in in enumerate(["x: u8, #[serde(default)] y: HashMap<u8, HashSet<u8>>",
@@ -548,6 +550,8 @@ def arrays() -> Dict[str, str]:
         "array_adjacent": f'{ALL}\n#[serde(tag = "t", content = "c")]\npub enum Tried {{ {variants} }}',
         "array_internal": f'{ALL}\n#[serde(tag = "t")]\npub enum Tried {{ A, B {{ x: [u8; 3], y: [Own; 1] }} }}',
         "array_untagged": f"{ALL}\n#[serde(untagged)]\npub enum Tried {{ A([u8; 2]), B(Box<[u8; 3]>), C(u8, u8, u8, u8), D(String) }}",
+        "array_untagged_parts": (f"{ALL}\n#[serde(untagged)]\npub enum Tried {{ A {{ x: [u8; 2], y: String }}, B(u8), C([u8; 3], u8), D(bool),"
+                                 " E(char), F { z: [u8; 3] } }"),
         "array_absent": f"{ALL}\npub struct Tried {{ {fields} }}",
         "array_default": f"{ALL.replace('derive(', 'derive(Default, ')}\n#[serde(default)]\npub struct Tried {{ pub x: [u8; 4], pub y: [String; 2] }}",
         "array_flat": f"{ALL}\npub struct Inside {{ pub x: [u8; 2] }}\n\n{ALL}\npub struct Tried {{ pub y: u8, #[serde(flatten)] pub inside: Inside }}",
@@ -557,16 +561,88 @@ def arrays() -> Dict[str, str]:
     }
 
 
+def durations() -> Dict[str, str]:
+    """Fields that are durations, alone and in others, of each sort of type."""
+    held_in = ["Option<Duration>", "Vec<Duration>", "BTreeMap<String, Duration>", "(u8, Duration)", "[Duration; 2]", "Box<Duration>"]
+    made = {f"duration_in_{i}": f"{ALL}\npub struct Tried {{ pub x: {one}, pub y: u8 }}" for i, one in enumerate(held_in)}
+    variants = "A, B(Duration), C(Duration, u8), D { x: Duration, y: String }"
+    derives = ALL.replace("derive(", "derive(Debug, Clone, Copy, PartialOrd, Ord, Hash, ")
+    fields = "#[serde(default)] pub x: Duration, pub y: Option<Duration>, #[serde(default)] pub z: (Duration, bool)"
+    skips = "#[serde(skip)] pub x: Duration, pub y: u8, #[serde(skip_serializing)] pub z: Duration, #[serde(skip_deserializing)] pub w: Duration"
+    return {
+        **made,
+        "duration_field": f"{ALL}\npub struct Tried {{ pub pause: Duration, pub times: u8 }}",
+        "duration_newtype": f"{derives}\npub struct Tried(pub Duration);",
+        "duration_place": f"{ALL}\npub struct Tried(pub Duration, pub Duration);",
+        "duration_transparent": f"{ALL}\n#[serde(transparent)]\npub struct Tried {{ pub only: Duration }}",
+        "duration_closed": f"{ALL}\n#[serde(deny_unknown_fields)]\npub struct Tried {{ pub x: Duration, pub y: Vec<Own> }}",
+        "duration_external": f"{ALL}\npub enum Tried {{ {variants} }}",
+        "duration_adjacent": f'{ALL}\n#[serde(tag = "t", content = "c")]\npub enum Tried {{ {variants} }}',
+        "duration_internal": f'{ALL}\n#[serde(tag = "t")]\npub enum Tried {{ A, B {{ x: Duration, y: u8 }} }}',
+        "duration_untagged": f"{ALL}\n#[serde(untagged)]\npub enum Tried {{ A(Duration), B(u8), C(Vec<Duration>), D {{ x: Duration }} }}",
+        "duration_absent": f"{ALL}\npub struct Tried {{ {fields} }}",
+        "duration_default": f"{ALL.replace('derive(', 'derive(Default, ')}\n#[serde(default)]\npub struct Tried {{ pub x: Duration, pub y: u8 }}",
+        "duration_skipped": f"{BOTH}\npub struct Tried {{ {skips} }}",
+        "duration_functions": f'{ALL}\npub struct Tried {{ #[serde(default = "half")] pub x: Duration, #[serde(default, skip_serializing_if = '
+                              '"Duration::is_zero")] pub y: Duration, #[serde(default = "none")] pub z: Duration }\n\nfn half() -> Duration {'
+                              ' Duration::from_secs(30) }\n\nconst NONE: Duration = Duration::ZERO;\n\nfn none() -> Duration { NONE }',
+        "duration_by_hand": f"{ALL}\n#[serde(default)]\npub struct Tried {{ pub x: Duration, pub y: u8 }}\n\nimpl Default for Tried {{ fn default()"
+                            " -> Self { Self { x: Duration::from_millis(1_500), y: 5 } } }",
+        "duration_left_out": f'{ALL}\npub struct Tried {{ #[serde(skip_serializing_if = "Option::is_none")] pub x: Option<Duration>, pub y: u8 }}',
+        "duration_flat": f"{ALL}\npub struct Inside {{ pub x: Duration }}\n\n{ALL}\npub struct Tried {{ pub y: u8, #[serde(flatten)] pub inside: Inside }}",
+        "duration_rest": f"{ALL}\npub struct Tried {{ pub y: u8, #[serde(flatten)] pub more: BTreeMap<String, Duration> }}",
+        "duration_generic": f"{ALL}\npub struct Page<T> {{ pub items: Vec<T> }}\n\n{ALL}\npub struct Tried {{ pub page: Page<Duration>, pub x: Duration }}",
+        "duration_own": f"{ALL}\npub struct Inside {{ pub x: Duration }}\n\n{ALL}\npub struct Tried {{ pub y: Vec<Inside>, pub z: Option<Inside> }}",
+        "duration_key": f"{derives}\npub struct Part(pub Duration);\n\n{ALL}\npub struct Tried {{ pub x: BTreeMap<Part, u8>, pub y: HashSet<Part> }}",
+        "duration_nested": f"{ALL}\npub enum Tried {{ A(Duration), B(Box<Tried>), C {{ x: Duration, y: Vec<Tried> }} }}",
+        "duration_borrowed": f"{SENT}\npub struct Tried<'a> {{ pub x: &'a Duration, pub y: &'a [Duration] }}",
+        "duration_sent": f"{SENT}\npub struct Tried {{ pub x: Duration, pub y: Option<Duration> }}",
+        "duration_read": f"{READ}\npub struct Tried {{ pub x: Duration, pub y: Option<Duration> }}",
+    }
+
+
+def addresses() -> Dict[str, str]:
+    """Types that hold IP addresses: as a field of each kind, and in each sort of type."""
+    made = {}
+    for place, one in enumerate(["IpAddr", "Ipv4Addr", "Ipv6Addr", "Option<IpAddr>", "Vec<Ipv4Addr>", "Box<Ipv6Addr>", "BTreeMap<String, IpAddr>",
+                                 "HashMap<u8, Ipv6Addr>", "(u8, IpAddr)", "[Ipv4Addr; 2]", "Option<Box<Ipv6Addr>>", "Rc<VecDeque<IpAddr>>"]):
+        made[f"address_{place}"] = f"{ALL}\npub struct Tried {{ pub f0: {one}, pub f1: u8 }}"
+    variants = "A(IpAddr), B(Ipv4Addr, u8), C { x: Ipv6Addr, y: String }, D"
+    derives = "derive(Debug, Clone, Copy, PartialOrd, Ord, Hash, "
+    return {
+        **made,
+        "address_newtype": f"{ALL.replace('derive(', derives)}\npub struct Tried(pub IpAddr);",
+        "address_place": f"{ALL}\npub struct Tried(pub Ipv4Addr, pub Ipv6Addr, pub IpAddr);",
+        "address_transparent": f"{ALL}\n#[serde(transparent)]\npub struct Tried {{ pub only: Ipv4Addr }}",
+        "address_closed": f"{ALL}\n#[serde(deny_unknown_fields)]\npub struct Tried {{ pub host: std::net::IpAddr, pub port: Option<u16> }}",
+        "address_external": f"{ALL}\npub enum Tried {{ {variants} }}",
+        "address_adjacent": f'{ALL}\n#[serde(tag = "t", content = "c")]\npub enum Tried {{ {variants} }}',
+        "address_internal": f'{ALL}\n#[serde(tag = "t")]\npub enum Tried {{ A, B {{ x: IpAddr, y: Vec<Ipv4Addr> }} }}',
+        "address_untagged": f"{ALL}\n#[serde(untagged)]\npub enum Tried {{ A(u8), B(Ipv4Addr) }}",
+        "address_left_out": f'{ALL}\npub struct Tried {{ #[serde(skip_serializing_if = "Option::is_none")] pub x: Option<IpAddr>, pub y: u8 }}',
+        "address_skipped": f"{BOTH}\npub struct Tried {{ #[serde(skip)] pub x: Option<IpAddr>, #[serde(skip)] pub y: Vec<Ipv6Addr>, pub z: Ipv4Addr }}",
+        "address_flat": f"{ALL}\npub struct Inside {{ pub x: IpAddr }}\n\n{ALL}\npub struct Tried {{ pub y: u8, #[serde(flatten)] pub inside: Inside }}",
+        "address_rest": f"{BOTH}\npub struct Tried {{ pub y: u8, #[serde(flatten)] pub others: BTreeMap<String, IpAddr> }}",
+        "address_generic": f"{ALL}\npub struct Page<T> {{ pub items: Vec<T> }}\n\n{ALL}\npub struct Tried {{ pub page: Page<IpAddr>, pub x: Ipv6Addr }}",
+        "address_nested": f"{ALL}\npub enum Tried {{ A(IpAddr), B(Box<Tried>), C {{ x: Ipv4Addr, y: Vec<Tried> }} }}",
+        "address_key": f"{ALL.replace('derive(', derives)}\npub struct Part(pub IpAddr);\n\n{ALL}\npub struct Tried {{ pub x: BTreeMap<Part, u8>, pub y: HashSet<Part> }}",
+        "address_borrowed": f"{SENT}\npub struct Tried<'a> {{ pub x: &'a IpAddr, pub y: &'a [Ipv4Addr] }}",
+        "address_sent": f"{SENT}\npub struct Tried {{ pub x: IpAddr, pub y: Option<Ipv6Addr> }}",
+        "address_read": f"{READ}\npub struct Tried {{ pub x: IpAddr, pub y: Option<Ipv6Addr> }}",
+    }
+
+
 HEAD = "//! {}.\n\nuse serde::{{Deserialize, Serialize}};\n{}\n"
 STANDARD = {"std::collections": ["BTreeMap", "BTreeSet", "HashMap", "HashSet", "VecDeque"], "std::path": ["PathBuf"],
-            "std::rc": ["Rc"], "std::sync": ["Arc"], "std::marker": ["PhantomData"]}
+            "std::net": ["IpAddr", "Ipv4Addr", "Ipv6Addr"], "std::rc": ["Rc"], "std::sync": ["Arc"], "std::marker": ["PhantomData"],
+            "std::time": ["Duration"]}
 
 
 def imported(text: str) -> str:
     """The lines that bring what a text names of the standard library."""
     lines = []
     for module, names in STANDARD.items():
-        used = [name for name in names if re.search(rf"\b{name}\b", text)]
+        used = [name for name in names if re.search(rf"(?<!:)\b{name}\b", text)]
         if used:
             lines.append(f"use {module}::{used[0] if len(used) == 1 else '{' + ', '.join(used) + '}'};\n")
     return "".join(lines)
@@ -607,7 +683,8 @@ def nested() -> Dict[str, str]:
 def bodies() -> Dict[str, str]:
     """The declaration of each type, by name."""
     return {**structs(), **enums(), **names(), **types(), **collections(), **attributes(), **own_rules(), **with_functions(), **opaque(),
-            **converted(), **flattened(), **one_way(), **rests(), **generics(), **borrowed(), **nested(), **arrays()}
+            **converted(), **flattened(), **one_way(), **rests(), **generics(), **borrowed(), **nested(), **arrays(), **durations(),
+            **addresses()}
 
 
 def matrix() -> Dict[str, str]:

@@ -12,7 +12,7 @@ struct A {
 // 8: D: the name `S` of a parameter is not covered: give it one that begins with a capital, and that nothing else has
 // 8: D: the name `A` of a parameter is not covered: give it one that begins with a capital, and that nothing else has
 // 8: D: the name `t` of a parameter is not covered: give it one that begins with a capital, and that nothing else has
-// 11: E.x: its default is not covered: hold a number, bool, char, String, PathBuf, Option, Vec, map, set, an array or a tuple of these, or a type of your own that derives Default
+// 11: E.x: its default is not covered: hold a number, bool, char, String, PathBuf, Duration, Option, Vec, map, set, an array or a tuple of these, or a type of your own that derives Default
 // 12: E.y: what is flattened is not covered where a parameter is its type, as it may be no struct or map: name the type itself
 // 13: E.z: a map with keys of type `T` is not covered, as their order is not known: hold a Vec of pairs
 // 18: F.0: `G` has 0 arguments here, and its parameters are: T
@@ -71,14 +71,14 @@ union A {
     x: u8,
 }
 
-// 4: A.x: serde's `skip_serializing_if` so is not covered: Option::is_none is, `is_empty` of String, Vec, VecDeque, slices, maps and sets, each on a field of its type, a function of this file that compares with one value, as `*n == 0`, and one of another module that is named from `crate` on
+// 4: A.x: serde's `skip_serializing_if` so is not covered: Option::is_none is, Duration::is_zero, `is_empty` of String, Vec, VecDeque, slices, maps and sets, each on a field of its type, a function of this file that compares with one value, as `*n == 0`, and one of another module that is named from `crate` on
 #[derive(Serialize)]
 struct A {
     #[serde(skip_serializing_if = "is_zero")]
     x: u8,
 }
 
-// 4: A.x: serde's `skip_serializing_if` so is not covered: Option::is_none is, `is_empty` of String, Vec, VecDeque, slices, maps and sets, each on a field of its type, a function of this file that compares with one value, as `*n == 0`, and one of another module that is named from `crate` on
+// 4: A.x: serde's `skip_serializing_if` so is not covered: Option::is_none is, Duration::is_zero, `is_empty` of String, Vec, VecDeque, slices, maps and sets, each on a field of its type, a function of this file that compares with one value, as `*n == 0`, and one of another module that is named from `crate` on
 #[derive(Serialize)]
 struct A {
     #[serde(skip_serializing_if = "Vec::is_empty")]
@@ -223,7 +223,7 @@ struct A(LinkedList<u8>);
 #[derive(Serialize)]
 struct A {}
 
-// 4: A.x: its default is not covered: hold a number, bool, char, String, PathBuf, Option, Vec, map, set, an array or a tuple of these, or a type of your own that derives Default
+// 4: A.x: its default is not covered: hold a number, bool, char, String, PathBuf, Duration, Option, Vec, map, set, an array or a tuple of these, or a type of your own that derives Default
 #[derive(Deserialize)]
 struct A {
     #[serde(default)]
@@ -256,7 +256,7 @@ struct A(u8);
 // 13: B.X.2: an array of more than 32 values is not covered, as in Serde: hold a Vec
 // 14: B.Y.a: the lifetime `'a` is not declared here: hold the value itself, as String for &str
 // 14: B.Y.b: a type that begins with `dyn` is not covered: write an enum of the types that it may be
-// 15: B.Z.0: a Duration is not covered, as std's contracts don't say which are equal: hold a struct of `secs: u64` and `nanos: u32`, as Serde sends it
+// 15: B.Z.0: the type `Instant` is not covered: declare it in this file, or name it by its full path
 #[derive(Serialize)]
 struct A {
     x: f32,
@@ -271,20 +271,20 @@ struct A {
 enum B {
     X(f64, u8, [u8; 33]),
     Y { a: Foo<'a, T>, b: Box<dyn Fn(u8) -> u8> },
-    Z(Duration),
+    Z(Instant),
     W,
 }
 #[derive(Serialize)]
 struct C(A, B);
 
-// 4: A.x: a Duration is not covered, as std's contracts don't say which are equal: hold a struct of `secs: u64` and `nanos: u32`, as Serde sends it
+// 4: A.x: the type `std::time::Instant` is not covered: hold what it is made of, as a number or a String
 // 4: A.y: the type `std::path::Path` is not covered: hold what it is made of, as a number or a String
 // 4: A.z: the type `serde::Value` is not covered: hold what it is made of, as a number or a String
 // 4: A.w: a LinkedList is not covered: hold a VecDeque
-use std::time::Duration;
+use std::time::Instant;
 use serde::Value;
 #[derive(Serialize)]
-struct A { x: Duration, y: std::path::Path, z: Option<Value>, w: std::collections::LinkedList<u8> }
+struct A { x: Instant, y: std::path::Path, z: Option<Value>, w: std::collections::LinkedList<u8> }
 
 // 3: A.0: `Vec` is `indexmap::Vec` here, which is not covered: import it by another name
 use indexmap::Vec;
@@ -606,7 +606,7 @@ struct A { x: u8 }
 struct A(u8, u8);
 
 // 2: A.b: its default is not covered: `B` derives no Default, or holds what has none here: hold an Option
-// 6: C.x: its default is not covered: hold a number, bool, char, String, PathBuf, Option, Vec, map, set, an array or a tuple of these, or a type of your own that derives Default
+// 6: C.x: its default is not covered: hold a number, bool, char, String, PathBuf, Duration, Option, Vec, map, set, an array or a tuple of these, or a type of your own that derives Default
 #[derive(Deserialize)]
 struct A { #[serde(default)] b: B }
 #[derive(Deserialize)]
@@ -631,7 +631,7 @@ struct A { #[serde(default)] x: u8 }
 
 // 3: A: serde's `transparent` is for structs of one field beside skipped ones
 // 6: B.x: serde's `skip_serializing_if` on a field is not covered where its struct is `transparent`: delete it
-// 6: B.y: its default is not covered: hold a number, bool, char, String, PathBuf, Option, Vec, map, set, an array or a tuple of these, or a type of your own that derives Default
+// 6: B.y: its default is not covered: hold a number, bool, char, String, PathBuf, Duration, Option, Vec, map, set, an array or a tuple of these, or a type of your own that derives Default
 // 9: C: serde's `transparent` is for structs of one field beside skipped ones
 #[derive(Serialize, Deserialize)]
 #[serde(transparent)]
@@ -700,7 +700,7 @@ enum A { B(u8) }
 // 16: C.X: a field is called as the tag, `t`: give one of them another name
 // 16: C.Y: a field is called as the tag, `t`: give one of them another name
 // 16: C.W: of an enum that is tagged internally, only variants with no values and with a struct, or values by name, are covered: hold a struct of them
-// 18: D.T.x: its default is not covered: hold a number, bool, char, String, PathBuf, Option, Vec, map, set, an array or a tuple of these, or a type of your own that derives Default
+// 18: D.T.x: its default is not covered: hold a number, bool, char, String, PathBuf, Duration, Option, Vec, map, set, an array or a tuple of these, or a type of your own that derives Default
 #[derive(Serialize, Copy)]
 #[serde(untagged)]
 enum A {
@@ -723,7 +723,7 @@ enum D { T { #[serde(default)] x: Box<u8> } }
 struct E { t: u8 }
 
 // 3: A.x: the name `\xfc` is not covered: printable ASCII but " and \ is
-// 4: A.y: serde's `skip_serializing_if` so is not covered: Option::is_none is, `is_empty` of String, Vec, VecDeque, slices, maps and sets, each on a field of its type, a function of this file that compares with one value, as `*n == 0`, and one of another module that is named from `crate` on
+// 4: A.y: serde's `skip_serializing_if` so is not covered: Option::is_none is, Duration::is_zero, `is_empty` of String, Vec, VecDeque, slices, maps and sets, each on a field of its type, a function of this file that compares with one value, as `*n == 0`, and one of another module that is named from `crate` on
 // 5: A.z: two are called `y`: give one another name by `rename`
 // 6: A.u: two are called `y`: give one another name by `rename`
 // 7: A.v: an array of `LENGTH` values is not covered: write how many as a number
@@ -892,7 +892,7 @@ struct A(#[serde(skip)] u8);
 #[derive(Serialize, Deserialize)]
 enum B { X(#[serde(skip_serializing)] u8), Y }
 
-// 2: A.a: its default is not covered: hold a number, bool, char, String, PathBuf, Option, Vec, map, set, an array or a tuple of these, or a type of your own that derives Default
+// 2: A.a: its default is not covered: hold a number, bool, char, String, PathBuf, Duration, Option, Vec, map, set, an array or a tuple of these, or a type of your own that derives Default
 // 2: A.b: its default is not covered: `B` derives no Default, or holds what has none here: hold an Option
 // 2: A.c: its default is not covered: `B` derives no Default, or holds what has none here: hold an Option
 #[derive(Serialize, Deserialize)]
@@ -975,7 +975,7 @@ fn small(x: &u8) -> bool { *x < 5 }
 // 4: B.a: `A` has 0 lifetimes here, and is declared with 1
 // 6: C.c: a reference to an array is not covered: write one to a slice, without the length
 // 8: D.x: what is borrowed is covered where it is only sent: hold the value itself, as String for &str
-// 10: E.x: serde's `skip_serializing_if` so is not covered: Option::is_none is, `is_empty` of String, Vec, VecDeque, slices, maps and sets, each on a field of its type, a function of this file that compares with one value, as `*n == 0`, and one of another module that is named from `crate` on
+// 10: E.x: serde's `skip_serializing_if` so is not covered: Option::is_none is, Duration::is_zero, `is_empty` of String, Vec, VecDeque, slices, maps and sets, each on a field of its type, a function of this file that compares with one value, as `*n == 0`, and one of another module that is named from `crate` on
 #[derive(Serialize, Deserialize)]
 struct A<'a> { x: &'a str }
 #[derive(Serialize)]
@@ -1251,9 +1251,9 @@ struct W<T>(T);
 // 5: A.c: `[u8]` is covered behind a reference alone: write a Vec
 // 6: A.d: a map with keys of type `[u8; 2]` is not covered: hold a Vec of pairs, or put the key into a struct that derives Ord
 // 7: A.e: floats are not covered: hold a whole number of a smaller unit, or a String
-// 8: A.f: its default is not covered: hold a number, bool, char, String, PathBuf, Option, Vec, map, set, an array or a tuple of these, or a type of your own that derives Default
+// 8: A.f: its default is not covered: hold a number, bool, char, String, PathBuf, Duration, Option, Vec, map, set, an array or a tuple of these, or a type of your own that derives Default
 // 9: A.g: its default is not covered, as nothing makes a `[String; 40]` here: hold an Option, or write `default = ".."` with the path of a function of another module that does
-// 10: A.h: serde's `skip_serializing_if` so is not covered: Option::is_none is, `is_empty` of String, Vec, VecDeque, slices, maps and sets, each on a field of its type, a function of this file that compares with one value, as `*n == 0`, and one of another module that is named from `crate` on
+// 10: A.h: serde's `skip_serializing_if` so is not covered: Option::is_none is, Duration::is_zero, `is_empty` of String, Vec, VecDeque, slices, maps and sets, each on a field of its type, a function of this file that compares with one value, as `*n == 0`, and one of another module that is named from `crate` on
 // 13: B.Y.0: `B` contains itself, which is not covered in `[Option<Box<B>>; 2]`: hold it in Box, Vec or Option<Box>
 // 15: C.0: the size of `[T; 2]` depends on `T`, which is not covered: hold `Box<T>` there for `T`
 // 17: D.0: an array of `123456789` values is not covered: write a Vec
@@ -1275,34 +1275,34 @@ struct C<T>([T; 2], u8);
 #[derive(Serialize)]
 struct D([u8; 123456789]);
 
-// 3: A.a: a Duration is not covered, as std's contracts don't say which are equal: hold a struct of `secs: u64` and `nanos: u32`, as Serde sends it
+// 3: A.a: the type `std::time::Instant` is not covered: hold what it is made of, as a number or a String
 // 4: A.b: `crate::other::Cache<u8>` is not covered: a type with arguments is where this file declares it, or std's is: write in another file a struct around it, with its impls by hand, and hold that
 // 5: A.c: a tuple of more than 4 values is not covered: hold a struct of them
 // 6: A.d: a PhantomData is covered where it is neither sent nor read: write `#[serde(skip)]` above it
 // 7: A.e: a map with keys of type `Vec<u8>` is not covered: hold a Vec of pairs, or put the key into a struct that derives Hash
 // 8: A.f: what is borrowed is covered where it is only sent: hold the value itself, as String for &str
-// 9: A.g: a Duration is not covered, as std's contracts don't say which are equal: hold a struct of `secs: u64` and `nanos: u32`, as Serde sends it
+// 9: A.g: the type `std::time::Instant` is not covered: hold what it is made of, as a number or a String
 // 10: A.h: a RefCell is not covered: hold the value in it
-// 13: B.X.x: a Duration is not covered, as std's contracts don't say which are equal: hold a struct of `secs: u64` and `nanos: u32`, as Serde sends it
-// 16: C.0: a Duration is not covered, as std's contracts don't say which are equal: hold a struct of `secs: u64` and `nanos: u32`, as Serde sends it
+// 13: B.X.x: the type `std::time::Instant` is not covered: hold what it is made of, as a number or a String
+// 16: C.0: the type `std::time::Instant` is not covered: hold what it is made of, as a number or a String
 // 20: D.0: its default is not covered, as nothing makes a `[std::time::Instant; 2]` here: hold an Option, or write `default = ".."` with the path of a function of another module that does
 // 20: D.1: its default is not covered: `E` derives no Default, or holds what has none here: hold an Option
 #[derive(Serialize, Deserialize)]
 struct A {
-    #[serde(with = "crate::rules")] a: std::time::Duration,
+    #[serde(with = "crate::rules")] a: std::time::Instant,
     #[serde(with = "crate::rules")] b: crate::other::Cache<u8>,
     #[serde(with = "crate::rules")] c: (u8, u8, u8, u8, u8),
     #[serde(with = "crate::rules")] d: std::marker::PhantomData<u8>,
     #[serde(with = "crate::rules")] e: HashMap<Vec<u8>, u8>,
     #[serde(with = "crate::rules")] f: &'static str,
-    #[serde(serialize_with = "crate::rules::s", deserialize_with = "crate::rules::d")] g: [std::time::Duration; 2],
+    #[serde(serialize_with = "crate::rules::s", deserialize_with = "crate::rules::d")] g: [std::time::Instant; 2],
     #[serde(with = "crate::rules")] h: Option<std::cell::RefCell<u8>>,
 }
 #[derive(Serialize)]
-enum B { X { #[serde(serialize_with = "crate::rules::t")] x: std::time::Duration } }
+enum B { X { #[serde(serialize_with = "crate::rules::t")] x: std::time::Instant } }
 #[derive(Deserialize)]
 #[serde(transparent)]
-struct C(#[serde(deserialize_with = "crate::rules::t")] std::time::Duration);
+struct C(#[serde(deserialize_with = "crate::rules::t")] std::time::Instant);
 #[derive(Serialize, Deserialize)]
 struct E(u8);
 #[derive(Serialize, Deserialize)]
@@ -1469,11 +1469,19 @@ struct B { a: A<u8>, c: Option<C<String>> }
 #[derive(Serialize, Deserialize)]
 struct C<T> { x: T, #[serde(skip)] y: Option<Box<C<T>>> }
 
-// 3: A.x: an IpAddr is not covered: hold its text as a String
+// 3: A.x: a SocketAddr is not covered: hold its text as a String
 // 3: A.y: a SystemTime is not covered: hold a struct of `secs_since_epoch: u64` and `nanos_since_epoch: u32`, as Serde sends it
-use std::{net::IpAddr, time::SystemTime};
+use std::{net::SocketAddr, time::SystemTime};
 #[derive(Serialize)]
-struct A { x: Vec<IpAddr>, y: SystemTime }
+struct A { x: Vec<SocketAddr>, y: SystemTime }
+
+// 3: A.y: a map with keys of type `Ipv4Addr` is not covered: hold a Vec of pairs, or put the key into a struct that derives Ord
+// 3: A.z: a set of `IpAddr` is not covered: hold a Vec, or put the item into a struct that derives Hash
+// 3: A.w: the type `Ipv6Addr<u8>` is not covered: the types that are stand in docs/OWN_TYPES.md
+// 3: A.x: its default is not covered: hold a number, bool, char, String, PathBuf, Duration, Option, Vec, map, set, an array or a tuple of these, or a type of your own that derives Default
+use std::{collections::*, net::{IpAddr, Ipv4Addr, Ipv6Addr}};
+#[derive(Deserialize)]
+struct A { #[serde(default)] x: IpAddr, y: BTreeMap<Ipv4Addr, u8>, z: HashSet<IpAddr>, w: Ipv6Addr<u8> }
 
 // 2: A.b: what is borrowed is covered where it is only sent: hold the value itself, as String for &str
 // 7: B.X.b: `[f64; 4]` is not covered on a skipped field of a variant: hold it in a struct, and that in the variant
@@ -1521,6 +1529,28 @@ enum F<T> { X { a: u8, b: u8, c: u8, d: u8, e: u8, f: T, g: T } }
 struct A { a: [String; 2], b: [[Option<u8>; 3]; 2], c: [[u8; 3]; 2], d: [Option<u8>; 3], e: Vec<[[Option<u8>; 3]; 2]> }
 #[derive(Serialize, Deserialize)]
 enum B { X([[(u8, u8); 2]; 2], [A; 2]), Y([[Option<u8>; 2]; 2], [u8; 2]) }
+
+// 4: A.x: a map with keys of type `Duration` is not covered: hold a Vec of pairs, or put the key into a struct that derives Ord
+// 5: A.y: a set of `Duration` is not covered: hold a Vec, or put the item into a struct that derives Hash
+use std::time::Duration;
+#[derive(Serialize, Deserialize)]
+struct A {
+    x: BTreeMap<Duration, u8>,
+    y: HashSet<Duration>,
+}
+
+// 7: passed over: `fn long`
+// 8: passed over: `fn big`
+// 4: A.x: its default is not covered: write in this file a function `long` that gives one value, such as `8080`, `"text".to_owned()`, `Vec::new()` or a variant of an enum of this file, or name one of another module from `crate` on
+// 5: A.y: its default is not covered: write in this file a function `big` that gives one value, such as `8080`, `"text".to_owned()`, `Vec::new()` or a variant of an enum of this file, or name one of another module from `crate` on
+use std::time::Duration;
+#[derive(Serialize, Deserialize)]
+struct A {
+    #[serde(default = "long")] x: Duration,
+    #[serde(default = "big")] y: Duration,
+}
+fn long() -> Duration { Duration::from_secs_f64(1.5) }
+fn big() -> Duration { Duration::from_secs(18446744073709551616) }
 
 // 2: A.X.0: a field of a parameter's type is not covered beside `BTreeMap<u8, BTreeMap<u8, T>>` in a variant: hold `Box<T>`
 // 2: A.Z.x: a field of a parameter's type is not covered beside `HashMap<u8, T>` in a variant: hold `Box<T>`

@@ -372,7 +372,7 @@ struct A { #[serde(skip_serializing_if = "Vec::is_empty")] x: Vec<u8> }
 // 2: no RoundTrip is written for `A`: a value of `Y` may be read as `X`: tag the enum, or hold tuples of different lengths
 // 4: no RoundTrip is written for `B`: `A`, which it holds, does not come back
 // 6: no RoundTrip is written for `C`: a value of `Z` may be read as `Y`: tag the enum, or hold tuples of different lengths
-// 8: no RoundTrip is written for `D`: which values `Option<u8>` in `X` takes is not known: hold a struct of this file with named fields, or a type of std's but Option
+// 8: no RoundTrip is written for `D`: which values `Option<u8>` in `X` takes is not known: hold a struct of this file with named fields, or a type of std's but Option and IP addresses
 // + impl<'de> Deserialize<'de> for B
 // - RoundTrip
 #[derive(PartialEq, Eq, Serialize, Deserialize)]
@@ -391,8 +391,8 @@ struct A { #[serde(skip_serializing_if = "Vec::is_empty")] x: Vec<u8> }
 #[derive(PartialEq, Eq, Serialize, Deserialize)]
 #[serde(untagged)] enum B { X, Y(u8) }
 
-// 5: no RoundTrip is written for `B`: which values `A` in `X` takes is not known: hold a struct of this file with named fields, or a type of std's but Option
-// 7: no RoundTrip is written for `C`: which values `A` in `X` takes is not known: hold a struct of this file with named fields, or a type of std's but Option
+// 5: no RoundTrip is written for `B`: which values `A` in `X` takes is not known: hold a struct of this file with named fields, or a type of std's but Option and IP addresses
+// 7: no RoundTrip is written for `C`: which values `A` in `X` takes is not known: hold a struct of this file with named fields, or a type of std's but Option and IP addresses
 // + impl<'de> RoundTrip<'de> for A
 // - RoundTrip<'de> for B
 // - RoundTrip<'de> for C
@@ -1104,7 +1104,7 @@ struct A<T> { #[serde(flatten)] b: B<T> }
 #[derive(Serialize, Deserialize)]
 struct B<T> { x: T }
 
-// + pub struct A { x: u8, a: Option<std::time::Instant>, b: std::cell::RefCell<u8>, c: Option<Cache<u8>>, d: std::time::Instant, e: std::sync::atomic::AtomicU8, f: [u8; 4], g: Vec<std::result::Result<u8, std::time::Duration>>, h: HashMap<Vec<u8>, std::ops::Range<u8>>, j: (u8, u8, u8, u8, f64), }
+// + pub struct A { x: u8, a: Option<std::time::Instant>, b: std::cell::RefCell<u8>, c: Option<Cache<u8>>, d: std::time::Instant, e: std::sync::atomic::AtomicU8, f: [u8; 4], g: Vec<std::result::Result<u8, Duration>>, h: HashMap<Vec<u8>, std::ops::Range<u8>>, j: (u8, u8, u8, u8, f64), }
 // + (UnreadThen (λ (x : (Option _)). x ≡ None) z.a
 // + (UnreadThen (λ (x : _). ⟦<std::cell::RefCell<u8> as Default>⟧.is_default x) z.b
 // + let b: std::cell::RefCell<u8> = Default::default();
@@ -1330,3 +1330,76 @@ struct A { a: [u8; 1_0], b: [u8; 0b11], c: [u8; 0o2_0usize], d: [[u8; 0x_1F]; 01
 #[derive(Serialize)]
 #[serde(into = "u8")]
 pub enum types_said { X }
+
+// 2: passed over: `type Pause = core::time::Duration`, whose type is written in its place
+// 4: no RoundTrip is written for `A`: `pause` holds a Duration, and std's contracts don't tell which are equal
+// 8: passed over: `fn none`
+// 10: no RoundTrip is written for `B`: `A`, which it holds, does not come back
+// 13: no RoundTrip is written for `C`: `0` holds a Duration, and std's contracts don't tell which are equal
+// 15: no RoundTrip is written for `D`: `x` is not sent
+// + use std::time::{Duration};
+// + pub struct A { pause: Duration, limit: Option<Duration>, steps: Vec<(u8, Duration)>, after: Duration, left: Duration, }
+// + ghost use Rattle.content_ser.specs.Laws.Durations.{duration_lawful};
+// + (field_fits (duration_lawful p.pause readable)
+// + (field_fits (option_lawful (λ x h. duration_lawful x h) p.limit readable)
+// + (RowOrThen (name "after") (λ (x : Duration). as_nanos x ≡ 0)
+// + (RowOrThen (name "left") (λ (x : Duration). as_nanos x ≡ 0)
+// + let x: Duration = Absent::absent(alloc);
+// + pub struct E { x: Duration, y: u8, }
+// - RoundTrip
+use std::time::{self, Duration};
+type Pause = core::time::Duration;
+#[derive(PartialEq, Eq, Serialize, Deserialize)]
+pub struct A {
+    pause: Pause, limit: Option<time::Duration>, steps: Vec<(u8, std::time::Duration)>, #[serde(default)] after: Duration,
+    #[serde(default = "none")] left: Duration,
+}
+fn none() -> Duration { Duration::ZERO }
+#[derive(PartialEq, Eq, Serialize, Deserialize)]
+pub struct B { held: Vec<A> }
+#[derive(PartialEq, Eq, Serialize, Deserialize)]
+#[serde(untagged)]
+pub enum C { X(Duration), Y { held: u8 } }
+#[derive(PartialEq, Eq, Serialize, Deserialize)]
+pub struct D { #[serde(skip)] x: Duration, y: u8 }
+#[derive(Default, PartialEq, Serialize, Deserialize)]
+#[serde(default)]
+pub struct E { x: Duration, y: u8 }
+
+// 1: passed over: `const PAUSE`
+// 3: passed over: `impl Default for A`
+// 9: passed over: `fn pause`
+// 10: passed over: `fn few`
+// + ghost is_default = { λ x. as_nanos x ≡ 90000000000 };
+// + Ok(Duration::from_secs(90))
+// + ghost is_default = { λ x. as_nanos x ≡ 250000000 };
+// + ghost is_skipped = { λ x. (nat_eq (as_nanos x) 0) };
+// + fn is_skipped(value: &Duration) -> bool { value.is_zero() }
+// + ghost is_default = { λ x. as_nanos x ≡ 7 };
+const PAUSE: std::time::Duration = std::time::Duration::from_secs(90);
+use std::time::Duration;
+impl Default for A { fn default() -> A { A { x: Duration::ZERO, y: Duration::from_nanos(7) } } }
+#[derive(Serialize, Deserialize)]
+#[serde(default)]
+pub struct A { x: Duration, y: Duration }
+#[derive(Serialize, Deserialize)]
+pub struct B { #[serde(default = "pause")] x: Duration, #[serde(default = "few", skip_serializing_if = "Duration::is_zero")] y: Duration }
+fn pause() -> Duration { PAUSE }
+fn few() -> Duration { Duration::from_millis(5 * 50) }
+
+// 2: passed over: `type Host = core::net::IpAddr`, whose type is written in its place
+// + use std::net::{IpAddr, Ipv4Addr, Ipv6Addr};
+// + pub struct A { host: IpAddr, bound: Option<Ipv4Addr>, six: Vec<(u8, Ipv6Addr)>, }
+// + (field_fits (ip_lawful p.host readable)
+// + ghost exists = { λ p. ⟦<IpAddr as RoundTrip<'de>>⟧.exists p.host × ⟦<Option<Ipv4Addr> as RoundTrip<'de>>⟧.exists p.bound
+// + impl<'de> CborRoundTrip<'de> for A
+use std::net::{self, Ipv4Addr};
+type Host = core::net::IpAddr;
+#[derive(PartialEq, Eq, Serialize, Deserialize)]
+pub struct A { host: Host, bound: Option<Ipv4Addr>, six: Vec<(u8, net::Ipv6Addr)> }
+
+// 3: no RoundTrip is written for `A`: which values `IpAddr` in `X` takes is not known: hold a struct of this file with named fields, or a type of std's but Option and IP addresses
+// - RoundTrip
+use std::net::IpAddr;
+#[derive(PartialEq, Eq, Serialize, Deserialize)]
+#[serde(untagged)] enum A { X(IpAddr), Y(u8) }

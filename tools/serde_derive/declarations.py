@@ -520,6 +520,9 @@ class Item(Named):
             if v.wire != v.known:
                 return f"variant `{v.name}` is read by another name than it is sent by"
             return f"variant `{v.name}` is not {'read' if v.sent else 'sent'}"
+        for f in self.sent_fields():
+            if f.type.has_durations():
+                return f"`{f.name}` holds a Duration, and std's contracts don't tell which are equal"
         for own in self.owns():
             if own.astray:
                 return f"`{own.name}`, which it holds, does not come back"
@@ -534,7 +537,7 @@ class Item(Named):
         for v, one in held:
             if not one.takes():
                 return (f"which values `{one.rust()}` in `{v.name}` takes is not known: hold a struct of this file with named"
-                        " fields, or a type of std's but Option")
+                        " fields, or a type of std's but Option and IP addresses")
         for (v, one), (w, other) in combinations(held, 2):
             if not one.is_apart(other):
                 return f"a value of `{w.name}` may be read as `{v.name}`: tag the enum, or hold tuples of different lengths"

@@ -47,7 +47,7 @@ def check_missing(item: Item, items: Dict[str, Item]) -> Iterator[Refused]:
             yield Refused(f.line, f"its default is not covered, as nothing makes a `{lacks.rust()}` here: hold an Option, or write"
                           " `default = \"..\"` with the path of a function of another module that does", where)
         elif lacks and not lacks.home:
-            yield Refused(f.line, "its default is not covered: hold a number, bool, char, String, PathBuf, Option, Vec, map, set,"
+            yield Refused(f.line, "its default is not covered: hold a number, bool, char, String, PathBuf, Duration, Option, Vec, map, set,"
                           " an array or a tuple of these, or a type of your own that derives Default", where)
         elif lacks and items[lacks.name].covered:
             yield Refused(f.line, f"its default is not covered: `{lacks.name}` derives no Default, or holds what has none"

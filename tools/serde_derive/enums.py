@@ -323,10 +323,12 @@ class EnumWriter:
         fields = v.beside.data.fields if v.beside else v.data.fields
         return [f"{leaf.lstrip('&')}.known();" for f, leaf in zip(fields, self.sent(v)) if not f.plain]
 
-    @staticmethod
-    def is_known_apart(v: Variant) -> bool:
-        """Whether a function of its own tells so: its proof sees the types of this variant alone."""
-        return v.data.several and any(f.type.is_deep() for f in v.data.asked())
+    def is_known_apart(self, v: Variant) -> bool:
+        """Whether a function of its own tells so: its proof sees the types of this variant alone. Where an enum holds a hash map
+        and nothing else, proofs find what that tells only where its variant is named."""
+        if v.data.several:
+            return any(f.type.is_deep() for f in v.data.asked())
+        return len(self.item.variants) == 1 and any(f.type.is_hash_map() for f in v.data.asked())
 
     def known_apart(self, v: Variant) -> str:
         """That function."""

@@ -12,10 +12,14 @@ from .types import DEFAULTS, NUMBERS, SIGNED, Type
 
 # what makes the value that `Absent` gives, of any type, and of one that is named
 EMPTIES = r"(?:(?:std|core)::default::)?Default::default\(\)|(?:\w+::)*{}::default\(\)"
-MADE_EMPTY = {"Option": r"|None", "Vec": r"|vec!\[\]|Vec::new\(\)", **{name: rf"|{name}::new\(\)" for name in (
-    "String", "PathBuf", "BTreeMap", "BTreeSet", "HashMap", "HashSet", "VecDeque")}}
+MADE_EMPTY = {"Option": r"|None", "Vec": r"|vec!\[\]|Vec::new\(\)", "Duration": r"|(?:\w+::)*Duration::ZERO",
+              **{name: rf"|{name}::new\(\)" for name in (
+                  "String", "PathBuf", "BTreeMap", "BTreeSet", "HashMap", "HashSet", "VecDeque")}}
+# the nanoseconds of each unit of which a Duration is made
+UNITS = {"secs": 1_000_000_000, "millis": 1_000_000, "micros": 1_000, "nanos": 1}
 MOST_NAMED = 16  # how often a constant may name another
 MOST_DIGITS = 100  # of a number, with the signs between them
+IS_ZERO = re.compile(r"(?:\w+::)*Duration::is_zero")
 NOT = re.compile(r"(?:(?:std|core)::ops::)?Not::not|bool::not")
 CASES = "\x04{}\x05"  # stands for what contracts call the cases of an enum, which are named later
 
@@ -132,6 +136,8 @@ class Functions:
             return self.number(tokens, t)
         if t.name == "String":
             return self.text(tokens)
+        if t.name == "Duration":
+            return self.duration(tokens, text)
         if t.name == "Option" and text.startswith("Some(") and text.endswith(")"):
             inner = self.value(tokens[2:-1], t.arguments[0], owner)
             told = inner and inner.fact.startswith("x ≡ ") and inner.code.startswith("Ok(")
@@ -156,6 +162,16 @@ class Functions:
             return None
         shown = number_term(number, t)
         return Value(f"x ≡ {shown}", f"Ok({number})")
+
+    def duration(self, tokens: List[Token], text: str) -> Optional[Value]:
+        """A duration of so many of a unit."""
+        found = re.fullmatch(rf"(?:\w+::)*Duration::(from_({'|'.join(UNITS)}))\([^()]*\)", text)
+        start = next((place for place, token in enumerate(tokens) if token.text == "("), 0) + 1
+        number = self.number(tokens[start:-1], Type("u64")) if found else None
+        if not number:
+            return None
+        many = number.code[3:-1]
+        return Value(f"as_nanos x ≡ {int(many) * UNITS[found[2]]}", f"Ok(Duration::{found[1]}({many}))")
 
     @staticmethod
     def text(tokens: List[Token]) -> Optional[Value]:
@@ -191,6 +207,8 @@ class Functions:
         """What a function tests, where its body compares its parameter with one value."""
         if t.name == "bool" and NOT.fullmatch(path):
             return bool_test(False)
+        if t.name == "Duration" and IS_ZERO.fullmatch(path):
+            return Test("(nat_eq (as_nanos {x}) 0)", "value.is_zero()", DEFAULTS["Duration"], "")
         found = self.named.get(path)
         if not found or len(found.parameters) != 1:
             return None

@@ -10,7 +10,7 @@ from .named import NAMED, PRELUDE
 from .parser import DEEPEST, MOST_FIELDS
 from .rests import check_rests
 from .spread import is_inlined, why_unspread
-from .types import (ARGUMENTS, ARRAY, ELSEWHERE, FLOATS, HASHED, HOLDERS, IN_ORDER, LEAVES, MOST_IN_ARRAY, MOST_IN_TUPLE, NUMBERS,
+from .types import (ADDRESSES, ARGUMENTS, ARRAY, ELSEWHERE, FLOATS, HASHED, HOLDERS, IN_ORDER, LEAVES, MOST_IN_ARRAY, MOST_IN_TUPLE, NUMBERS,
                     PHANTOM, STATIC, LawsOf, Type, snake)
 from .unique import fresh
 from .words import SEEN, TAKEN, WORDS
@@ -18,7 +18,8 @@ from .words import SEEN, TAKEN, WORDS
 STANDARD = {"std", "core", "alloc"}
 # where the standard library has the types that are covered
 MODULES = {**{name: ["primitive"] for name in LEAVES}, "String": ["string"], "Option": ["option"], "Vec": ["vec"],
-           "Box": ["boxed"], "Rc": ["rc"], "Arc": ["sync"], "BoxedStr": [], "PathBuf": ["path"],
+           "Box": ["boxed"], "Rc": ["rc"], "Arc": ["sync"], "BoxedStr": [], "PathBuf": ["path"], "Duration": ["time"],
+           **dict.fromkeys(ADDRESSES, ["net"]),
            **{name: ["collections", f"collections::{module}"] for name, module in (
                ("BTreeMap", "btree_map"), ("BTreeSet", "btree_set"), ("HashMap", "hash_map"), ("HashSet", "hash_set"),
                ("VecDeque", "vec_deque"))}}
@@ -31,12 +32,9 @@ NOT_COVERED = {
     "Cow": "a Cow is not covered: hold a String or a Vec",
     "Result": "a Result is not covered: hold an enum of both",
     "PhantomData": "a PhantomData is covered where it is neither sent nor read: write `#[serde(skip)]` above it",
-    "Duration": "a Duration is not covered, as std's contracts don't say which are equal: hold a struct of `secs: u64` and"
-                " `nanos: u32`, as Serde sends it",
     "SystemTime": "a SystemTime is not covered: hold a struct of `secs_since_epoch: u64` and `nanos_since_epoch: u32`, as Serde"
                   " sends it",
-    **{name: f"{'an' if name[0] == 'I' else 'a'} {name} is not covered: hold its text as a String" for name in (
-        "IpAddr", "Ipv4Addr", "Ipv6Addr", "SocketAddr", "SocketAddrV4", "SocketAddrV6")},
+    **{name: f"a {name} is not covered: hold its text as a String" for name in ("SocketAddr", "SocketAddrV4", "SocketAddrV6")},
     **{name: f"a {name} is not covered: hold a struct of its ends" for name in ("Range", "RangeInclusive", "RangeFrom", "RangeTo")},
     **{name: f"a {name} is not covered: hold the value in it" for name in (
         "Cell", "RefCell", "OnceCell", "Mutex", "RwLock", "Wrapping", "Saturating", "Reverse", "NonZero")},
@@ -422,7 +420,7 @@ class Homes:
         bare = self.bare_places(t)
         arguments = tuple(self.settled(a, holder, set() if i in bare else traits, named or i in bare) for i, a in enumerate(t.arguments))
         if not arguments and (t.name in LEAVES or (t.name in FLOATS and not traits)):
-            return Type(t.name, plain=True, lifetimes=t.lifetimes)
+            return Type(t.name, plain=t.name not in ADDRESSES, lifetimes=t.lifetimes)
         if t.name == "tuple":
             return Type(t.name, arguments)
         if len(arguments) == ARGUMENTS.get(t.name):

@@ -129,9 +129,9 @@ def check_skipped(where: str, f: Field, data: Data, functions: Functions) -> Ite
         if is_path(test, functions.uses):
             f.tester = test
         else:
-            yield Refused(f.line, "serde's `skip_serializing_if` so is not covered: Option::is_none is, `is_empty` of String, Vec,"
-                          " VecDeque, slices, maps and sets, each on a field of its type, a function of this file that compares with one"
-                          " value, as `*n == 0`, and one of another module that is named from `crate` on", where)
+            yield Refused(f.line, "serde's `skip_serializing_if` so is not covered: Option::is_none is, Duration::is_zero,"
+                          " `is_empty` of String, Vec, VecDeque, slices, maps and sets, each on a field of its type, a function of this"
+                          " file that compares with one value, as `*n == 0`, and one of another module that is named from `crate` on", where)
 
 
 def check_sent(name: str, line: int, where: str) -> Iterator[Refused]:

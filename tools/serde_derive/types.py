@@ -31,6 +31,13 @@ def whole(name: str) -> Laws:
     return leaf(f"{kind}_back", seen, f"({sort}_keeps kind.{kind})", f"{kind}_kept", f"(number_not_null kind.{kind})")
 
 
+def address(word: str, name: str) -> Laws:
+    """An IP address's laws, by the word that names them."""
+    return Laws(f"{word}_lawful {{x}} {{h}}", f"{word}_back", f"{word}_keeps", name, f"{word}_kept", f"{word}_not_null")
+
+
+# of these contracts must be told that a value has all its octets
+ADDRESSES = {name: address(name[:-4].lower(), name) for name in ("IpAddr", "Ipv4Addr", "Ipv6Addr")}
 NUMBERS = {name: whole(name) for name in
            [sign + bits for sign in "ui" for bits in ("8", "16", "32", "64", "128", "size")]}
 SIGNED = {name for name in NUMBERS if name[0] == "i"}
@@ -44,8 +51,11 @@ LEAVES = {
         "text_from", "IsTaken (text_from o) (HasContent (boxed_str_bytes x))", "BoxedStr Global"), "boxed_text_kept", "text_not_null"),
     "PathBuf": leaf("path_back", "(PathBuf Global)", heedless(
         "text_from", "IsTaken (text_from o) (HasContent (path_buf_bytes x))", "PathBuf Global"), "path_kept", "text_not_null"),
+    # contracts don't tell when two are equal, so that none is known to come back
+    "Duration": Laws("duration_lawful {x} {h}", "", "", "Duration"),
     "&str": leaf("", "_", ""),  # what is borrowed is only sent
     **NUMBERS,
+    **ADDRESSES,
 }
 # covered where they are neither sent nor read; contracts find what they see
 FLOATS = dict.fromkeys(["f32", "f64"], leaf("", "_", ""))
@@ -117,6 +127,7 @@ CLASSES = {
 # what contracts say of the value that is read where a field is missing
 DEFAULTS = {
     "bool": "x ≡ false", "char": "x ≡ 0", "()": "⊤", "String": "string_bytes x ≡ []", "PathBuf": "path_buf_bytes x ≡ []",
+    "Duration": "as_nanos x ≡ 0",
     "Option": "x ≡ None", "Vec": "x.items ≡ []", "VecDeque": "x.items ≡ []", "BTreeMap": "x.entries ≡ []",
     "HashMap": "x.entries ≡ []", "BTreeSet": "x.keys ≡ []", "HashSet": "x.keys ≡ []",
     **{name: "x ≡ pos 0" if name in SIGNED else "x ≡ 0" for name in NUMBERS},
@@ -306,6 +317,10 @@ class Type:
             return True
         return self.name in MAPS and self.arguments[1].name in MAPS
 
+    def is_hash_map(self) -> bool:
+        """Whether it is a hash map, or owns one and nothing else."""
+        return self.name == "HashMap" or (self.name in POINTERS and self.arguments[0].is_hash_map())
+
     def rust(self) -> str:
         """The type as Rust writes it."""
         inside = ", ".join([*self.lifetimes, *(a.rust() for a in self.arguments)])
@@ -490,6 +505,10 @@ class Type:
                  "(eq_by_cmp_equiv (path_cmp_total path_buf_bytes))" if self.name == "PathBuf" else
                  "int_eq_equiv" if self.name in SIGNED else "bool_eq_equiv" if self.name == "bool" else "nat_eq_equiv")
         return {"equal": equal, "same": self.member("PartialEq", "eq")}
+
+    def has_durations(self) -> bool:
+        """Whether it is, or has values that are, a Duration."""
+        return self.name == "Duration" or any(a.has_durations() for a in self.arguments)
 
     def owns(self) -> Iterator["Type"]:
         """The own types in it."""

@@ -8,7 +8,7 @@ from .held import HeldWriter
 from .holder import LONGEST_ROW, Holder, sending
 from .text import DESERIALIZE, SERIALIZE, all_hold, arm, codes, elim, facts, function, ghost
 from .text import together
-from .types import READ, nest
+from .types import ARRAY, READ, nest
 from .words import CHOICES, PLACES
 
 
@@ -130,20 +130,31 @@ class UntaggedWriter(EnumWriter):
         alone, rest = readable[:start], readable[start:]
         lines = [line for v in alone for line in (
             f"if let Some({self.found(v)}) = attempt::<{v.held().rust()}>(alloc, &from)? {{",
-            f"return {self.given(v)};", "}")]
+            *self.opened(v), f"return {self.given(v)};", "}")]
         if not rest:
             return lines + [f'Err(Error::custom(alloc, "{self.last}"))']
         first, one = CHOICES[len(rest) - 2]
         types = ", ".join(v.held().rust() for v in rest)
-        arms = [arm(f"{one}::{place}({self.found(v)})", [self.given(v)]) for place, v in zip(PLACES, rest)]
+        arms = [arm(f"{one}::{place}({self.found(v)})", [*self.opened(v), self.given(v)]) for place, v in zip(PLACES, rest)]
         return lines + [f'match {first}::<{types}>(alloc, from, "{self.last}")? {{', *arms, "}"]
 
     @staticmethod
-    def found(v: Variant) -> str:
+    def pattern(v: Variant) -> str:
         """What was read for a variant, as a pattern of its values."""
         if not v.data.fields:
             return "_"
         return v.data.made(v.held().name, v.data.places()) if v.data.named else together(v.data.places())
+
+    @staticmethod
+    def is_opened(v: Variant) -> bool:
+        """Whether that is taken apart by a statement of its own: the borrow checker moves an array out of no deeper pattern."""
+        return (v.data.named or len(v.data.fields) > 1) and any(f.type.name == ARRAY for f in v.data.fields)
+
+    def found(self, v: Variant) -> str:
+        return "whole" if self.is_opened(v) else self.pattern(v)
+
+    def opened(self, v: Variant) -> List[str]:
+        return [f"let {self.pattern(v)} = whole;"] * self.is_opened(v)
 
     def given(self, v: Variant) -> str:
         return f"Ok({self.making(v, self.holders[v.name])(v.data.places())})"

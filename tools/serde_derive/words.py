@@ -3,7 +3,7 @@ import re
 from typing import Dict, Iterable, List, Set
 
 from .cases import pascal
-from .types import HOLDERS, LEAVES, RESERVED
+from .types import ADDRESSES, HOLDERS, LEAVES, RESERVED
 
 
 def word_table(text: str) -> Dict[str, str]:
@@ -18,7 +18,7 @@ def word_table(text: str) -> Dict[str, str]:
 STYLES = [f"{style}_{sort}" for style in ("unit", "newtype", "tuple", "struct") for sort in ("struct", "variant")]
 STYLES[STYLES.index("struct_struct")] = "struct"
 # leaves whose laws stand apart from those of the others
-TEXTS = {"BoxedStr", "PathBuf"}
+TEXTS = {"BoxedStr", "PathBuf", *ADDRESSES}
 WORDS = word_table(f"""
 std.specs.Prelude ◌≡◌ ◌∷◌ [] ℕ ℤ Bool Option None Some IsSome true false pos negsuc not nat_eq codes string_bytes refl ⊤
 std.specs.Ordering int_eq
@@ -26,6 +26,7 @@ std.specs.Str bytes_eq
 std.specs.Cmp nat_cmp_total int_cmp_total unsigned_ties nat_eq_equiv int_eq_equiv bool_eq_equiv eq_by_cmp_equiv
 std.specs.Box boxed_str_bytes
 std.specs.Path path_buf_bytes path_cmp_total
+std.specs.Duration as_nanos
 std.specs.Cmp.Lexicographic texts_ties
 std.specs.String string_cmp_total string_eq_equiv
 content_tree.specs.Values.Text static_name
@@ -39,6 +40,8 @@ content_ser.specs.Scripts.Own field_first tuple_field_first end_script {' '.join
 content_ser.specs.Laws.StandardScripts leaf_lawful option_lawful seq_lawful map_lawful
 content_ser.specs.Laws.StandardScripts tuple_lawful element_fits end_fits
 content_ser.specs.Laws.Arrays array_lawful
+content_ser.specs.Laws.Durations duration_lawful
+content_ser.specs.Laws.Addresses ip_lawful ipv4_lawful ipv6_lawful
 content_ser.specs.Laws.OwnScripts field_fits struct_end_fits tuple_field_fits tuple_end_fits
 content_ser.specs.Laws.OwnScripts {' '.join(f'{s}_lawful' for s in STYLES)}
 content_de.specs.Outcomes refusal_of taken IsTaken
@@ -65,7 +68,7 @@ serde_content.specs.Tags meant meant_among EnumGivesBy TagThenBy TagThenBuffered
 serde_content.specs.Variants index_among variants
 serde_content.specs.RoundTrip ComesBack ComesBackAt CoercionKeeps
 serde_content.specs.Laws.Leaves heedless_keeps natural_keeps integer_keeps
-serde_content.specs.Laws.Leaves {' '.join(laws.back for name, laws in LEAVES.items() if name not in TEXTS)}
+serde_content.specs.Laws.Leaves {' '.join(laws.back for name, laws in LEAVES.items() if laws.back and name not in TEXTS)}
 serde_content.specs.Laws.Texts path_back boxed_text_back
 serde_content.specs.Laws.Holders seen_back seen_keeps option_back option_keeps seq_back seq_keeps
 serde_content.specs.Laws.Maps map_back map_keeps
@@ -76,6 +79,7 @@ serde_content.specs.Laws.Series both_hold element_back tuple_back tuple_field_ba
 serde_content.specs.Laws.Series part_keeps tuple_keeps tuple_struct_keeps parts_end_keeps
 serde_content.specs.Laws.Arrays array_back array_keeps array_counts
 serde_content.specs.Laws.Records struct_back struct_keeps newtype_struct_back newtype_struct_keeps
+serde_content.specs.Laws.Addresses {' '.join(f'{laws.back} {laws.keeps}' for laws in ADDRESSES.values())}
 serde_content.specs.Laws.ByName by_name_back named_back named_or_back skipped_back closed_back
 serde_content.specs.Laws.ByName by_name_keeps named_keeps named_or_keeps skipped_keeps closed_keeps
 serde_content.specs.Laws.Skips field_unless_fits unsent_lawful keyed_back keyed_or_back keyed_unless_back keyed_skipped_back
@@ -107,6 +111,7 @@ content_cbor.specs.Typed.Series element_kept tuple_kept tuple_field_kept tuple_s
 content_cbor.specs.Typed.Series tuple_not_null
 content_cbor.specs.Typed.Arrays array_kept
 content_cbor.specs.Typed.Records struct_kept newtype_struct_kept
+content_cbor.specs.Typed.Addresses {' '.join(f'{laws.kept} {laws.not_null}' for laws in ADDRESSES.values())}
 content_cbor.specs.Typed.ByName by_name_kept named_kept named_or_kept skipped_kept closed_kept
 content_cbor.specs.Typed.Tagged tagged_kept content_kept
 content_cbor.specs.Typed.Flattened flattened_named_kept flattened_named_or_kept flattened_end_kept flattened_kept
@@ -155,6 +160,10 @@ std.specs.declared.hash.BuildHasherDefault BuildHasherDefault
 std.specs.declared.hash.FoldHasher FoldHasher
 std.specs.declared.boxed.BoxedStr BoxedStr
 std.specs.declared.path.PathBuf PathBuf
+std.specs.declared.time.Duration Duration
+std.specs.declared.net.ip_addr.IpAddr IpAddr
+std.specs.declared.net.ipv4_addr.Ipv4Addr Ipv4Addr
+std.specs.declared.net.ipv6_addr.Ipv6Addr Ipv6Addr
 std.specs.declared.rc.Rc Rc
 std.specs.declared.sync.Arc Arc
 """)
@@ -177,9 +186,11 @@ USES = {
     "std::alloc": "Global",
     "std::boxed": "BoxedStr",
     "std::collections": "BTreeMap BTreeSet HashMap HashSet VecDeque",
+    "std::net": " ".join(ADDRESSES),
     "std::path": "PathBuf",
     "std::rc": "Rc",
     "std::sync": "Arc",
+    "std::time": "Duration",
 }
 NO_PLACES = RESERVED | {"alloc", "fields", "serializer", "result", "row", "whole"} | {
     name for names in USES.values() for name in names.split() if name.islower()}

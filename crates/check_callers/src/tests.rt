@@ -2,7 +2,9 @@
 //! written by hand.
 //! All else is rows, which `check_rows` runs.
 
+mod addresses;
 mod collections;
+mod durations;
 mod fields_by_name;
 mod for_people;
 mod hostile;

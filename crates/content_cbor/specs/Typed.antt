@@ -12,5 +12,6 @@ pub mod Texts
 pub mod Records
 pub mod ByName
 pub mod Variants
+pub mod Addresses
 pub mod Tagged
 pub mod Flattened

@@ -13,3 +13,4 @@ pub mod LeftOver
 pub mod Ascending
 pub mod PutIn
 pub mod Alike
+pub mod Written

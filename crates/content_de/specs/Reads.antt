@@ -11,5 +11,7 @@ pub mod Hashed
 pub mod Names
 pub mod Own
 pub mod ByName
+pub mod Durations
 pub mod Attempts
 pub mod Tagged
+pub mod Addresses

@@ -1,8 +1,10 @@
 //! What the standard library's types read.
 
+mod address;
 mod array;
 mod boxed_str;
 mod deque;
+mod duration;
 mod hash_map;
 mod hash_set;
 mod holders;

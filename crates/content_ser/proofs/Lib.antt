@@ -1,5 +1,6 @@
 pub mod Lists
 pub mod Sending
+pub mod Printing
 pub mod Beginning
 pub mod Placing
 pub mod Walking

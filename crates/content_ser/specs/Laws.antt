@@ -6,3 +6,5 @@ pub mod StandardScripts
 pub mod Arrays
 pub mod TreeScripts
 pub mod OwnScripts
+pub mod Durations
+pub mod Addresses

@@ -6,3 +6,5 @@ pub mod Arrays
 pub mod Replay
 pub mod Begins
 pub mod Own
+pub mod Durations
+pub mod Addresses

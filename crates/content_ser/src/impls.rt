@@ -1,10 +1,12 @@
 //! What the standard library's types send.
 
+mod address;
 mod arc;
 mod array;
 mod borrowed;
 mod boxed_str;
 mod deque;
+mod duration;
 mod hash_map;
 mod hash_set;
 mod holders;

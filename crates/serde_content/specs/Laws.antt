@@ -10,6 +10,7 @@ pub mod Hashed
 pub mod Texts
 pub mod Records
 pub mod Variants
+pub mod Addresses
 pub mod ByName
 pub mod Tagged
 pub mod Flattened

@@ -1,5 +1,6 @@
 //! What is read where a field is missing.
 
+ghost use Rattle.std.specs.Duration.{as_nanos};
 ghost use Rattle.std.specs.List.{AllByRecursion};
 ghost use Rattle.std.specs.Path.{path_buf_bytes};
 ghost use Rattle.std.specs.Prelude.{◌≡◌, [], None, false, pos, string_bytes, ⊤};
@@ -9,6 +10,7 @@ use std::array;
 use std::collections::{BTreeMap, BTreeSet, HashMap, HashSet, VecDeque};
 use std::hash::Hash;
 use std::path::PathBuf;
+use std::time::Duration;
 
 /// A type with a value that is read where a field is missing: the one that its `Default` has.
 pub trait Absent: Sized {
@@ -252,5 +254,13 @@ impl<T: Absent, const N: usize> Absent for [T; N] {
 
     fn absent(alloc: Global) -> [T; N] {
         array::from_fn(|_| T::absent(alloc))
+    }
+}
+
+impl Absent for Duration {
+    ghost is_absent = { λ x. as_nanos x ≡ 0 };
+
+    fn absent(_alloc: Global) -> Duration {
+        Duration::ZERO
     }
 }

@@ -16,6 +16,7 @@ use content_ser::Serialize;
 use content_tree::{NamedValue, Result, Value};
 use std::alloc::Global;
 
+mod address;
 mod arc;
 mod array;
 mod boxed_str;
