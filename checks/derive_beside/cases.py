@@ -3,8 +3,9 @@ are sent, or with structs as maps, entries in another order, numbers of another 
 The others are damaged in one to three places."""
 import random
 import string
+from ipaddress import IPv4Address, IPv6Address
 
-from shapes import ARRAY, CONVERTED, RULES, alone, kind_of, own
+from shapes import ADDRESSES, ARRAY, CONVERTED, OCTETS, RULES, alone, kind_of, own
 from structs import spliced
 from trees import EMPTY, KINDS, NONE, UNIT, bounds, fits
 
@@ -27,6 +28,14 @@ def number(kind):
     """A number of a kind: small, or near the bounds of some kind."""
     least, greatest = bounds(kind)
     return "num", kind, min(max(pick([0, 1, 2, 7, *bounds(pick(KINDS))]) + pick([-1, 0, 0, 1]), least), greatest)
+
+
+def address(name):
+    """The text of an IP address, often with zeros in it."""
+    if name == "Ipv4Addr" or (name == "IpAddr" and chance() < 0.5):
+        return "str", str(IPv4Address(random.getrandbits(32)))
+    found = IPv6Address(random.getrandbits(128) & pick([-1, 0xFFFF << 96 | 0xFFFF, 0xFFFF_FFFF]))
+    return "str", pick([str(found), found.exploded, found.exploded.upper()])
 
 
 def names_of(item):
@@ -62,6 +71,10 @@ class Maker:
             return self.value(RULES[name][0])
         if name in KINDS:
             return number(name)
+        if name in ADDRESSES and chance() < 0.5:
+            return address(name)
+        if name in OCTETS:
+            return self.value(OCTETS[name])
         inside = kind.arguments
         makers = {
             "bool": lambda: ("bool", chance() < 0.5), "char": lambda: ("char", pick(LETTERS)), "()": lambda: UNIT,

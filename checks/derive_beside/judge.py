@@ -28,7 +28,7 @@ def answer(shapes, case, on):
     """What a case is answered by the rules, with these lines."""
     name, flags, tree = case
     try:
-        return "ok " + row(Enums(shapes, on).item(shapes[name], Source(tree, "c" in flags)))
+        return "ok " + row(Enums(shapes, on).item(shapes[name], Source(tree, "c" in flags, "h" in flags)))
     except Refused as refused:
         return f"refused {printed(str(refused))}"
 

@@ -1,11 +1,15 @@
 """How values of one node and their holders are read: by Serde over serde-content, and with each line of
 docs/DIFFERENCES.md that is `on` as it says of ours."""
-from lines import FORGETS, ALIKE, REFUSES, TEXTS
-from shapes import ARRAY, RULES, own
+from ipaddress import IPv4Address, IPv6Address, ip_address
+
+from lines import FORGETS, ALIKE, PEOPLE, REFUSES, TEXTS
+from shapes import ADDRESSES, ARRAY, OCTETS, RULES, own
 from source import Refused, counted, found, seen, unexpected
 from trees import KINDS, NONE, UNIT, fits
 
 WIDEST = ("i128", "u128")
+PARSED = {"IpAddr": ip_address, "Ipv4Addr": IPv4Address, "Ipv6Addr": IPv6Address}
+SECOND = 10 ** 9  # in nanoseconds
 
 
 class Leaves:
@@ -23,7 +27,9 @@ class Leaves:
             return sent_again(self.read(inside, source))
         if name in KINDS:
             return self.number(name, source)
-        known = {"bool": self.flag, "char": self.letter, "String": self.text, "()": self.unit}
+        if name in ADDRESSES:
+            return self.address(name, source)
+        known = {"Duration": self.duration, "bool": self.flag, "char": self.letter, "String": self.text, "()": self.unit}
         if name in known:
             return known[name](source)
         holders = {"Option": self.option, "Box": lambda inner, source: self.read(inner[0], source), "Vec": self.items,
@@ -96,6 +102,28 @@ class Leaves:
         if tree == UNIT or (source.buffer == "moved" and tree == ("map", ()) and ALIKE not in self.on):
             return UNIT
         raise self.wrong(source, "a unit", "unit")
+
+    def duration(self, source):
+        """A duration, whose nanoseconds are carried."""
+        sort, name, (style, fields) = self.item(self.shapes["Duration"], source)
+        seconds, rest = (value[2] for _, value in fields)
+        if seconds + rest // SECOND >= 2 ** 64:
+            raise Refused("overflow deserializing Duration")
+        carried = ("secs", ("num", "u64", seconds + rest // SECOND)), ("nanos", ("num", "u32", rest % SECOND))
+        return sort, name, (style, carried)
+
+    def address(self, name, source):
+        """An IP address: a text where that is human readable, else octets, or a variant that holds them."""
+        if not (source.human or (source.buffer and PEOPLE not in self.on)):
+            return self.read(OCTETS[name], source) if name in OCTETS else self.item(self.shapes[name], source)
+        if source.tree[0] not in ("str", "name"):
+            raise self.wrong(source, "a string", f"{ADDRESSES[name]} address")
+        try:
+            found = PARSED[name](source.tree[1])
+        except ValueError:
+            raise Refused(f"invalid {ADDRESSES[name]} address syntax") from None
+        octets = "tuple", tuple(("num", "u8", octet) for octet in found.packed)
+        return octets if name in OCTETS else ("enum", name, int(found.version == 6), f"V{found.version}", ("NewType", octets))
 
     def option(self, arguments, source):
         """Nothing or one value."""

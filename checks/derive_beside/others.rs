@@ -6,6 +6,7 @@ use crate::{boards, rules};
 use serde::{Deserialize, Serialize};
 use std::collections::BTreeMap;
 use std::marker::PhantomData;
+use std::net::{IpAddr, Ipv4Addr, Ipv6Addr};
 use std::time::{Duration, Instant};
 
 /// Numbers of every kind.
@@ -869,3 +870,30 @@ pub struct Counts {
 #[derive(Serialize, Deserialize)]
 #[serde(transparent)]
 pub struct Shown(#[serde(serialize_with = "boards::send")] pub Counts);
+
+/// Times and addresses.
+#[derive(Serialize, Deserialize)]
+pub struct Contact {
+    pub wait: Duration,
+    pub from: IpAddr,
+    pub four: Option<Ipv4Addr>,
+    pub six: Vec<Ipv6Addr>,
+}
+
+/// The same in a buffer.
+#[derive(Serialize, Deserialize)]
+#[serde(untagged)]
+pub enum Whereabouts {
+    At(IpAddr),
+    After(Duration),
+    Near(Ipv4Addr, u8),
+    Named(String),
+}
+
+/// The same next to a tag.
+#[derive(Serialize, Deserialize)]
+#[serde(tag = "kind")]
+pub enum Visit {
+    Short { wait: Duration, by: Ipv4Addr },
+    Long { by: IpAddr },
+}

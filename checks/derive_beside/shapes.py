@@ -15,6 +15,18 @@ from serde_derive.names import name_item  # noqa: E402
 from serde_derive.types import ARRAY, Type  # noqa: E402, F401
 
 WHOLE = "by the struct"
+# how types of the standard library are sent, and read where no text stands for them, as declarations
+STANDARD = """
+#[derive(Serialize, Deserialize)]
+#[serde(deny_unknown_fields)]
+pub struct Duration { secs: u64, nanos: u32 }
+
+#[derive(Serialize, Deserialize)]
+pub enum IpAddr { V4(Ipv4Addr), V6(Ipv6Addr) }
+"""
+# the addresses among them, each by what its texts are called
+ADDRESSES = {"IpAddr": "IP", "Ipv4Addr": "IPv4", "Ipv6Addr": "IPv6"}
+OCTETS = {"Ipv4Addr": Type(ARRAY, (Type("u8"),), count=4), "Ipv6Addr": Type(ARRAY, (Type("u8"),), count=16)}
 # by the functions that fields name, what they are read as, and how what was read is sent again
 RULES = {"rules::deserialize": (Type("u8"), lambda number: ("str", "yes" if number[2] else "no")),
          "rules::read_text": (Type("String"), lambda text: text),
@@ -38,12 +50,12 @@ CONVERTED = {"Urgency": (Type("u8"), lambda number: (*number[:2], min(number[2],
 
 
 def shapes_of(files):
-    """The structs and enums of these files, by their names, with the names that are sent; of one with parameters each that
+    """The structs and enums of these files, and those of STANDARD, by their names, with the names that are sent; of one with parameters each that
     another holds, by its name with its arguments. A field that has a default by its struct's attribute has `default` there
     as `WHOLE`."""
     shapes = {}
-    for file in files:
-        declared = read(Path(file).read_text(encoding="utf-8"))
+    for text in [*(Path(file).read_text(encoding="utf-8") for file in files), STANDARD]:
+        declared = read(text)
         for item in declared.items:
             declared.functions.variants[item.name] = {
                 variant.name: [field.type for field in variant.data.fields] for variant in item.variants}
@@ -73,8 +85,8 @@ def with_arguments(declared):
 
 
 def alone(shapes):
-    """The types that have no arguments."""
-    return [item for name, item in shapes.items() if name == item.name]
+    """The types of the files that have no arguments."""
+    return [item for name, item in shapes.items() if name == item.name and name not in ("Duration", "IpAddr")]
 
 
 def kind_of(field):

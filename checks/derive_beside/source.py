@@ -10,11 +10,12 @@ class Refused(Exception):
 
 @dataclass(frozen=True)
 class Source:
-    """A tree, whether numbers are coerced, and Serde's buffer that it is in, if any: `moved` out of it, or `kept` there
-    for other attempts. A field's or a variant's name is a tree ("name", text)."""
+    """A tree, whether numbers are coerced, whether it is human readable, and Serde's buffer that it is in, if any: `moved`
+    out of it, or `kept` there for other attempts. A field's or a variant's name is a tree ("name", text)."""
 
     tree: tuple
     coerces: bool = False
+    human: bool = False
     buffer: str = ""
 
     def of(self, tree):

@@ -5,6 +5,8 @@ from shapes import ARRAY, WHOLE, default_variant, inlined, kind_of, own, takes_r
 from source import Refused, counted, one_of, seen, unexpected, visited
 from trees import EMPTY, KINDS, NONE, UNIT, tagged
 
+OF_DURATION = ["secs", "nanos"]  # whose names Serde reads by a visitor of its own, which takes no index
+
 
 class Structs(Leaves):
     """Reads structs, and the fields of structs and variants."""
@@ -137,9 +139,10 @@ class Structs(Leaves):
             return parts[2]
         if source.buffer and key == "bytes":
             return bytes(parts[0]).decode(errors="replace")
-        if source.buffer and key == "num" and parts[0] in ("u8", "u64"):
+        if source.buffer and key == "num" and parts[0] in ("u8", "u64") and names != OF_DURATION:
             return self.name_at(parts[1], names, sort)
-        raise self.wrong(source, "a struct field name or an enum variant", f"{sort} identifier")
+        expecting = one_of(names) if names == OF_DURATION else f"{sort} identifier"
+        raise self.wrong(source, "a struct field name or an enum variant", expecting)
 
     def name_at(self, index, names, sort):
         """The name at an index."""
