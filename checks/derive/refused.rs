@@ -1569,3 +1569,11 @@ struct C<T>(T, Option<PathBuf>);
 struct A<'a> { x: BTreeMap<u8, &'a [&'a str]>, y: Option<&'a [&'a str]>, z: &'a [&'a str], w: Vec<&'a [u8]> }
 #[derive(Serialize)]
 enum B<'a> { X(&'a [&'a [&'a u8]]), Y(Vec<&'a str>) }
+
+// 2: A.x: `[(); 2]` is not covered, as the borrow checker has no rule for it: hold a Vec
+// 2: A.y: `[[char; 2]; 3]` is not covered, as the borrow checker has no rule for it: hold a Vec
+// 4: B.X.0: `[[(); 2]; 3]` is not covered, as the borrow checker has no rule for it: hold a Vec
+#[derive(Deserialize)]
+struct A { x: [(); 2], y: [[char; 2]; 3], z: [char; 2], w: [[u8; 2]; 2], v: Vec<[(); 2]> }
+#[derive(Serialize, Deserialize)]
+enum B { X([[(); 2]; 3], u8), Y([Option<()>; 2]) }

@@ -89,11 +89,16 @@ def reference(t: Type) -> Optional[Type]:
 
 
 def check_arrays(item: Item, homes: Homes) -> Iterator[Refused]:
-    """Refuses arrays of arrays of parts without memory where one that may hold memory is beside them: the checker doesn't let
-    both be put in one value."""
+    """Refuses arrays of `()`, and of arrays of characters, which the borrow checker doesn't let be put in a value; and arrays of
+    arrays of parts without memory where one that may hold memory is beside them: the checker doesn't let both be put in one value."""
     for data, where in [(item.data, item.name), *((v.data, f"{item.name}.{v.name}") for v in item.variants)]:
         arrays = [f for f in data.leaves() if f.type.name == ARRAY] if "Deserialize" in item.derives else []
         owned = [f for f in arrays if f.type.parameters() or may_hold_memory(f.type, homes)]
+        for f in arrays:
+            inner = innermost(f.type).name
+            if inner == "()" or (inner == "char" and f.type.arguments[0].name == ARRAY):
+                yield Refused(f.line, f"`{f.type.rust()}` is not covered, as the borrow checker has no rule for it: hold a Vec",
+                              f"{where}.{f.name}")
         for f in arrays if owned else ():
             if f not in owned and innermost(f.type).name not in (*LEAVES, *FLOATS) and f.type.arguments[0].name == ARRAY:
                 yield Refused(f.line, f"`{f.type.rust()}` is not covered beside `{owned[0].type.rust()}`, which may hold memory: hold"
