@@ -20,7 +20,7 @@ fn addresses_come_back(rt: HostRuntime) -> Result<(), Fail> {
 }
 
 #[test]
-fn for_people_addresses_are_texts(rt: HostRuntime) -> Result<(), Fail> {
+fn human_readable_addresses_are_texts(rt: HostRuntime) -> Result<(), Fail> {
     let alloc = rt.alloc();
     let readable = Serializer::new().human_readable();
     let sent = readable.serialize(alloc, &IpAddr::V6(six()))?;
@@ -31,7 +31,7 @@ fn for_people_addresses_are_texts(rt: HostRuntime) -> Result<(), Fail> {
 }
 
 #[test]
-fn for_others_addresses_are_octets(rt: HostRuntime) -> Result<(), Fail> {
+fn other_addresses_are_octets(rt: HostRuntime) -> Result<(), Fail> {
     let alloc = rt.alloc();
     let plain = Serializer::new();
     let octets = plain.serialize(alloc, &[127u8, 0, 0, 1])?;
@@ -43,10 +43,10 @@ fn for_others_addresses_are_octets(rt: HostRuntime) -> Result<(), Fail> {
     Ok(())
 }
 
-/// Reads an address, for people or not.
-fn read(alloc: Global, value: Value<'static>, for_people: bool) -> Answer<IpAddr> {
+/// Reads an address, human readable or not.
+fn read(alloc: Global, value: Value<'static>, human_readable: bool) -> Answer<IpAddr> {
     let from = Deserializer::new(value);
-    if for_people {
+    if human_readable {
         from.human_readable().deserialize(alloc)
     } else {
         from.deserialize(alloc)

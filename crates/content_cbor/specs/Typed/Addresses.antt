@@ -1,6 +1,7 @@
 -- IP addresses come back from CBOR, by their octets.
-use Rattle.std.specs.Prelude.{ℕ, Bool, List, Option, codes, refl}
-use Rattle.std.specs.Net.Addr.{ipv4_octets, ipv6_octets, IsIpv4Addr, IsIpv6Addr}
+use Rattle.std.specs.Prelude.{◌≡◌, ℕ, Bool, List, Option, codes, refl}
+use Rattle.std.specs.Net.Addr.{ipv4_octets, ipv6_octets, ipv6_segments, segments_of}
+use Rattle.std.specs.Net.Addr.{IsIpv4Addr, IsIpv6Addr}
 use Rattle.std.specs.Net.Grammar.{IsIpv4Text, IsIpv6Text, IsIpText}
 use Rattle.std.specs.contracts.net.ip_addr.IpAddrPartialEq.TheImpl as ip_eq
 use Rattle.std.specs.contracts.net.ipv4_addr.Ipv4AddrPartialEq.TheImpl as ipv4_eq
@@ -23,6 +24,7 @@ use Rattle.serde_content.specs.Laws.Variants.{other_variant}
 use Rattle.content_cbor.specs.Typed.Arrays.{array_kept}
 use Rattle.content_cbor.specs.Typed.Kept.{FormComesBack, RefusesNull}
 use Rattle.content_cbor.specs.Typed.Leaves.{u8_kept}
+use Rattle.content_cbor.specs.Typed.Made.{made_kept}
 use Rattle.content_cbor.specs.Typed.Variants.{variant_comes_back, newtype_variant_kept, given_as}
 
 -- what is a text where that is human readable comes back as it does otherwise
@@ -57,18 +59,10 @@ ipv4_kept = text_or_kept {script = λ a. octets_script 4 (ipv4_octets a)} {gives
 
 -- an IPv6 address
 pub ipv6_kept : FormComesBack IsIpv6Addr ipv6_script ipv6_refusal Ipv6Gives (ipv6_eq.ghosts).eq
-ipv6_kept = text_or_kept {script = λ a. octets_script 16 (ipv6_octets a)} {gives = Ipv6OfOctets} _ ipv6_text_refusal IsIpv6Text (record {
-  of_value = λ a real.
-      let there = (array_kept 16 u8_kept).of_value (ipv6_octets a) (ipv6_octets_exist a real) in
-      record {
-        free = there.free;
-        whole = there.whole;
-        spelled = there.spelled;
-        such = λ fits b.
-            let here = there.such fits b in
-            record { free = here.free; only = λ c h. ipv6_of_octets a c h.0 h.2 (here.only h.0 h.1) };
-      };
-})
+ipv6_kept =
+    text_or_kept {script = λ a. octets_script 16 (ipv6_octets a)} {gives = Ipv6OfOctets} _ ipv6_text_refusal IsIpv6Text
+    (made_kept IsIpv6Addr (λ octets a. ipv6_segments a ≡ segments_of octets) (ipv6_eq.ghosts).eq ipv6_octets (array_kept 16 u8_kept) ipv6_octets_exist
+    (λ a b octets real equal is. ipv6_of_octets a b octets is equal))
 
 -- a variant of its version
 version_kept : FormComesBack IsIpAddr version_script (enum_refusal (codes "IpAddr") version_refusal) VersionGives (ip_eq.ghosts).eq

@@ -36,7 +36,9 @@ use Rattle.content_de.specs.Sources.Origin.{Origin, Flags, tree_under, under}
 use Rattle.content_de.proofs.Written.{written_ipv4, written_ipv6, written_ip}
 use Rattle.serde_content.specs.RoundTrip.{SpellsSuch, GivesOnly, ComesBack, MayGive, CoercionKeeps, flags}
 use Rattle.serde_content.specs.Laws.Arrays.{array_back, array_keeps}
+use Rattle.serde_content.specs.Laws.Holders.{seen_keeps}
 use Rattle.serde_content.specs.Laws.Leaves.{u8_back, natural_keeps}
+use Rattle.serde_content.specs.Laws.Made.{made_back, made_keeps}
 use Rattle.serde_content.specs.Laws.Spelled.{leaf_such}
 use Rattle.serde_content.specs.Laws.Variants.{variant_back, newtype_variant_back, other_variant}
 use Rattle.serde_content.specs.Laws.Variants.{variant_kept, newtype_variant_keeps}
@@ -137,11 +139,7 @@ ipv4_back = text_or_back ipv4_text_refusal IsIpv4Text ipv4_text_back ipv4_octets
 
 -- what an IPv4 address gives it keeps
 pub ipv4_keeps : CoercionKeeps ipv4_refusal Ipv4Gives
-ipv4_keeps = text_or_keeps ipv4_text_refusal IsIpv4Text (record {
-  of_origin = λ o h a p.
-      let q = (array_keeps 4 (natural_keeps kind.u8)).of_origin o h (ipv4_octets a) (record { free = p.free; given = p.given }) in
-      record { free = q.free; given = q.given };
-})
+ipv4_keeps = text_or_keeps ipv4_text_refusal IsIpv4Text (seen_keeps ipv4_octets (array_keeps 4 (natural_keeps kind.u8)))
 
 -- the text of an IPv6 address
 ipv6_text_back : TextBack IsIpv6Addr (λ a. ipv6_text (ipv6_segments a)) ipv6_text_refusal IsIpv6Text (ipv6_eq.ghosts).eq
@@ -154,16 +152,9 @@ ipv6_text_back a real =
 
 -- sixteen octets
 ipv6_octets_back : ComesBack IsIpv6Addr (λ a. octets_script 16 (ipv6_octets a)) (octets_refusal 16) Ipv6OfOctets (ipv6_eq.ghosts).eq
-ipv6_octets_back = record {
-  of_value = λ a real f.
-      let there = (array_back 16 u8_back).of_value (ipv6_octets a) (ipv6_octets_exist a real) f in
-      record {
-        free = there.free;
-        whole = there.whole;
-        spelled = there.spelled;
-        such = record { free = there.such.free; only = λ b h. ipv6_of_octets a b h.0 h.2 (there.such.only h.0 h.1) };
-      };
-}
+ipv6_octets_back =
+    made_back IsIpv6Addr (λ octets a. ipv6_segments a ≡ segments_of octets) (ipv6_eq.ghosts).eq ipv6_octets (array_back 16 u8_back) ipv6_octets_exist
+    (λ a b octets real equal is. ipv6_of_octets a b octets is equal)
 
 -- an IPv6 address
 pub ipv6_back : ComesBack IsIpv6Addr ipv6_script ipv6_refusal Ipv6Gives (ipv6_eq.ghosts).eq
@@ -171,11 +162,8 @@ ipv6_back = text_or_back ipv6_text_refusal IsIpv6Text ipv6_text_back ipv6_octets
 
 -- what an IPv6 address gives it keeps
 pub ipv6_keeps : CoercionKeeps ipv6_refusal Ipv6Gives
-ipv6_keeps = text_or_keeps ipv6_text_refusal IsIpv6Text (record {
-  of_origin = λ o h a p.
-      let q = (array_keeps 16 (natural_keeps kind.u8)).of_origin o h p.given.0 (record { free = p.free; given = p.given.1 }) in
-      record { free = q.free; given = (p.given.0, q.given, p.given.2) };
-})
+ipv6_keeps =
+    text_or_keeps ipv6_text_refusal IsIpv6Text (made_keeps (λ octets a. ipv6_segments a ≡ segments_of octets) (array_keeps 16 (natural_keeps kind.u8)))
 
 -- an address of either version
 abbrev pub IsIpAddr : IpAddr → Type 0
