@@ -24,6 +24,7 @@ ghost use Rattle.content_ser.specs.Serializers.Step.{Takes};
 use crate::aside::{Aside, Sent, put_aside};
 use crate::call::Call;
 use crate::send::{key, places};
+use crate::serialize::Serialize;
 use crate::serializer::Serializer;
 use content_tree::{CowBytes, CowStr, Error, Number, Value};
 use std::alloc::Global;
@@ -155,13 +156,43 @@ pub fn end<S: Serializer>(serializer: &mut S, error: &mut Error) -> Sent
     serializer.call_aside(Call::End, error)
 }
 
-/// A number.
-#[inline(never)]
-pub fn serialize_number<S: Serializer>(v: &Number, serializer: &mut S, error: &mut Error) -> Sent
+/// A number, by a function of its kind.
+#[inline(always)]
+pub fn serialize_number<S: Serializer>(
+    v: &Number,
+    alloc: Global,
+    serializer: &mut S,
+    error: &mut Error,
+) -> Sent
     ensures { Sends S.step S.refuses (S.seen serializer.old) (only (number v.now))
         (answer_of result error.new) (S.seen serializer.new) }
 {
-    serializer.call_aside(Call::Number(*v), error)
+    match v {
+        Number::I8(v) => serialize_kind(v, alloc, serializer, error),
+        Number::U8(v) => serialize_kind(v, alloc, serializer, error),
+        Number::I16(v) => serialize_kind(v, alloc, serializer, error),
+        Number::U16(v) => serialize_kind(v, alloc, serializer, error),
+        Number::I32(v) => serialize_kind(v, alloc, serializer, error),
+        Number::U32(v) => serialize_kind(v, alloc, serializer, error),
+        Number::I64(v) => serialize_kind(v, alloc, serializer, error),
+        Number::U64(v) => serialize_kind(v, alloc, serializer, error),
+        Number::I128(v) => serialize_kind(v, alloc, serializer, error),
+        Number::U128(v) => serialize_kind(v, alloc, serializer, error),
+    }
+}
+
+/// A number of one kind.
+#[inline(never)]
+fn serialize_kind<T: Serialize, S: Serializer>(
+    v: &T,
+    alloc: Global,
+    serializer: &mut S,
+    error: &mut Error,
+) -> Sent
+    ensures { Sends S.step S.refuses (S.seen serializer.old) (T.script v.now)
+        (answer_of result error.new) (S.seen serializer.new) }
+{
+    v.serialize_aside(alloc, serializer, error)
 }
 
 /// The key of a field, where it is static; where it is owned it makes no call and says so.

@@ -44,7 +44,7 @@ pub fn send<S: Serializer>(
     match value {
         Value::Unit => serialize_unit(serializer, error),
         Value::Bool(flag) => serialize_bool(*flag, serializer, error),
-        Value::Number(number) => serialize_number(number, serializer, error),
+        Value::Number(number) => serialize_number(number, alloc, serializer, error),
         Value::Char(character) => serialize_char(*character, serializer, error),
         Value::String(text) => serialize_str(text.as_str(), serializer, error),
         Value::Bytes(bytes) => serialize_bytes(bytes.as_bytes(), serializer, error),
@@ -112,7 +112,7 @@ fn send_item<S: Serializer>(
         (answer_of result error.new) (S.seen serializer.new) }
 {
     match item {
-        Value::Number(number) => serialize_number(number, serializer, error),
+        Value::Number(number) => serialize_number(number, alloc, serializer, error),
         other => send(other, alloc, serializer, error),
     }
 }
