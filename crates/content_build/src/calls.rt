@@ -46,9 +46,9 @@ fn build<'v>(
 ///
 /// Where it spells none, the error names the place of the first call after which nothing that
 /// follows can make it spell one, `Misplaced`; or the list's length where it only ended too early,
-/// `Unfinished`. Where an allocation failed it names the call that needed it, or the list's length:
-/// `OutOfMemory`. Hints and lengths reserve nothing. Texts and bytes are copied once, names are
-/// not.
+/// `Unfinished`. Where an allocation failed: `OutOfMemory`, at the call that needed it (that it is
+/// no other is only tested) or at the list's length. Hints and lengths reserve nothing. Texts and
+/// bytes are copied once, names are not.
 ///
 /// ```rust
 /// let calls = [Call::Seq(None), Call::Unit];

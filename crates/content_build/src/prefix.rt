@@ -45,8 +45,9 @@ fn cut<'v>(alloc: Global, calls: &[Call<'_>]) -> Result<(Value<'v>, usize), Call
 ///
 /// Where no beginning spells a tree, the refusal is that of [`from_calls`](crate::from_calls):
 /// `Misplaced` at the first call after which nothing that follows can make the list spell one, or
-/// `Unfinished` at the list's length. Where an allocation failed it names the call that needed it,
-/// or the length of the beginning that spells a tree: `OutOfMemory`.
+/// `Unfinished` at the list's length. Where an allocation failed: `OutOfMemory`, at the call that
+/// needed it (that it is no other is only tested) or at the length of the beginning that spells a
+/// tree.
 ///
 /// ```rust
 /// let calls = [Call::Seq(None), Call::End, Call::Unit];
