@@ -24,5 +24,6 @@ pub mod Grows
 pub mod GrowsItems
 pub mod Told
 pub mod Fits
+pub mod Fronts
 pub mod Wider
 pub mod Deeper

@@ -9,7 +9,7 @@ use Rattle.content_ser.specs.Serializers.Step.{run}
 use Rattle.content_cbor.specs.Codes.{Codes, IsHead}
 use Rattle.content_cbor.specs.Decoded.{StopsAt}
 use Rattle.content_cbor.specs.Encoder.{Written, nothing, step}
-use Rattle.content_cbor.specs.FaultBytes.{FitsBytes}
+use Rattle.content_cbor.specs.FaultBytes.{FitsBytes, FitsFront}
 use Rattle.content_cbor.specs.Form.{form, depth, CodesForm, Fits}
 use Rattle.content_cbor.specs.Heads.{head}
 use Rattle.content_cbor.specs.Inner.Reading.{item_at, whole_at}
@@ -79,6 +79,16 @@ FaultsFitBytes = (limit : ℕ) (bytes : List ℕ) (at : ℕ) (f : Fault) → Are
 abbrev pub FrontFaultsFitBytes : Type 0
 FrontFaultsFitBytes = (limit : ℕ) (bytes : List ℕ) (at : ℕ) (f : Fault) → AreBytes bytes
     → StopsAt bytes (error.Refused at f) (item_at limit bytes) → FitsBytes f (drop at bytes)
+
+-- a fault of decoding is one of the bytes up to its place, and with it
+abbrev pub FaultsFitFronts : Type 0
+FaultsFitFronts = (limit : ℕ) (bytes : List ℕ) (at : ℕ) (f : Fault) → AreBytes bytes
+    → StopsAt bytes (error.Refused at f) (whole_at limit bytes) → FitsFront f (take (at + 1) bytes)
+
+-- the same of the item at their front
+abbrev pub FrontFaultsFitFronts : Type 0
+FrontFaultsFitFronts = (limit : ℕ) (bytes : List ℕ) (at : ℕ) (f : Fault) → AreBytes bytes
+    → StopsAt bytes (error.Refused at f) (item_at limit bytes) → FitsFront f (take (at + 1) bytes)
 
 -- within a greater limit bytes are refused alike, unless they nested too deep
 abbrev pub OnlyDepthIsLimited : Type 0

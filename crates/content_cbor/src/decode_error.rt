@@ -8,10 +8,12 @@ use std::fmt;
 
 /// What is wrong with bytes.
 ///
-/// A byte with several faults has the first of them, in the order below. So what RFC 8949 calls not
-/// well-formed comes before what is only not supported, and the kind of an item before its depth:
+/// A byte with several faults has the first of them, in the order below. What RFC 8949 calls not
+/// well-formed comes before what is only not supported
+/// ([proved](crate::laws::malformed_begins_nothing)), and the kind of an item before its depth:
 /// a greater limit helps at `TooDeep` ([proved](crate::laws::deeper_goes_further)) and at no other
-/// fault ([proved](crate::laws::only_depth_is_limited)).
+/// fault ([proved](crate::laws::only_depth_is_limited)). Each fault fits the byte, and those before
+/// it ([proved](crate::laws::faults_fit_bytes)).
 #[derive(Clone, Copy, Debug, PartialEq, Eq)]
 pub enum Fault {
     /// They end inside an item.

@@ -38,8 +38,8 @@ use std::alloc::Global;
 ///
 /// `Refused` for bytes that code no value: at the first byte with which they begin no item within
 /// the limit, or at their end, with [what is wrong](Fault) there. Floats, simple values other than
-/// false, true and null, tags other than 2 and 3 and numbers past 128 bits are faults too.
-/// `OutOfMemory`.
+/// false, true and null, tags other than 2 and 3, what is no bytes under these, numbers past 128
+/// bits and texts that are no UTF-8 are faults too. `OutOfMemory`.
 ///
 /// ```rust
 /// let value = decode(alloc, &[0x82, 0x01, 0x61, b'a'], 16)?;

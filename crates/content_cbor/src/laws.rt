@@ -10,8 +10,9 @@ ghost use Rattle.content_cbor.specs.Decoded.{IsFaultOf};
 ghost use Rattle.content_cbor.specs.Form.{depth, form};
 ghost use Rattle.content_cbor.specs.Item.{item};
 ghost use Rattle.content_cbor.specs.Laws.{DeeperFrontGoesFurther, DeeperGoesFurther};
-ghost use Rattle.content_cbor.specs.Laws.{FaultsFitBytes, FittingTreesAreTaken, FormsHaveItems};
-ghost use Rattle.content_cbor.specs.Laws.{FormsKeepLimits, FormsStay, FrontFaultsFitBytes};
+ghost use Rattle.content_cbor.specs.Laws.{FaultsFitBytes, FaultsFitFronts, FittingTreesAreTaken};
+ghost use Rattle.content_cbor.specs.Laws.{FormsHaveItems, FormsKeepLimits, FormsStay};
+ghost use Rattle.content_cbor.specs.Laws.{FrontFaultsFitBytes, FrontFaultsFitFronts};
 ghost use Rattle.content_cbor.specs.Laws.{HeadsAreShort, ItemsCodeForms, LimitsAreKept};
 ghost use Rattle.content_cbor.specs.Laws.{LimitsWiden, MalformedBeginsNothing};
 ghost use Rattle.content_cbor.specs.Laws.{MalformedFrontBeginsNothing, OneTree};
@@ -65,9 +66,16 @@ pub fn others_begin_items()
 /// whatever was read before it: `Reserved` a first byte without a meaning, `Break` `ff`, `Float`
 /// `f9` to `fb`, `Simple` `e0` to `f3`, `f7` and `f8`, `WrongChunk` and `WrongKind` one that begins
 /// an item. It is `Ended` exactly where no byte is there.
+///
+/// The bytes up to that byte, and with it, fit too. At `Tag` they end in the head of a tag, at
+/// `WrongKind` with the first byte under tag 2 or 3, at `TooWide` in the bytes under one, at
+/// `TooDeep` with the first byte of an item or in the head of an array or a map, at `NotUtf8` in a
+/// text, after its head.
 pub fn faults_fit_bytes()
     ensures whole { FaultsFitBytes }
     ensures front { FrontFaultsFitBytes }
+    ensures whole_before { FaultsFitFronts }
+    ensures front_before { FrontFaultsFitFronts }
 {}
 
 /// Within a greater limit `decode` and `decode_prefix` refuse bytes with the same fault at the same

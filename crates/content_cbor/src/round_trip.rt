@@ -26,9 +26,9 @@ mod tuple;
 /// A type whose values come back from CBOR: of what [`to_bytes`](crate::to_bytes) wrote of a value,
 /// [`read_back`] reads an equal one.
 ///
-/// It holds of booleans, `String`, whole numbers of each kind, IP addresses, and where it does of
-/// what they hold, of `Box`, `Vec`, sets, maps, tuples, arrays, and an `Option` of what is
-/// [`NotNull`]. [`from_bytes`] says of what it doesn't.
+/// It holds of booleans, `String`, `BoxedStr`, `PathBuf`, whole numbers of each kind, IP addresses,
+/// and where it does of what they hold, of `Box`, `Rc`, `Arc`, `Vec`, `VecDeque`, sets, maps,
+/// tuples, arrays, and an `Option` of what is [`NotNull`]. [`from_bytes`] says of what it doesn't.
 pub trait CborRoundTrip<'de>: RoundTrip<'de> {
     /// The calls of a value that exists spell a tree. What CBOR keeps of that, where it fits, isn't
     /// refused with numbers coerced, and each value that may be read of it is equal by `==`.

@@ -139,15 +139,15 @@ tells_first (b ∷ bs) fits =
     (λ is. (b ∷ [], refl))
 
 -- what a first byte says that was read
-record IsRead (bs : List ℕ) (h : First) (rest : List ℕ) : Type 0 where
-  byte : ℕ
-  split : bs ≡ byte ∷ rest
-  small : byte < 256
-  top : byte / 32 ≡ code h.«major»
-  low : byte % 32 ≡ h.info
-  known : IsReserved byte → ⊥
+pub record IsRead (bs : List ℕ) (h : First) (rest : List ℕ) : Type 0 where
+  pub byte : ℕ
+  pub split : bs ≡ byte ∷ rest
+  pub small : byte < 256
+  pub top : byte / 32 ≡ code h.«major»
+  pub low : byte % 32 ≡ h.info
+  pub known : IsReserved byte → ⊥
 
-first_read : (bs : List ℕ) (h : First) (rest : List ℕ) → IsBytes bs → first_at bs ≡ Ok (h, rest) → IsRead bs h rest
+pub first_read : (bs : List ℕ) (h : First) (rest : List ℕ) → IsBytes bs → first_at bs ≡ Ok (h, rest) → IsRead bs h rest
 unfolding first_at
 first_read [] h rest fits is = absurd cc
 first_read (b ∷ bs) h rest fits is =
