@@ -327,6 +327,22 @@ def opaque() -> Dict[str, str]:
     return made
 
 
+def crowded() -> Dict[str, str]:
+    """Variants of values of many types, or beside values that aren't read or sent."""
+    some = "a: (String,), b: Box<i128>, {} c: [i64; 3], d: i16"
+    skipped = ["#[serde(skip)] e: u8,", "#[serde(skip)] e: String,", "#[serde(skip_deserializing)] e: Option<i64>, #[serde(skip)] f: u8,",
+               "#[serde(skip)] e: u8, #[serde(skip)] f: i8, #[serde(skip)] g: String, #[serde(skip)] h: Vec<u8>,"]
+    made = {f"crowded_skipped_{i}": f"{BOTH}\npub enum Tried {{ A {{ {some.format(one)} }}, B, C(u8) }}" for i, one in enumerate(skipped)}
+    made["crowded_skipped_place"] = f"{BOTH}\npub enum Tried {{ A(#[serde(skip)] u8, #[serde(skip)] i32, #[serde(skip)] String, String, i16), B }}"
+    wide = "(Vec<i128>, Box<String>, Option<BTreeMap<String, isize>>, u64)"
+    made["crowded_skipped_wide"] = f"{BOTH}\npub enum Tried {{ A {{ a: String, #[serde(skip)] b: String, c: {wide}, d: Vec<u8> }}, B }}"
+    hashed = "(u64, Vec<isize>, HashMap<u64, Option<()>>)"
+    made["crowded_wide"] = f"{ALL}\npub enum Tried {{ A {{ a: i128, b: {hashed}, c: bool, d: u32 }} }}"
+    made["crowded_wide_place"] = f"{ALL}\npub enum Tried {{ A(i128, {hashed}, bool, u32), B(String) }}"
+    made["crowded_wide_two"] = f"{ALL}\npub enum Tried {{ A {{ a: HashMap<String, (Vec<u64>, BTreeSet<char>, u64)>, b: bool }}, B {{ a: {wide}, b: i8 }} }}"
+    return made
+
+
 def converted() -> Dict[str, str]:
     """Types that are read and sent as others, to which modules by hand convert them."""
     copied, point = ALL.replace("derive(", "derive(Clone, Copy, "), f"{ALL}\npub struct Point {{ pub x: u8, pub y: i32 }}\n\n"
@@ -683,7 +699,7 @@ def nested() -> Dict[str, str]:
 def bodies() -> Dict[str, str]:
     """The declaration of each type, by name."""
     return {**structs(), **enums(), **names(), **types(), **collections(), **attributes(), **own_rules(), **with_functions(), **opaque(),
-            **converted(), **flattened(), **one_way(), **rests(), **generics(), **borrowed(), **nested(), **arrays(), **durations(),
+            **crowded(), **converted(), **flattened(), **one_way(), **rests(), **generics(), **borrowed(), **nested(), **arrays(), **durations(),
             **addresses()}
 
 

@@ -1570,6 +1570,18 @@ struct A<'a> { x: BTreeMap<u8, &'a [&'a str]>, y: Option<&'a [&'a str]>, z: &'a 
 #[derive(Serialize)]
 enum B<'a> { X(&'a [&'a [&'a u8]]), Y(Vec<&'a str>) }
 
+// 2: A.X.0: `[&'a str; 2]` holds an array of what is borrowed, which is not covered in a variant, as the borrow checker has no rule for it: hold a Vec, or a reference to a slice
+// 4: B.X.x: `Option<[&'static u8; 2]>` holds an array of what is borrowed, which is not covered in a variant, as the borrow checker has no rule for it: hold a Vec, or a reference to a slice
+// 8: D.X.0: `C<'a>` holds an array of what is borrowed, which is not covered in a variant, as the borrow checker has no rule for it: hold a Vec, or a reference to a slice
+#[derive(Serialize)]
+enum A<'a> { X([&'a str; 2], u8), Y(&'a [[&'a str; 2]]), Z(Vec<[&'a str; 2]>, [u8; 2]) }
+#[derive(Serialize)]
+enum B { X { x: Option<[&'static u8; 2]>, y: u8 }, Y }
+#[derive(Serialize)]
+struct C<'a> { x: [&'a str; 2], y: u8 }
+#[derive(Serialize)]
+enum D<'a> { X(C<'a>), Y { x: u8 } }
+
 // 2: A.x: `[(); 2]` is not covered, as the borrow checker has no rule for it: hold a Vec
 // 2: A.y: `[[char; 2]; 3]` is not covered, as the borrow checker has no rule for it: hold a Vec
 // 4: B.X.0: `[[(); 2]; 3]` is not covered, as the borrow checker has no rule for it: hold a Vec

@@ -258,6 +258,10 @@ class Data:
         """The fields that are read, in their order, but what takes the rest after the others."""
         return sorted((f for f in self.fields if f.read), key=lambda f: f.rest)
 
+    def to_send(self) -> List[Tuple[Field, str]]:
+        """The fields that are sent, each with what code calls it."""
+        return [(f, p) for f, p in zip(self.fields, self.places()) if f.sent]
+
     def at(self, given: Dict[str, Type]) -> "Data":
         """The same with types in the place of parameters."""
         return replace(self, fields=[f.at(given) for f in self.fields])

@@ -99,13 +99,30 @@ class EnumWriter:
         if not self.is_apart(v, holder):
             return []
         given, value = self.whole_given(v)
+        given, requires = f", whole: &{self.whole}{given}", clause("requires", f"whole.now ≡ {value}")
+        script = f"⟦<{self.whole} as Serialize>⟧.script whole.now"
+        if self.is_told(v, holder):
+            given, requires = "".join(f", {p}: &{f.type.rust()}" for f, p in v.data.to_send()), ""
+            script = self.script_of(v, holder, [f"{in_term(p)}.now" for p in v.data.places()]).strip()
         bounds = angled(*self.item.lifetimes, "S: Serializer", *self.item.bounds("Serialize"))
-        return [f"/// Sends that variant.\nfn {self.whole_name(v)}{bounds}(alloc: Global, serializer: &mut S,"
-                f" whole: &{self.whole}{given}) -> Result<()>\n"
-                + clause("requires", f"whole.now ≡ {value}")
-                + clause("ensures", "Sends S.step S.refuses (S.seen serializer.old)\n"
-                         f"(⟦<{self.whole} as Serialize>⟧.script whole.now)\nresult (S.seen serializer.new)")
+        return [f"/// Sends that variant.\nfn {self.whole_name(v)}{bounds}(alloc: Global, serializer: &mut S{given}) -> Result<()>\n"
+                + requires
+                + clause("ensures", f"Sends S.step S.refuses (S.seen serializer.old)\n({script})\nresult (S.seen serializer.new)")
                 + "{\n" + "\n".join(self.send_values(v, holder)) + "\n}\n"]
+
+    def is_told(self, v: Variant, holder: Holder) -> bool:
+        """Whether the contract of that function tells what it sends, value by value. Of a crowded variant of which not all is sent
+        proofs don't find that by the variant."""
+        told = holder.crowded and holder.count <= holder.sent_end(0) and not holder.parted
+        return told and any(not f.sent for f in v.data.fields)
+
+    def script_of(self, v: Variant, holder: Holder, values: List[str]) -> str:
+        """The calls by which a variant of these values is sent."""
+        return holder.script(values)
+
+    def given_to_send(self, v: Variant, holder: Holder) -> List[str]:
+        """What that function gets after the serialiser."""
+        return [p for _, p in v.data.to_send()] if self.is_told(v, holder) else ["self", *v.data.places()]
 
     def whole_given(self, v: Variant) -> Tuple[str, str]:
         """The values of a variant as parameters of a function, and the variant of them."""
@@ -128,7 +145,7 @@ class EnumWriter:
         """The statements that send a variant."""
         if not self.is_apart(v, holder):
             return self.send_values(v, holder)
-        return [f"{self.whole_name(v)}({', '.join(['alloc', 'serializer', 'self'] + v.data.places())})"]
+        return [f"{self.whole_name(v)}({', '.join(['alloc', 'serializer', *self.given_to_send(v, holder)])})"]
 
     def names_list(self) -> List[str]:
         """The types that stand for the names of the variants, where they are used."""
@@ -183,11 +200,17 @@ class EnumWriter:
                 function(ABSENT.format(self.whole), f"{self.item.name}::{marked.name}")]
 
     def serialize(self) -> List[str]:
-        sent = [arm(self.made(v, v.data.places()), self.send_variant(v, h)) if v.sent else self.refusing(v)
+        sent = [arm(self.made(v, self.sent_places(v, h)), self.send_variant(v, h)) if v.sent else self.refusing(v)
                 for v, h in self.variants]
-        return [ghost("script", self.each(lambda v, holder, x: holder.script(x) if v.sent else self.unsent_script(v))),
+        return [ghost("script", self.each(lambda v, h, x: self.script_of(v, h, x) if v.sent else self.unsent_script(v))),
                 ghost("lawful", self.lawful()),
                 function(SERIALIZE, *self.match(sent))]
+
+    def sent_places(self, v: Variant, holder: Holder) -> List[str]:
+        """The values of a variant as its arm names them, where it is sent."""
+        if not (self.is_apart(v, holder) and self.is_told(v, holder)):
+            return v.data.places()
+        return [p if f.sent else "_" for f, p in zip(v.data.fields, v.data.places())]
 
     def entries_of(self, v: Variant, holder: Holder) -> Entries:
         """What a variant sends where its enum is flattened: an entry whose key is the variant's name."""

@@ -16,6 +16,7 @@ from .types import ALIKE, HASHED, LT_DE, LT_SENT, READ, STATIC, TRIP, Type, angl
 
 LONGEST_ROW = 8  # types of longer rows take the checker's memory
 LONGEST_HELD = 4  # proofs of reading an enum look into all its variants at once
+MOST_TYPES = 8  # the same, of all types that those of a variant's values are made of
 LONGEST_SENT = 20  # longer rows of one type are refused by the checker
 LONGEST_BORROWED = 8  # the same of values that borrow
 
@@ -97,6 +98,7 @@ class Holder:
     contracts or code name them."""
 
     most = 2  # as many values are sent without a function of their own
+    parted = False  # whether what is around the values is sent by another function
     read_by = "ReadStruct"
     by_key = BY_NAME
     by_place = BY_PLACE
@@ -146,7 +148,16 @@ class Holder:
     @property
     def big(self) -> bool:
         """Whether it is read as a struct of its values."""
-        return self.many and self.reading.count > self.reading.room()
+        read = self.reading.count
+        return self.many and read > 0 and (self.crowded or read > self.reading.room())
+
+    @property
+    def crowded(self) -> bool:
+        """Whether a variant has more values, read or not, or values of more types, than a proof can take that looks into all; a
+        value of a parameter's type is in none, as a struct of all values would have no size."""
+        if not self.of_variant or any(f.type.parameter for f in self.all):
+            return False
+        return len(self.all) > LONGEST_HELD or sum(f.type.weight() for f in self.all) > MOST_TYPES
 
     def part(self, fields: List[Field]) -> "Holder":
         """The same of some of its fields alone."""

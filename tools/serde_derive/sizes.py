@@ -89,8 +89,13 @@ def reference(t: Type) -> Optional[Type]:
 
 
 def check_arrays(item: Item, homes: Homes) -> Iterator[Refused]:
-    """Refuses arrays of `()`, and of arrays of characters, which the borrow checker doesn't let be put in a value; and arrays of
-    arrays of parts without memory where one that may hold memory is beside them: the checker doesn't let both be put in one value."""
+    """Refuses arrays of `()`, and of arrays of characters, which the borrow checker doesn't let be put in a value; arrays of
+    arrays of parts without memory where one that may hold memory is beside them: the checker doesn't let both be put in one value;
+    and arrays of what is borrowed in a variant that is sent, as it doesn't let them be taken out by a pattern."""
+    for v, f in [(v, f) for v in item.variants for f in v.data.leaves()] if "Serialize" in item.derives else ():
+        if f.sent and holds_lent_array(f.type, homes):
+            yield Refused(f.line, f"`{f.type.rust()}` holds an array of what is borrowed, which is not covered in a variant, as the"
+                          " borrow checker has no rule for it: hold a Vec, or a reference to a slice", f"{item.name}.{v.name}.{f.name}")
     for data, where in [(item.data, item.name), *((v.data, f"{item.name}.{v.name}") for v in item.variants)]:
         arrays = [f for f in data.leaves() if f.type.name == ARRAY] if "Deserialize" in item.derives else []
         owned = [f for f in arrays if f.type.parameters() or may_hold_memory(f.type, homes)]
@@ -103,6 +108,15 @@ def check_arrays(item: Item, homes: Homes) -> Iterator[Refused]:
             if f not in owned and innermost(f.type).name not in (*LEAVES, *FLOATS) and f.type.arguments[0].name == ARRAY:
                 yield Refused(f.line, f"`{f.type.rust()}` is not covered beside `{owned[0].type.rust()}`, which may hold memory: hold"
                               " a Vec in place of one of them", f"{where}.{f.name}")
+
+
+def holds_lent_array(t: Type, homes: Homes) -> bool:
+    """Whether a value of a type has an array of what is borrowed in it, not in memory that it owns; one of another file may."""
+    if t.name == ARRAY or t.name in ("tuple", "Option"):
+        return t.name == ARRAY and bool(t.borrows()) or any(holds_lent_array(one, homes) for one in t.arguments)
+    held = homes.items.get(t.name)
+    return bool(held and t.borrows()) and any(
+        holds_lent_array(f.type, homes) for data in (held.data, *(v.data for v in held.variants)) for f in data.fields)
 
 
 def innermost(t: Type) -> Type:

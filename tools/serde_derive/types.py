@@ -304,6 +304,10 @@ class Type:
         """How many types without arguments it is made of."""
         return sum(one.width() for one in self.arguments) or 1
 
+    def weight(self) -> int:
+        """How many types it is made of, itself among them."""
+        return 1 + sum(one.weight() for one in self.arguments)
+
     def has(self, *names: str) -> bool:
         """Whether it has one of these names, or a type in it."""
         return self.name in names or any(argument.has(*names) for argument in self.arguments)

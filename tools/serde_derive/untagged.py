@@ -66,11 +66,11 @@ class UntaggedWriter(EnumWriter):
         return sending(f"Call::Tuple({len(v.data.fields)})", [f"SendElement({p}, row)" for p in v.data.places()])
 
     def serialize(self) -> List[str]:
-        return [ghost("script", self.each(lambda v, holder, x: self.script(v, x) if v.sent else self.unsent_script(v))),
+        return [ghost("script", self.each(lambda v, h, x: self.script_of(v, h, x) if v.sent else self.unsent_script(v))),
                 ghost("lawful", self.lawful()),
                 function(SERIALIZE, *self.match([
-                    arm(self.made(v, v.data.places()), [self.send(v)]) if v.sent else self.refusing(v)
-                    for v in self.item.variants]))]
+                    arm(self.made(v, self.sent_places(v, h)), [self.send(v, h)]) if v.sent else self.refusing(v)
+                    for v, h in self.variants]))]
 
     def entries_of(self, v: Variant, holder: Holder) -> Entries:
         values, places = self.values(v.data), v.data.places()
@@ -78,7 +78,7 @@ class UntaggedWriter(EnumWriter):
             return row_entries(self.structs[v.name].holder, values, places)
         return entries_inside(v.data.fields[0].type, values[0], places[0]) if values else NO_ENTRIES
 
-    def script(self, v: Variant, values: List[str]) -> str:
+    def script_of(self, v: Variant, holder: Holder, values: List[str]) -> str:
         if v.data.named:
             return self.structs[v.name].holder.script(values)
         parts = [f"{f.type.member('Serialize', 'script')} {x}" for f, x in zip(v.data.fields, values)]
@@ -102,11 +102,11 @@ class UntaggedWriter(EnumWriter):
             return laws[0]
         return "tuple_lawful" + nest([f"element_fits ({law})" for law in laws], "end_fits")
 
-    def send(self, v: Variant) -> str:
+    def send(self, v: Variant, holder: Holder) -> str:
         places = v.data.places() or ["()"]
         if len(places) == 1 and not v.data.named:
             return f"{places[0]}.serialize(alloc, serializer)"
-        return f"{self.whole_name(v)}(alloc, serializer, self, {', '.join(places)})"
+        return f"{self.whole_name(v)}({', '.join(['alloc', 'serializer', *self.given_to_send(v, holder)])})"
 
     def deserialize(self) -> List[str]:
         readable = [v for v, _ in self.readable()]
