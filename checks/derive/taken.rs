@@ -855,6 +855,16 @@ pub struct Part<'a>(&'a str, &'static str);
 #[derive(Serialize)]
 pub struct A<'a> { #[serde(skip_serializing_if = "<[_]>::is_empty")] pub x: &'a [u8], pub y: Vec<&'a [&'static str]> }
 
+// + struct From1OfAX(String, Option<u8>, i16);
+// + fn make_a_x(row: From1OfAX, d: String, e: u8) -> A
+// + fn send_whole_a_x<S: Serializer>(alloc: Global, serializer: &mut S, a: &String, b: &Option<u8>, c: &i16) -> Result<()>
+// + A::X { a, b, c, d: _, e: _ } => send_whole_a_x(alloc, serializer, a, b, c),
+// + struct From1OfBY(u8, (Vec<i8>, Option<(bool, char)>, BTreeMap<u8, String>));
+#[derive(Serialize, Deserialize)]
+enum A { X { a: String, b: Option<u8>, c: i16, #[serde(skip)] d: String, #[serde(skip)] e: u8 }, Y }
+#[derive(Deserialize)]
+enum B { Y(u8, (Vec<i8>, Option<(bool, char)>, BTreeMap<u8, String>)) }
+
 // + let ANContent { a, b, c } = read_a_n(alloc, fields)?;
 // + SendOpen(Call::Struct(name_n(), 1), row)
 // + SendTag(FieldsOfAN, NamesOfA, 1, row)
