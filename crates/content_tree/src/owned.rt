@@ -24,7 +24,7 @@ use std::alloc::{AllocError, Global};
 use std::result::Result as StdResult;
 
 impl<'a, 'n> NamedValue<'a, 'n> {
-    /// Makes every text and byte value in it owned; names, variants and keys stay as they were.
+    /// Makes every text and byte value in it owned, also in keys of maps; names stay as they were.
     /// Owned texts and bytes are moved, borrowed ones copied; vectors and boxes are made anew.
     /// Where an allocation fails: an error of kind `OutOfMemory`.
     pub fn into_owned(self, alloc: Global) -> Result<NamedValue<'static, 'n>>
@@ -41,7 +41,7 @@ impl<'a, 'n> NamedValue<'a, 'n> {
 }
 
 impl<'a, 'n> NamedStruct<'a, 'n> {
-    /// Makes every text and byte value in it owned; names, variants and keys stay as they were.
+    /// Makes every text and byte value in it owned, also in keys of maps; names stay as they were.
     /// Owned texts and bytes are moved, borrowed ones copied; vectors and boxes are made anew.
     /// Where an allocation fails: an error of kind `OutOfMemory`.
     pub fn into_owned(self, alloc: Global) -> Result<NamedStruct<'static, 'n>>
@@ -57,7 +57,7 @@ impl<'a, 'n> NamedStruct<'a, 'n> {
 }
 
 impl<'a, 'n> NamedEnum<'a, 'n> {
-    /// Makes every text and byte value in it owned; names, variants and keys stay as they were.
+    /// Makes every text and byte value in it owned, also in keys of maps; names stay as they were.
     /// Owned texts and bytes are moved, borrowed ones copied; vectors and boxes are made anew.
     /// Where an allocation fails: an error of kind `OutOfMemory`.
     pub fn into_owned(self, alloc: Global) -> Result<NamedEnum<'static, 'n>>
@@ -83,7 +83,7 @@ impl<'a, 'n> NamedEnum<'a, 'n> {
 }
 
 impl<'a, 'n> NamedData<'a, 'n> {
-    /// Makes every text and byte value in it owned; names, variants and keys stay as they were.
+    /// Makes every text and byte value in it owned, also in keys of maps; names stay as they were.
     /// Owned texts and bytes are moved, borrowed ones copied; vectors and boxes are made anew.
     /// Where an allocation fails: an error of kind `OutOfMemory`.
     pub fn into_owned(self, alloc: Global) -> Result<NamedData<'static, 'n>>

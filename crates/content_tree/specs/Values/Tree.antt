@@ -81,7 +81,7 @@ abbrev mutual
   at_texts_fields f g no_fields = no_fields
   at_texts_fields f g (field_then k t fs) = field_then (g k) (at_texts f g t) (at_texts_fields f g fs)
 
--- every text and byte value owned; names, variants and keys as they were
+-- every text and byte value owned, also in keys of maps; names of structs, variants and fields as they were
 abbrev pub owned : Tree → Tree
 owned = at_texts to_owned (λ n. n)
 
