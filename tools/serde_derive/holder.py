@@ -153,9 +153,9 @@ class Holder:
 
     @property
     def crowded(self) -> bool:
-        """Whether a variant has more values, read or not, or values of more types, than a proof can take that looks into all; a
-        value of a parameter's type is in none, as a struct of all values would have no size."""
-        if not self.of_variant or any(f.type.parameter for f in self.all):
+        """Whether a variant has more values, read or not, or values of more types, than a proof can take that looks into all. One
+        with parameters is none: a proof doesn't find the values of a struct that has them."""
+        if not self.of_variant or any(f.type.parameters() for f in self.all):
             return False
         return len(self.all) > LONGEST_HELD or sum(f.type.weight() for f in self.all) > MOST_TYPES
 
