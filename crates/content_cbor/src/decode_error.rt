@@ -10,7 +10,7 @@ use std::fmt;
 ///
 /// A byte with several faults has the first of them, in the order below. What RFC 8949 calls not
 /// well-formed comes before what is only not supported
-/// ([proved](crate::laws::malformed_begins_nothing)), and the kind of an item before its depth:
+/// ([proved](crate::laws::others_begin_items)), and the kind of an item before its depth:
 /// a greater limit helps at `TooDeep` ([proved](crate::laws::deeper_goes_further)) and at no other
 /// fault ([proved](crate::laws::only_depth_is_limited)). Each fault fits the byte, and those before
 /// it ([proved](crate::laws::faults_fit_bytes)).
