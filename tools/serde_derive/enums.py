@@ -111,10 +111,10 @@ class EnumWriter:
                 + "{\n" + "\n".join(self.send_values(v, holder)) + "\n}\n"]
 
     def is_told(self, v: Variant, holder: Holder) -> bool:
-        """Whether the contract of that function tells what it sends, value by value. Of a crowded variant of which not all is sent
+        """Whether the contract of that function tells what it sends, value by value. Of a crowded variant of which a part is sent
         proofs don't find that by the variant."""
         told = holder.crowded and holder.count <= holder.sent_end(0) and not holder.parted
-        return told and any(not f.sent for f in v.data.fields)
+        return told and 0 < len(v.data.to_send()) < len(v.data.fields)
 
     def script_of(self, v: Variant, holder: Holder, values: List[str]) -> str:
         """The calls by which a variant of these values is sent."""
