@@ -334,6 +334,8 @@ def crowded() -> Dict[str, str]:
                "#[serde(skip)] e: u8, #[serde(skip)] f: i8, #[serde(skip)] g: String, #[serde(skip)] h: Vec<u8>,"]
     made = {f"crowded_skipped_{i}": f"{BOTH}\npub enum Tried {{ A {{ {some.format(one)} }}, B, C(u8) }}" for i, one in enumerate(skipped)}
     made["crowded_skipped_place"] = f"{BOTH}\npub enum Tried {{ A(#[serde(skip)] u8, #[serde(skip)] i32, #[serde(skip)] String, String, i16), B }}"
+    made["crowded_skipped_number"] = f"{BOTH}\npub enum Tried {{ A {{ a: String, #[serde(skip)] b: i64, c: String, d: u64, e: Vec<i32> }}, B }}"
+    made["crowded_numbers"] = f"{ALL}\npub enum Tried {{ A {{ a: Box<str>, b: Arc<i64>, c: PathBuf, d: u64, e: VecDeque<i32> }}, B }}"
     wide = "(Vec<i128>, Box<String>, Option<BTreeMap<String, isize>>, u64)"
     made["crowded_skipped_wide"] = f"{BOTH}\npub enum Tried {{ A {{ a: String, #[serde(skip)] b: String, c: {wide}, d: Vec<u8> }}, B }}"
     hashed = "(u64, Vec<isize>, HashMap<u64, Option<()>>)"
@@ -477,7 +479,22 @@ def generics() -> Dict[str, str]:
     """Types with parameters, and a type that holds such types with arguments."""
     page = (f"{ALL}\npub struct Page<T> {{ pub items: Vec<T>, pub next: Option<Box<T>> }}\n\n{ALL}\npub enum Either<L, R> {{ Left(L), Right(R)"
             f" }}\n\n{ALL}\npub struct Sealed<T>(pub T);\n\n")
+    held = ["Box<T>", "Vec<T>", "Vec<U>", "BTreeMap<String, U>", "Option<Box<U>>", "HashMap<String, Vec<T>>", "VecDeque<U>", "Rc<T>"]
+    sent = ["T", "Vec<T>", "Vec<U>", "Box<T>", "BTreeMap<String, U>", "Vec<Option<T>>", "Option<Box<U>>", "HashMap<String, (T, U)>"]
+    plain, eight = ["u8", "String", "bool", "i32"] * 5, named(held).replace("pub ", "")
     return {
+        **{f"generic_held_{count}": f"{BOTH}\npub struct Tried<T, U> {named(held[:count])}" for count in (7, 8)},
+        **{f"generic_sent_{count}": f"{SENT}\npub struct Tried<T, U> {named((sent + held)[:count])}" for count in (7, 8, 16)},
+        **{f"generic_beside_{count}": f"{BOTH}\npub struct Tried<T, U> {named(['Vec<T>', 'Option<Box<U>>', *plain[:count - 2]])}" for count in (9, 20)},
+        "generic_sent_40": f"{SENT}\npub struct Tried<T> {named(['Vec<T>'] * 40)}",
+        "generic_held_in_variant": f"{BOTH}\npub enum Tried<T, U> {{ A {named(held[:5]).replace('pub ', '')}, B }}",
+        "generic_beside_in_variant": f"{BOTH}\npub enum Tried<T, U> {{ A {named(held[:5] + plain[:3]).replace('pub ', '')}, B }}",
+        "generic_hash_in_variant": f"{BOTH}\npub enum Tried<T> {{ A {{ a: u8 }}, B(HashMap<u8, T>) }}",
+        "generic_held_place": f"{BOTH}\npub enum Tried<T, U> {{ A({', '.join(held)}), B }}",
+        "generic_sent_in_variant": f"{SENT}\npub enum Tried<T, U> {{ A {eight}, B }}",
+        "generic_sent_in_internal": f'{SENT}\n#[serde(tag = "kind")]\npub enum Tried<T, U> {{ A {eight}, B }}',
+        "generic_sent_in_adjacent": f'{SENT}\n#[serde(tag = "t", content = "c")]\npub enum Tried<T, U> {{ A {eight}, B }}',
+        "generic_sent_in_untagged": f"{SENT}\n#[serde(untagged)]\npub enum Tried<T, U> {{ A {eight}, B(u8) }}",
         "generic_2": f"{ALL}\npub struct Tried<T> {{ pub f0: T, pub f1: u8 }}",
         "generic_place_2": f"{ALL}\npub struct Tried<T>(pub T, pub u8);",
         "generic_variant_2": f"{ALL}\npub enum Tried<T> {{ A, B {{ f0: T, f1: u8 }}, C(T, u8) }}",

@@ -857,8 +857,9 @@ pub struct A<'a> { #[serde(skip_serializing_if = "<[_]>::is_empty")] pub x: &'a 
 
 // + struct From1OfAX(String, Option<u8>, i16);
 // + fn make_a_x(row: From1OfAX, d: String, e: u8) -> A
-// + fn send_whole_a_x<S: Serializer>(alloc: Global, serializer: &mut S, a: &String, b: &Option<u8>, c: &i16) -> Result<()>
-// + A::X { a, b, c, d: _, e: _ } => send_whole_a_x(alloc, serializer, a, b, c),
+// + fn send_told_a_x<S: Serializer>(alloc: Global, serializer: &mut S, a: &String, b: &Option<u8>, c: &i16) -> Result<()>
+// + { send_told_a_x(alloc, serializer, a, b, c) }
+// + A::X { a, b, c, d, e } => send_whole_a_x(alloc, serializer, self, a, b, c, d, e),
 // + struct From1OfBY(u8, (Vec<i8>, Option<(bool, char)>, BTreeMap<u8, String>));
 #[derive(Serialize, Deserialize)]
 enum A { X { a: String, b: Option<u8>, c: i16, #[serde(skip)] d: String, #[serde(skip)] e: u8 }, Y }
@@ -1413,3 +1414,11 @@ pub struct A { host: Host, bound: Option<Ipv4Addr>, six: Vec<(u8, net::Ipv6Addr)
 use std::net::IpAddr;
 #[derive(PartialEq, Eq, Serialize, Deserialize)]
 #[serde(untagged)] enum A { X(IpAddr), Y(u8) }
+
+// + struct Sent6OfA<'sent, T>(&'sent Box<T>);
+// + let row = Sent6OfA(&self.f); let row = SendField(FieldsOfA, 4, &self.e, row);
+// - struct Sent5OfB
+#[derive(Serialize)]
+struct A<T> { a: Vec<T>, b: u8, c: u8, d: u8, e: u8, f: Box<T> }
+#[derive(Serialize)]
+struct B<T> { a: Vec<T>, b: u8, c: u8, d: u8, e: Box<T> }

@@ -94,35 +94,36 @@ class EnumWriter:
                     self.tag_types() * self.reads)
 
     def whole_sender(self, v: Variant, holder: Holder) -> List[str]:
-        """The function that sends a variant of several values by the script of the enum: its proof
-        sees the types of this variant alone."""
+        """The function that sends a variant of several values by the script of the enum: its proof sees the types of this
+        variant alone. Before it stands the one that sends a crowded variant's values."""
         if not self.is_apart(v, holder):
             return []
         given, value = self.whole_given(v)
-        given, requires = f", whole: &{self.whole}{given}", clause("requires", f"whole.now ≡ {value}")
-        script = f"⟦<{self.whole} as Serialize>⟧.script whole.now"
+        lines, told = self.send_values(v, holder), []
         if self.is_told(v, holder):
-            given, requires = "".join(f", {p}: &{f.type.rust()}" for f, p in v.data.to_send()), ""
+            name, sent = f"send_told_{v.owner}", v.data.to_send()
             script = self.script_of(v, holder, [f"{in_term(p)}.now" for p in v.data.places()]).strip()
+            told = [self.sender("Sends its values.", name, "".join(f", {p}: &{f.type.rust()}" for f, p in sent), "", script, lines)]
+            lines = [f"{name}({', '.join(['alloc', 'serializer', *(p for _, p in sent)])})"]
+        script, requires = f"⟦<{self.whole} as Serialize>⟧.script whole.now", clause("requires", f"whole.now ≡ {value}")
+        return [*told, self.sender("Sends that variant.", self.whole_name(v), f", whole: &{self.whole}{given}", requires, script, lines)]
+
+    def sender(self, says: str, name: str, given: str, requires: str, script: str, lines: List[str]) -> str:
+        """A function of these parameters and statements, which sends by this script."""
         bounds = angled(*self.item.lifetimes, "S: Serializer", *self.item.bounds("Serialize"))
-        return [f"/// Sends that variant.\nfn {self.whole_name(v)}{bounds}(alloc: Global, serializer: &mut S{given}) -> Result<()>\n"
-                + requires
+        return (f"/// {says}\nfn {name}{bounds}(alloc: Global, serializer: &mut S{given}) -> Result<()>\n{requires}"
                 + clause("ensures", f"Sends S.step S.refuses (S.seen serializer.old)\n({script})\nresult (S.seen serializer.new)")
-                + "{\n" + "\n".join(self.send_values(v, holder)) + "\n}\n"]
+                + "{\n" + "\n".join(lines) + "\n}\n")
 
     def is_told(self, v: Variant, holder: Holder) -> bool:
-        """Whether the contract of that function tells what it sends, value by value. Of a crowded variant of which a part is sent
-        proofs don't find that by the variant."""
-        told = holder.crowded and holder.count <= holder.sent_end(0) and not holder.parted
-        return told and 0 < len(v.data.to_send()) < len(v.data.fields)
+        """Whether the values are sent by a function whose contract tells the calls one by one: of a crowded variant proofs don't
+        find them in the script of the enum."""
+        told = holder.crowded and holder.count <= holder.sent_end(0) and not (holder.parted or v.beside)
+        return told and bool(v.data.to_send())
 
     def script_of(self, v: Variant, holder: Holder, values: List[str]) -> str:
         """The calls by which a variant of these values is sent."""
         return holder.script(values)
-
-    def given_to_send(self, v: Variant, holder: Holder) -> List[str]:
-        """What that function gets after the serialiser."""
-        return [p for _, p in v.data.to_send()] if self.is_told(v, holder) else ["self", *v.data.places()]
 
     def whole_given(self, v: Variant) -> Tuple[str, str]:
         """The values of a variant as parameters of a function, and the variant of them."""
@@ -145,7 +146,7 @@ class EnumWriter:
         """The statements that send a variant."""
         if not self.is_apart(v, holder):
             return self.send_values(v, holder)
-        return [f"{self.whole_name(v)}({', '.join(['alloc', 'serializer', *self.given_to_send(v, holder)])})"]
+        return [f"{self.whole_name(v)}({', '.join(['alloc', 'serializer', 'self', *v.data.places()])})"]
 
     def names_list(self) -> List[str]:
         """The types that stand for the names of the variants, where they are used."""
@@ -200,17 +201,11 @@ class EnumWriter:
                 function(ABSENT.format(self.whole), f"{self.item.name}::{marked.name}")]
 
     def serialize(self) -> List[str]:
-        sent = [arm(self.made(v, self.sent_places(v, h)), self.send_variant(v, h)) if v.sent else self.refusing(v)
+        sent = [arm(self.made(v, v.data.places()), self.send_variant(v, h)) if v.sent else self.refusing(v)
                 for v, h in self.variants]
         return [ghost("script", self.each(lambda v, h, x: self.script_of(v, h, x) if v.sent else self.unsent_script(v))),
                 ghost("lawful", self.lawful()),
                 function(SERIALIZE, *self.match(sent))]
-
-    def sent_places(self, v: Variant, holder: Holder) -> List[str]:
-        """The values of a variant as its arm names them, where it is sent."""
-        if not (self.is_apart(v, holder) and self.is_told(v, holder)):
-            return v.data.places()
-        return [p if f.sent else "_" for f, p in zip(v.data.fields, v.data.places())]
 
     def entries_of(self, v: Variant, holder: Holder) -> Entries:
         """What a variant sends where its enum is flattened: an entry whose key is the variant's name."""

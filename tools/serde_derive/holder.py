@@ -19,6 +19,7 @@ LONGEST_HELD = 4  # proofs of reading an enum look into all its variants at once
 MOST_TYPES = 8  # the same, of all types that those of a variant's values are made of
 LONGEST_SENT = 20  # longer rows of one type are refused by the checker
 LONGEST_BORROWED = 8  # the same of values that borrow
+LONGEST_GENERIC = 5  # the same of values of which some have parameters
 
 
 def row_of(values: List[str], last: str = "SendEnd") -> List[str]:
@@ -583,6 +584,8 @@ class Holder:
         """The place after the last value that stands in a row with the one at this place: not even that, where all are lent."""
         if self.lends:
             return start
+        if any(f.sent and f.type.parameters() for f in self.fields):
+            return start + LONGEST_GENERIC
         return start + (LONGEST_BORROWED if self.borrows else LONGEST_SENT)
 
     def with_one_lifetime(self) -> "Holder":

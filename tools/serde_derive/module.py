@@ -18,7 +18,7 @@ from .literals import with_names
 from .names import name_item
 from .nested import NestedWriter
 from .nested_checks import check_nested
-from .sizes import check_arrays, check_references, check_rows, check_sizes
+from .sizes import check_arrays, check_generic, check_references, check_rows, check_sizes
 from .structs import StructWriter, TransparentWriter
 from .text import ghost
 from .tagged import TaggedWriter, check_tagged
@@ -158,6 +158,7 @@ def settled(file: File, homes: Homes) -> Dict[str, Writer]:
     keep(check_variants)
     keep(check_sizes)
     keep(check_rows)
+    keep(lambda item: check_generic(item, homes))
     keep(check_references)
     keep(lambda item: check_arrays(item, homes))
     covered = [item for item in file.items if item.covered]

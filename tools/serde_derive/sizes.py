@@ -1,15 +1,17 @@
 """Which fields are refused for what the checker knows of their size: of one that depends on a parameter, nothing."""
 from itertools import islice, takewhile
-from typing import Iterator, List, Optional
+from typing import Iterator, List, Optional, Set
 
 from .conversions import may_hold_memory
 from .declarations import Data, Field, Item, Refused
 from .holder import LONGEST_HELD, LONGEST_ROW, needs_struct
 from .homes import Homes, placed
-from .types import ARRAY, BORROWED, FLOATS, LEAVES, STATIC, Type
+from .types import ARRAY, BORROWED, FLOATS, HASHED, LEAVES, STATIC, Type
 
 # rows are refused by the checker in which more values stand before one of a parameter's type, or entries where some are flattened
 MOST_BEFORE, MOST_BEFORE_FLATTENED = 6, 4
+# so many fields of types with parameters are read among more than a row has, and in a variant: of more, proofs are not found
+MOST_GENERIC, MOST_GENERIC_IN_VARIANT = 2, 5
 
 
 def check_sizes(item: Item) -> Iterator[Refused]:
@@ -68,6 +70,41 @@ def check_rows(item: Item) -> Iterator[Refused]:
             if f.type.parameter:
                 yield Refused(f.line, f"a field of a parameter's type is covered among the first {first} that are sent:"
                               f" hold `Box<{f.type.rust()}>`", f"{where}.{f.name}")
+
+
+def check_generic(item: Item, homes: Homes) -> Iterator[Refused]:
+    """Refuses fields with which proofs of reading are not found, where some are of types with parameters: what is hashed, and more
+    than a few of such types."""
+    parts = [(v.data, f"{item.name}.{v.name}") for v in item.variants if v.read] if item.variants else [(item.data, item.name)]
+    for data, where in parts if "Deserialize" in item.derives else ():
+        read, in_variant = [f for f in data.leaves() if f.read], item.variants and data.named
+        generic = [f for f in read if f.type.parameters()]
+        if not generic or (len(read) <= LONGEST_ROW and not in_variant):
+            continue
+        most, among, hashed = ((MOST_GENERIC_IN_VARIANT, "in a variant", {"HashMap"}) if in_variant else
+                               (MOST_GENERIC, f"among more than {LONGEST_ROW} fields", HASHED))
+        for f in read:
+            if holds(f.type, hashed, homes):
+                yield Refused(f.line, f"`{f.type.rust()}` is or holds a {' or a '.join(sorted(hashed))}, which is not covered {among} where a type"
+                              " has parameters: hold a BTreeMap or a BTreeSet", f"{where}.{f.name}")
+        for f in generic[most:]:
+            yield Refused(f.line, f"more than {most} fields of types with parameters are not covered {among}: hold some in a struct",
+                          f"{where}.{f.name}")
+
+
+def holds(t: Type, names: Set[str], homes: Homes) -> bool:
+    """Whether a type has one of these names or a type in it, or holds a type of the file that has."""
+    left, seen = [t], set()
+    while left:
+        one = left.pop()
+        if one.name in names:
+            return True
+        left += one.arguments
+        held = homes.items.get(one.name) if one.name not in seen else None
+        if held:
+            seen.add(one.name)
+            left += [f.type for data in (held.data, *(v.data for v in held.variants)) for f in data.fields if f.read]
+    return False
 
 
 def check_references(item: Item) -> Iterator[Refused]:

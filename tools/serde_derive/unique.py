@@ -9,6 +9,8 @@ from .text import alias
 from .types import snake
 from .words import USES, WORDS
 
+# what functions of an owner begin with
+VERBS = ("send_whole", "send_told", "send_entries_of", "read", "make", "made", "known")
 FUNCTIONS = {name for names in USES.values() for name in names.split() if name.islower()}
 # what is called after an owner
 ROW = re.compile(r"(?:fields|names|aliases|meant|tags|sent|told|back|(?:field|part|from|read|sent|send|default|unless)\d+)of(.+)")
@@ -34,7 +36,7 @@ def name_functions(items: List[Item]) -> None:
     def clashes(name: str) -> bool:
         listed = pascal(name).lower()
         return (name in taken or listed in lists or listed in owned
-                or any(f"{verb}_{name}" in forbidden for verb in ("send_whole", "send_entries_of", "read", "make", "made", "known")))
+                or any(f"{verb}_{name}" in forbidden for verb in VERBS))
 
     for more, named in ("_type", [(item, item.name) for item in items]), (
             "_variant", [(v, item.name + v.name) for item in items for v in item.variants]):

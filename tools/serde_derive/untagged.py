@@ -69,7 +69,7 @@ class UntaggedWriter(EnumWriter):
         return [ghost("script", self.each(lambda v, h, x: self.script_of(v, h, x) if v.sent else self.unsent_script(v))),
                 ghost("lawful", self.lawful()),
                 function(SERIALIZE, *self.match([
-                    arm(self.made(v, self.sent_places(v, h)), [self.send(v, h)]) if v.sent else self.refusing(v)
+                    arm(self.made(v, v.data.places()), [self.send(v, h)]) if v.sent else self.refusing(v)
                     for v, h in self.variants]))]
 
     def entries_of(self, v: Variant, holder: Holder) -> Entries:
@@ -106,7 +106,7 @@ class UntaggedWriter(EnumWriter):
         places = v.data.places() or ["()"]
         if len(places) == 1 and not v.data.named:
             return f"{places[0]}.serialize(alloc, serializer)"
-        return f"{self.whole_name(v)}({', '.join(['alloc', 'serializer', *self.given_to_send(v, holder)])})"
+        return f"{self.whole_name(v)}({', '.join(['alloc', 'serializer', 'self', *v.data.places()])})"
 
     def deserialize(self) -> List[str]:
         readable = [v for v, _ in self.readable()]
