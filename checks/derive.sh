@@ -12,7 +12,7 @@ for module in types choices sorts inlined places; do
     "$top/tools/derive" --crate check_derive --module $module --cbor $module.rs --check src/$module.rt
 done
 cd ../check_fields
-for module in arrays attributes borrowed by_functions converted spread nested; do
+for module in arrays attributes borrowed by_functions converted spread nested generic; do
     "$top/tools/derive" --crate check_fields --module $module --cbor $module.rs --check src/$module.rt
 done
 "$top/tools/derive" --crate check_fields --module left_over left_over.rs --check src/left_over.rt

@@ -484,6 +484,15 @@ def generics() -> Dict[str, str]:
     plain, eight = ["u8", "String", "bool", "i32"] * 5, named(held).replace("pub ", "")
     return {
         **{f"generic_held_{count}": f"{BOTH}\npub struct Tried<T, U> {named(held[:count])}" for count in (7, 8)},
+        **{f"generic_whole_{count}": f"{BOTH}\npub struct Tried<T, U> {named((held * 5)[:count])}" for count in (9, 16, 40)},
+        **{f"generic_whole_place_{count}": f"{BOTH}\npub struct Tried<T, U>({', '.join((held * 5)[:count])});" for count in (9, 20)},
+        "generic_whole_all": f"{ALL}\npub struct Tried<T> {named(['HashMap<String, Vec<T>>', 'Vec<T>', *plain[:9], 'Option<Box<T>>'])}",
+        "generic_whole_defaults": f"{BOTH}\npub struct Tried<T> {{ {' '.join(f'#[serde(default)] f{i}: Vec<T>,' for i in range(10))} }}",
+        **{f"generic_whole_in_{sort}": f"{BOTH}{tag}\npub enum Tried<T, U> {{ A {named((held * 3)[:count]).replace('pub ', '')}, B, C {{ a: Vec<T>, b: HashMap<u8, u8> }} }}"
+           for sort, tag, count in [("variant", "", 8), ("variant_3", "", 3), ("variant_20", "", 20),
+                                    ("internal", '\n#[serde(tag = "kind")]', 8), ("internal_12", '\n#[serde(tag = "kind")]', 12)]},
+        "generic_whole_in_all": f"{ALL}\npub enum Tried<T> {{ A {{ a: HashMap<String, Vec<T>>, b: i64, c: String }}, B(u8), C {{ d: Option<Box<T>>, e: i8 }} }}",
+        "generic_whole_flattened": f"{BOTH}\npub struct Inner {{ pub x: u8, pub y: String }}\n\n{BOTH}\npub struct Tried<T> {{ {' '.join(f'f{i}: Vec<T>,' for i in range(10))} #[serde(flatten)] g: Inner }}",
         **{f"generic_sent_{count}": f"{SENT}\npub struct Tried<T, U> {named((sent + held)[:count])}" for count in (7, 8, 16)},
         **{f"generic_beside_{count}": f"{BOTH}\npub struct Tried<T, U> {named(['Vec<T>', 'Option<Box<U>>', *plain[:count - 2]])}" for count in (9, 20)},
         "generic_sent_40": f"{SENT}\npub struct Tried<T> {named(['Vec<T>'] * 40)}",

@@ -705,8 +705,8 @@ struct A {
 // + impl<'de, T: CborRoundTrip<'de>, U: CborRoundTrip<'de>> CborRoundTrip<'de> for A<T, U>
 // + impl<'de, T: NotNull<'de>> NotNull<'de> for B<T>
 // + impl<'de, T: CborRoundTrip<'de> + NotNull<'de>> CborRoundTrip<'de> for C<T>
-// + fn read_c_y<'de, 'n: 'de, T: Deserialize<'de>>(alloc: Global, fields: FieldsByName<'de, 'n>) -> Result<(Option<Box<T>>, i8)>
-// + fn make_c_y<T>(x: Option<Box<T>>, y: i8) -> C<T>
+// + impl<T> serde_content::derive_support::MadeFrom<From1OfCY<T>> for C<T>
+// + { serde_content::derive_support::read_variant_made_from::<FieldsOfCY, From1OfCY<T>, Self>(alloc, variant) }
 // + let law : (x : (B ℕ)) (readable : Bool) → IsLawful (⟦<B<u8> as Serialize>⟧.script x readable) = λ p readable. newtype_struct_lawful
 // - b_serialize
 #[derive(PartialEq, Eq, Serialize, Deserialize)]
@@ -1422,3 +1422,20 @@ use std::net::IpAddr;
 struct A<T> { a: Vec<T>, b: u8, c: u8, d: u8, e: u8, f: Box<T> }
 #[derive(Serialize)]
 struct B<T> { a: Vec<T>, b: u8, c: u8, d: u8, e: Box<T> }
+
+// + impl<T> serde_content::derive_support::MadeOf<From1OfA<T>> for A<T>
+// + { serde_content::derive_support::read_made::<From1OfA<T>, Self>(alloc, fields) }
+// + serde_content::derive_support::read_made_of_parts::<From1OfB<T>, Self>(alloc, parts) }
+// + { serde_content::derive_support::read_made_from::<From1OfCX<T>, Self>(alloc, fields) }
+// + fn read_c_y<'de, 'n: 'de, T: Deserialize<'de>>(alloc: Global, fields: FieldsByName<'de, 'n>) -> Result<(Vec<T>, u8, u8)>
+// + fn make_d<T>(row: From1OfD<T>, j: u8) -> D<T>
+use std::collections::HashMap;
+#[derive(Deserialize)]
+struct A<T> { a: Vec<T>, b: Vec<T>, c: Vec<T>, d: u8, e: u8, f: u8, g: u8, h: HashMap<u8, T>, i: u8 }
+#[derive(Deserialize)]
+struct B<T>(Vec<T>, Vec<T>, Vec<T>, u8, u8, u8, u8, u8, HashMap<u8, u8>);
+#[derive(Deserialize)]
+#[serde(tag = "kind")]
+enum C<T> { X { a: HashMap<u8, T>, b: u8 }, Y { a: Vec<T>, b: u8, #[serde(skip)] c: u8 } }
+#[derive(Deserialize)]
+struct D<T> { a: Vec<T>, b: u8, c: u8, d: u8, e: u8, f: u8, g: u8, h: u8, i: u8, #[serde(skip)] j: u8 }

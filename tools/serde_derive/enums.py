@@ -31,6 +31,8 @@ class EnumWriter:
         self.sends, self.reads = "Serialize" in item.derives, "Deserialize" in item.derives
         self.variants = [(v, Holder("Variant", [item.wire, i, v.wire], v.data, v.owner))
                          for i, v in enumerate(item.variants)]
+        for _, holder in self.variants:
+            holder.of_enum = True
         self.tags, self.meant = self.tag_names()
 
     def readable(self) -> List[Tuple[Variant, Holder]]:

@@ -22,6 +22,10 @@ LONGEST_BORROWED = 8  # the same of values that borrow
 LONGEST_GENERIC = 5  # the same of values of which some have parameters
 
 
+# where what is made of a row at once comes from
+MADE_OF = "serde_content::derive_support"
+
+
 def row_of(values: List[str], last: str = "SendEnd") -> List[str]:
     """The statements that make a row of values, each as a row has it, and of what follows them."""
     return [f"let row = {last};", *(f"let row = {value};" for value in reversed(values))]
@@ -99,6 +103,8 @@ class Holder:
     contracts or code name them."""
 
     most = 2  # as many values are sent without a function of their own
+    of_struct = False  # whether it is of a struct alone, and of no variant
+    of_enum = False  # whether it is of a variant of an enum that is tagged externally, or internally with fields of its own
     parted = False  # whether what is around the values is sent by another function
     read_by = "ReadStruct"
     by_key = BY_NAME
@@ -150,7 +156,23 @@ class Holder:
     def big(self) -> bool:
         """Whether it is read as a struct of its values."""
         read = self.reading.count
-        return self.many and read > 0 and (self.crowded or read > self.reading.room())
+        return self.many and read > 0 and (self.crowded or self.made_from or read > self.reading.room())
+
+    @property
+    def made_of(self) -> bool:
+        """Whether a trait tells of which struct of values a struct is made, and not a function: where they have parameters proofs
+        would look into that."""
+        return self.big and self.of_struct and self.generic
+
+    @property
+    def made_from(self) -> bool:
+        """The same of what a variant is made from."""
+        return self.of_enum and self.data.named and not self.steps and self.generic
+
+    @property
+    def generic(self) -> bool:
+        """Whether all values are read, and some have parameters."""
+        return self.reading is self and any(f.type.parameters() for f in self.fields)
 
     @property
     def crowded(self) -> bool:
@@ -165,6 +187,7 @@ class Holder:
         if fields == self.fields:
             return self
         part = copy(self)
+        part.of_struct = part.of_enum = False
         part.hold(replace(self.data, fields=fields), self.those_of(self.places, fields))
         part.__dict__["reading"] = part
         return part
@@ -434,6 +457,12 @@ class Holder:
             return [f"let {pattern} = {self.step_name(0)}(alloc, {source})?;", *self.apart(places[self.steps:], self.steps)]
         return self.taken(trait, source, places)
 
+    def whole_taken(self, source: str, made: str) -> List[str]:
+        """The statements that read or make all values of a struct, and make it of them."""
+        if self.made_of:
+            return [f"{MADE_OF}::read_made{'_of_parts' * (not self.data.named)}::<{self.run(0)}, Self>(alloc, {source})"]
+        return self.all_taken(self.trait(), source) + [f"Ok({made})"]
+
     def unread_made(self) -> List[str]:
         """The statements that make the values that aren't read."""
         return [f"let {place}: {f.type.rust()} = {plain(f.made) or 'Absent::absent(alloc)'};" for f, place in self.unread()]
@@ -458,6 +487,12 @@ class Holder:
         seen = [read.get(f.name, in_term(place)) for f, place in zip(self.fields, self.places)]
         given = "".join(f", {place}: {f.type.rust()}" for f, place in self.unread())
         body = "\n".join(apart + [made])
+        if self.made_of or self.made_from:
+            row = self.run_term([f"z.{in_term(f.name)}" for f in self.fields])
+            trait, told = ("MadeOf", f"λ z. {row}") if self.made_of else ("MadeFrom", f"λ row. {term(seen)}")
+            make = function(f"fn make(row: {self.run(0)}) -> {result.rust()}", *apart, made)
+            return [f"impl{angled(*result.parameters())} {MADE_OF}::{trait}<{self.run(0)}> for {result.rust()} {{\n"
+                    f"{ghost(snake(trait), told)}\n\n{make}\n}}\n"]
         return ["/// Its contract tells proofs what is made of the values.\n"
                 f"fn {self.maker_name()}{angled(*result.parameters())}(row: {reading.run(0)}{given}) -> {result.rust()}\n"
                 + clause("ensures", f"result ≡ {term(seen)}") + f"{{\n{body}\n}}\n"]
@@ -691,11 +726,14 @@ class Holder:
             return [f"{start};", f"Ok({make([])})"]
         if self.data.named and not self.of_variant:
             return [f"read_struct::<{self.list}, Self>(alloc, from)"]
+        if self.made_from:
+            return [f"{MADE_OF}::read_variant_made_from::<{self.list}, {self.run(0)}, Self>(alloc, variant)"]
         if self.data.named:
             return [f"let fields = {start}.by_name();", *self.variant_taken(places), f"Ok({make(places)})"]
+        if self.many and not self.of_variant:
+            return [f"let parts = {start};", *self.whole_taken("parts", make(places))]
         if self.many:
-            taken = self.variant_taken(places) if self.of_variant else self.all_taken("ReadParts", "parts")
-            return [f"let parts = {start};", *taken, f"Ok({make(places)})"]
+            return [f"let parts = {start};", *self.variant_taken(places), f"Ok({make(places)})"]
         before, given = ([], start) if self.of_variant else ([f"let inside = {start};"], "inside.deserialize(alloc)?")
         if self.fields[0].reading:
             return [*before, f"let {self.read_of(self.fields[0])}({places[0]}) = {given};", f"Ok({make(places)})"]
@@ -738,7 +776,7 @@ class Holder:
         if not self.data.named or not self.fields:
             return []
         read = function(f"fn read<'n: 'de>(alloc: Global, fields: FieldsByName<'de, 'n>) -> Result<{whole.rust()}>",
-                        *self.all_taken("ReadFields", "fields"), f"Ok({made})")
+                        *self.whole_taken("fields", made))
         members = [ghost("refusal", bare(self.refusal_row())), ghost("gives", f"λ z. {self.gives_row(values)}")]
         members = [*self.named_by(ghost("name", bare(name_term(self.wire)))), *members,
                    *self.named_by(name_method("name", self.wire)), read]

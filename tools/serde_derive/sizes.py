@@ -73,16 +73,17 @@ def check_rows(item: Item) -> Iterator[Refused]:
 
 
 def check_generic(item: Item, homes: Homes) -> Iterator[Refused]:
-    """Refuses fields with which proofs of reading are not found, where some are of types with parameters: what is hashed, and more
-    than a few of such types."""
+    """Refuses fields with which proofs of reading are not found, where some are of types with parameters and they are not made of
+    a row at once: what is hashed, and more than a few of such types."""
     parts = [(v.data, f"{item.name}.{v.name}") for v in item.variants if v.read] if item.variants else [(item.data, item.name)]
     for data, where in parts if "Deserialize" in item.derives else ():
-        read, in_variant = [f for f in data.leaves() if f.read], item.variants and data.named
+        read = [f for f in data.leaves() if f.read]
         generic = [f for f in read if f.type.parameters()]
-        if not generic or (len(read) <= LONGEST_ROW and not in_variant):
+        why, in_variant = taken_apart(item, data), bool(item.variants) and data.named
+        if not generic or not why or not (in_variant or len(read) > LONGEST_ROW):
             continue
-        most, among, hashed = ((MOST_GENERIC_IN_VARIANT, "in a variant", {"HashMap"}) if in_variant else
-                               (MOST_GENERIC, f"among more than {LONGEST_ROW} fields", HASHED))
+        most, among, hashed = ((MOST_GENERIC_IN_VARIANT, f"in a variant {why}", {"HashMap"}) if in_variant else
+                               (MOST_GENERIC, f"among more than {LONGEST_ROW} {why}", HASHED))
         for f in read:
             if holds(f.type, hashed, homes):
                 yield Refused(f.line, f"`{f.type.rust()}` is or holds a {' or a '.join(sorted(hashed))}, which is not covered {among} where a type"
@@ -90,6 +91,19 @@ def check_generic(item: Item, homes: Homes) -> Iterator[Refused]:
         for f in generic[most:]:
             yield Refused(f.line, f"more than {most} fields of types with parameters are not covered {among}: hold some in a struct",
                           f"{where}.{f.name}")
+
+
+def taken_apart(item: Item, data: Data) -> str:
+    """Why the values of a struct or a variant are not made of a row at once, or nothing where they are."""
+    if any(not f.read for f in data.leaves()):
+        return "of which some fields are not read" if item.variants and data.named else "fields of which some are not read"
+    if not item.variants:
+        return ""
+    if not data.named:
+        return "values of a variant"
+    if "untagged" in item.serde or "content" in item.serde:
+        return f"of an enum that is {'untagged' if 'untagged' in item.serde else 'tagged adjacently'}"
+    return "that has a field of a parameter's type" if data.steps() else ""
 
 
 def holds(t: Type, names: Set[str], homes: Homes) -> bool:

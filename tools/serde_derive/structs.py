@@ -61,6 +61,7 @@ class StructWriter:
         self.item, self.fields, self.whole = item, item.data.leaves(), item.itself()
         self.sends, self.reads = "Serialize" in item.derives, "Deserialize" in item.derives
         self.holder = FlattenedHolder(item) if item.flattens() else Holder("Struct", [item.wire], item.data, item.owner)
+        self.holder.of_struct = True
         self.values = [f"p.{in_term(f.name)}" for f in self.fields]
         self.sees = [f"(λ q. q.{in_term(f.name)})" for f in self.fields]
 

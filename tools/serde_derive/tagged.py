@@ -7,7 +7,7 @@ from .cases import pascal
 from .declarations import Data, Field, Item, Refused, Variant
 from .entries import Entries, row_entries
 from .enums import EnumWriter, sent_names
-from .holder import Holder
+from .holder import MADE_OF, Holder
 from .literals import list_impl, name_call, name_method, name_term, opened
 from .text import DESERIALIZE, bare, elim, function, ghost, together
 from .types import MOST_IN_TUPLE, nest
@@ -83,7 +83,9 @@ class TaggedWriter(EnumWriter):
 
     def holder(self, v: Variant) -> TaggedHolder:
         """What stands beside the tag of a variant."""
-        return TaggedHolder(self.item, self.tag, v, beside_tag(v) if v.sent or v.read else [])
+        holder = TaggedHolder(self.item, self.tag, v, beside_tag(v) if v.sent or v.read else [])
+        holder.of_enum = not v.beside
+        return holder
 
     def names_list(self) -> List[str]:
         known = [list_impl(self.list, "The names of its variants.", [v.known for v, _ in self.readable()])]
@@ -105,6 +107,8 @@ class TaggedWriter(EnumWriter):
         elif v.beside:
             places = v.data.places()
             read = [f"let {places[0]} = {holder.reader}(alloc, fields)?;"]
+        elif holder.made_from:
+            return [f"{MADE_OF}::read_made_from::<{holder.run(0)}, Self>(alloc, fields)"]
         else:
             places = holder.read_places()
             read = holder.variant_taken(places)

@@ -1,6 +1,6 @@
 //! Types that `tools/derive` wrote: arrays, fields with attributes, flattened ones, those that
-//! functions of another module read and send, types that are converted, and a type that contains
-//! itself.
+//! functions of another module read and send, types that are converted, types with parameters, and a
+//! type that contains itself.
 #![tactic(auto)]
 
 pub mod arrays;
@@ -9,6 +9,7 @@ pub mod borrowed;
 pub mod by_functions;
 pub mod conversions;
 pub mod converted;
+pub mod generic;
 pub mod left_over;
 pub mod nested;
 pub mod rules;

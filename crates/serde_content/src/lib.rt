@@ -44,6 +44,7 @@ mod fields_sent;
 mod flattened_sent;
 pub mod laws;
 mod literals;
+mod made_of;
 mod name_lists;
 mod one_of;
 mod own_functions;

@@ -1,0 +1,37 @@
+//! Types with parameters: what they hold is read at once.
+
+use serde::{Deserialize, Serialize};
+use std::collections::HashMap;
+
+/// A page of what a search found.
+#[derive(Serialize, Deserialize)]
+pub struct Hits<T> {
+    pub query: String,
+    pub items: Vec<T>,
+    pub by_name: HashMap<String, T>,
+    pub best: Option<Box<T>>,
+    pub page: u16,
+    pub pages: u16,
+    pub exact: bool,
+    pub took: u32,
+    pub left: u8,
+}
+
+/// The places of a row, and who has them.
+#[derive(Serialize, Deserialize)]
+pub struct Row<T>(pub Vec<T>, pub u8, pub u8, pub u8, pub u8, pub u8, pub u8, pub u8, pub bool);
+
+/// What happened.
+#[derive(Serialize, Deserialize)]
+pub enum Event<T> {
+    Made { of: HashMap<String, T>, count: u8 },
+    Lost,
+}
+
+/// A message of some sort.
+#[derive(Serialize, Deserialize)]
+#[serde(tag = "kind")]
+pub enum Notice<T> {
+    Text { to: Vec<T>, copies: HashMap<String, T> },
+    Ping,
+}
