@@ -3,56 +3,65 @@
 
 use check_fields::generic::{Event, Hits, Notice, Row};
 use check_written::{shown, value_of};
-use serde_content::Deserializer;
-use serde_content::de::Deserialize;
 use serde_content::ser::Serialize;
+use serde_content::{Deserializer, Result as Answer};
 use std::alloc::Global;
 use std::process::Abort;
 use std::test::Fail;
 
-/// What is written so must be read as a `T` that is sent as what prints so.
-fn check<'de, T: Deserialize<'de> + Serialize>(
-    rt: &impl Abort,
-    alloc: Global,
-    written: &str,
-    wanted: &str,
-) -> Result<(), Fail> {
-    let from = Deserializer::new(value_of(alloc, written)?).coerce_numbers();
-    let read: T = from.deserialize(alloc)?;
-    let text = shown(alloc, &read)?;
+/// What reads what is written so.
+fn reader(alloc: Global, written: &str) -> Answer<Deserializer<'static, 'static>> {
+    Ok(Deserializer::new(value_of(alloc, written)?).coerce_numbers())
+}
+
+/// What was read must be sent as what prints so.
+fn check<T: Serialize>(rt: &impl Abort, alloc: Global, read: &T, wanted: &str) -> Result<(), Fail> {
+    let text = shown(alloc, read)?;
     assert!(rt; text.as_str() == wanted, "{text}, not {wanted}");
     Ok(())
 }
 
 #[test]
 fn many_fields_are_read_in_any_order(rt: HostRuntime) -> Result<(), Fail> {
+    let alloc = rt.alloc();
     let written = "{ left: 0, took: 12, exact: true, pages: 4, page: 3, best: 7, \
         by_name: { x: 9 }, items: [ 5, 6 ], query: who }";
     let wanted = "Hits { query: \"who\", items: [5u8, 6u8], by_name: { \"x\": 9u8 }, \
         best: Some(7u8), page: 3u16, pages: 4u16, exact: true, took: 12u32, left: 0u8 }";
-    check::<Hits<u8>>(&rt, rt.alloc(), written, wanted)
+    let hits: Hits<u8> = reader(alloc, written)?.deserialize(alloc)?;
+    check(&rt, alloc, &hits, wanted)
 }
 
 #[test]
 fn many_values_are_read_by_place(rt: HostRuntime) -> Result<(), Fail> {
+    let alloc = rt.alloc();
     let written = "[ [ -1, 2 ], 1, 2, 3, 4, 5, 6, 7, false ]";
     let wanted = "Row([-1i16, 2i16], 1u8, 2u8, 3u8, 4u8, 5u8, 6u8, 7u8, false)";
-    check::<Row<i16>>(&rt, rt.alloc(), written, wanted)
+    let row: Row<i16> = reader(alloc, written)?.deserialize(alloc)?;
+    check(&rt, alloc, &row, wanted)
 }
 
 #[test]
 fn variants_are_read_by_their_tag(rt: HostRuntime) -> Result<(), Fail> {
     let alloc = rt.alloc();
     let wanted = "Event::Made { of: { \"x\": 2u8 }, count: 3u8 }";
-    check::<Event<u8>>(&rt, alloc, "{ Made: { count: 3, of: { x: 2 } } }", wanted)?;
-    check::<Event<u8>>(&rt, alloc, "Lost", "Event::Lost")
+    let made: Event<u8> = reader(alloc, "{ Made: { count: 3, of: { x: 2 } } }")?.deserialize(
+        alloc,
+    )?;
+    check(&rt, alloc, &made, wanted)?;
+    let lost: Event<u8> = reader(alloc, "Lost")?.deserialize(alloc)?;
+    check(&rt, alloc, &lost, "Event::Lost")
 }
 
 #[test]
 fn a_field_tags_variants_too(rt: HostRuntime) -> Result<(), Fail> {
     let alloc = rt.alloc();
-    let written = "{ copies: { Bo: 2 }, kind: Text, to: [ 1 ] }";
     let wanted = "Notice { kind: \"Text\", to: [1u64], copies: { \"Bo\": 2u64 } }";
-    check::<Notice<u64>>(&rt, alloc, written, wanted)?;
-    check::<Notice<u64>>(&rt, alloc, "{ kind: Ping }", "Notice { kind: \"Ping\" }")
+    let text: Notice<u64> = reader(
+        alloc,
+        "{ copies: { Bo: 2 }, kind: Text, to: [ 1 ] }",
+    )?.deserialize(alloc)?;
+    check(&rt, alloc, &text, wanted)?;
+    let ping: Notice<u64> = reader(alloc, "{ kind: Ping }")?.deserialize(alloc)?;
+    check(&rt, alloc, &ping, "Notice { kind: \"Ping\" }")
 }
