@@ -490,7 +490,8 @@ def generics() -> Dict[str, str]:
         "generic_whole_defaults": f"{BOTH}\npub struct Tried<T> {{ {' '.join(f'#[serde(default)] f{i}: Vec<T>,' for i in range(10))} }}",
         **{f"generic_whole_in_{sort}": f"{BOTH}{tag}\npub enum Tried<T, U> {{ A {named((held * 3)[:count]).replace('pub ', '')}, B, C {{ a: Vec<T>, b: HashMap<u8, u8> }} }}"
            for sort, tag, count in [("variant", "", 8), ("variant_3", "", 3), ("variant_20", "", 20),
-                                    ("internal", '\n#[serde(tag = "kind")]', 8), ("internal_12", '\n#[serde(tag = "kind")]', 12)]},
+                                    ("internal", '\n#[serde(tag = "kind")]', 8), ("internal_12", '\n#[serde(tag = "kind")]', 12),
+                                    ("untagged", "\n#[serde(untagged)]", 8), ("untagged_12", "\n#[serde(untagged)]", 12)]},
         "generic_whole_in_all": f"{ALL}\npub enum Tried<T> {{ A {{ a: HashMap<String, Vec<T>>, b: i64, c: String }}, B(u8), C {{ d: Option<Box<T>>, e: i8 }} }}",
         "generic_whole_flattened": f"{BOTH}\npub struct Inner {{ pub x: u8, pub y: String }}\n\n{BOTH}\npub struct Tried<T> {{ {' '.join(f'f{i}: Vec<T>,' for i in range(10))} #[serde(flatten)] g: Inner }}",
         **{f"generic_sent_{count}": f"{SENT}\npub struct Tried<T, U> {named((sent + held)[:count])}" for count in (7, 8, 16)},

@@ -1593,12 +1593,12 @@ enum B { X([[(); 2]; 3], u8), Y([Option<()>; 2]) }
 
 // 2: A.d: `HashSet<u8>` is or holds a HashMap or a HashSet, which is not covered among more than 8 fields of which some are not read where a type has parameters: hold a BTreeMap or a BTreeSet
 // 2: A.c: more than 2 fields of types with parameters are not covered among more than 8 fields of which some are not read: hold some in a struct
-// 4: B.X.f: more than 5 fields of types with parameters are not covered in a variant of an enum that is untagged: hold some in a struct
-// 4: B.Z.b: `Vec<HashMap<u8, T>>` is or holds a HashMap, which is not covered in a variant of an enum that is untagged where a type has parameters: hold a BTreeMap or a BTreeSet
-// 4: B.W.a: `C` is or holds a HashMap, which is not covered in a variant of an enum that is untagged where a type has parameters: hold a BTreeMap or a BTreeSet
+// 4: B.X.f: more than 5 fields of types with parameters are not covered in a variant of which some fields are not read: hold some in a struct
+// 4: B.Z.b: `Vec<HashMap<u8, T>>` is or holds a HashMap, which is not covered in a variant of which some fields are not read where a type has parameters: hold a BTreeMap or a BTreeSet
+// 4: B.W.a: `C` is or holds a HashMap, which is not covered in a variant of which some fields are not read where a type has parameters: hold a BTreeMap or a BTreeSet
 #[derive(Deserialize)]
 struct A<T> { a: Vec<T>, b: Box<T>, c: Vec<T>, d: HashSet<u8>, e: u8, w: u8, x: u8, y: u8, z: u8, #[serde(skip)] g: Vec<T> }
 #[derive(Serialize, Deserialize)]
-#[serde(untagged)] enum B<T> { X { a: Vec<T>, b: Box<T>, c: Vec<T>, d: Vec<T>, e: Vec<T>, f: Vec<T> }, Y { a: C, b: u8 }, Z { a: u8, b: Vec<HashMap<u8, T>> }, W { a: C, b: Vec<T> }, V(HashMap<u8, T>) }
+enum B<T> { X { a: Vec<T>, b: Box<T>, c: Vec<T>, d: Vec<T>, e: Vec<T>, f: Vec<T>, #[serde(skip)] g: u8 }, Y { a: C, b: u8 }, Z { a: u8, b: Vec<HashMap<u8, T>>, #[serde(skip)] g: u8 }, W { a: C, b: Vec<T>, #[serde(skip)] g: u8 }, V(HashMap<u8, T>) }
 #[derive(Serialize, Deserialize)]
 struct C { a: HashMap<u8, String> }

@@ -101,8 +101,8 @@ def taken_apart(item: Item, data: Data) -> str:
         return ""
     if not data.named:
         return "values of a variant"
-    if "untagged" in item.serde or "content" in item.serde:
-        return f"of an enum that is {'untagged' if 'untagged' in item.serde else 'tagged adjacently'}"
+    if "content" in item.serde:
+        return "of an enum that is tagged adjacently"
     return "that has a field of a parameter's type" if data.steps() else ""
 
 
