@@ -1,4 +1,5 @@
-//! Values that are made of all their fields or parts at once: proofs of reading them don't look into what is read.
+//! Values that are made of all their fields or parts at once: proofs of reading them don't look
+//! into what is read.
 
 ghost use Rattle.std.specs.Prelude.{◌≡◌, IsOk};
 ghost use Rattle.content_de.specs.Accesses.ByName.{fields_left};
