@@ -1554,7 +1554,7 @@ fn big() -> Duration { Duration::from_secs(18446744073709551616) }
 
 // 2: A.X.0: a field of a parameter's type is not covered beside `BTreeMap<u8, BTreeMap<u8, T>>` in a variant: hold `Box<T>`
 // 2: A.Z.x: a field of a parameter's type is not covered beside `HashMap<u8, T>` in a variant: hold `Box<T>`
-// 2: A.Z.y: `HashMap<u8, T>` is or holds a HashMap, which is not covered in a variant that has a field of a parameter's type where a type has parameters: hold a BTreeMap or a BTreeSet
+// 2: A.Z.y: `HashMap<u8, T>` is or holds a HashMap, which is not covered beside types with parameters in a variant that has a field of a parameter's type: hold a BTreeMap or a BTreeSet
 // 4: B.Y.0: `BTreeSet<PathBuf>` is not covered in a type that contains itself: hold it in another struct
 // 6: C.0: a field of a parameter's type is not covered beside `Option<PathBuf>` by place: hold `Box<T>`
 #[derive(Deserialize)]
@@ -1591,11 +1591,11 @@ struct A { x: [(); 2], y: [[char; 2]; 3], z: [char; 2], w: [[u8; 2]; 2], v: Vec<
 #[derive(Serialize, Deserialize)]
 enum B { X([[(); 2]; 3], u8), Y([Option<()>; 2]) }
 
-// 2: A.d: `HashSet<u8>` is or holds a HashMap or a HashSet, which is not covered among more than 8 fields of which some are not read where a type has parameters: hold a BTreeMap or a BTreeSet
+// 2: A.d: `HashSet<u8>` is or holds a HashMap or a HashSet, which is not covered beside types with parameters among more than 8 fields of which some are not read: hold a BTreeMap or a BTreeSet
 // 2: A.c: more than 2 fields of types with parameters are not covered among more than 8 fields of which some are not read: hold some in a struct
 // 4: B.X.f: more than 5 fields of types with parameters are not covered in a variant of which some fields are not read: hold some in a struct
-// 4: B.Z.b: `Vec<HashMap<u8, T>>` is or holds a HashMap, which is not covered in a variant of which some fields are not read where a type has parameters: hold a BTreeMap or a BTreeSet
-// 4: B.W.a: `C` is or holds a HashMap, which is not covered in a variant of which some fields are not read where a type has parameters: hold a BTreeMap or a BTreeSet
+// 4: B.Z.b: `Vec<HashMap<u8, T>>` is or holds a HashMap, which is not covered beside types with parameters in a variant of which some fields are not read: hold a BTreeMap or a BTreeSet
+// 4: B.W.a: `C` is or holds a HashMap, which is not covered beside types with parameters in a variant of which some fields are not read: hold a BTreeMap or a BTreeSet
 #[derive(Deserialize)]
 struct A<T> { a: Vec<T>, b: Box<T>, c: Vec<T>, d: HashSet<u8>, e: u8, w: u8, x: u8, y: u8, z: u8, #[serde(skip)] g: Vec<T> }
 #[derive(Serialize, Deserialize)]

@@ -17,7 +17,7 @@ pub struct Hits<T> {
     pub left: u8,
 }
 
-/// The places of a row, and who has them.
+/// A row of a table: its cells, seven counts, and whether it is hidden.
 #[derive(Serialize, Deserialize)]
 pub struct Row<T>(pub Vec<T>, pub u8, pub u8, pub u8, pub u8, pub u8, pub u8, pub u8, pub bool);
 

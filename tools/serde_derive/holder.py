@@ -177,7 +177,7 @@ class Holder:
     @property
     def crowded(self) -> bool:
         """Whether a variant has more values, read or not, or values of more types, than a proof can take that looks into all. One
-        with parameters is none: a proof doesn't find the values of a struct that has them."""
+        with parameters is none: it is `made_from` a row, or its values are read one by one."""
         if not self.of_variant or any(f.type.parameters() for f in self.all):
             return False
         return len(self.all) > LONGEST_HELD or sum(f.type.weight() for f in self.all) > MOST_TYPES
@@ -488,8 +488,9 @@ class Holder:
         given = "".join(f", {place}: {f.type.rust()}" for f, place in self.unread())
         body = "\n".join(apart + [made])
         if self.made_of or self.made_from:
-            row = self.run_term([f"z.{in_term(f.name)}" for f in self.fields])
-            trait, told = ("MadeOf", f"λ z. {row}") if self.made_of else ("MadeFrom", f"λ row. {term(seen)}")
+            trait, told = "MadeFrom", f"λ row. {term(seen)}"
+            if self.made_of:
+                trait, told = "MadeOf", f"λ z. {self.run_term([f'z.{in_term(f.name)}' for f in self.fields])}"
             make = function(f"fn make(row: {self.run(0)}) -> {result.rust()}", *apart, made)
             return [f"impl{angled(*result.parameters())} {MADE_OF}::{trait}<{self.run(0)}> for {result.rust()} {{\n"
                     f"{ghost(snake(trait), told)}\n\n{make}\n}}\n"]

@@ -10,7 +10,8 @@ from .types import ARRAY, BORROWED, FLOATS, HASHED, LEAVES, STATIC, Type
 
 # rows are refused by the checker in which more values stand before one of a parameter's type, or entries where some are flattened
 MOST_BEFORE, MOST_BEFORE_FLATTENED = 6, 4
-# so many fields of types with parameters are read among more than a row has, and in a variant: of more, proofs are not found
+# so many fields of types with parameters are read that are taken apart, among more than a row has and in a variant: of more,
+# proofs are not found
 MOST_GENERIC, MOST_GENERIC_IN_VARIANT = 2, 5
 
 
@@ -86,8 +87,8 @@ def check_generic(item: Item, homes: Homes) -> Iterator[Refused]:
                                (MOST_GENERIC, f"among more than {LONGEST_ROW} {why}", HASHED))
         for f in read:
             if holds(f.type, hashed, homes):
-                yield Refused(f.line, f"`{f.type.rust()}` is or holds a {' or a '.join(sorted(hashed))}, which is not covered {among} where a type"
-                              " has parameters: hold a BTreeMap or a BTreeSet", f"{where}.{f.name}")
+                yield Refused(f.line, f"`{f.type.rust()}` is or holds a {' or a '.join(sorted(hashed))}, which is not covered beside types with"
+                              f" parameters {among}: hold a BTreeMap or a BTreeSet", f"{where}.{f.name}")
         for f in generic[most:]:
             yield Refused(f.line, f"more than {most} fields of types with parameters are not covered {among}: hold some in a struct",
                           f"{where}.{f.name}")

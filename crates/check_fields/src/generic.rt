@@ -303,7 +303,7 @@ impl<'de, T: Deserialize<'de>> Deserialize<'de> for Hits<T> {
     }
 }
 
-/// The places of a row, and who has them.
+/// A row of a table: its cells, seven counts, and whether it is hidden.
 #[derive(Drop)]
 pub struct Row<T>(
     pub Vec<T>,
