@@ -15,7 +15,8 @@ pub use crate::fields_sent::{
 };
 pub use crate::flattened_sent::{SendAll, SendEntries, SendRest};
 pub use crate::made_of::{
-    MadeFrom, MadeOf, read_made, read_made_from, read_made_of_parts, read_variant_made_from,
+    MadeFrom, MadeOf, read_made, read_made_from, read_made_of_parts, read_tuple_variant_made_from,
+    read_variant_made_from,
 };
 pub use crate::name_lists::{Names, no_such_variant, variant_index};
 pub use crate::one_of::{

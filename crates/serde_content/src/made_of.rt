@@ -7,6 +7,7 @@ ghost use Rattle.content_de.specs.Accesses.Enum.{variant_view};
 ghost use Rattle.content_de.specs.Accesses.Seq.{seq_view};
 ghost use Rattle.content_de.specs.Reads.ByName.{read_by_name, ReadByName};
 ghost use Rattle.content_de.specs.Reads.Own.{struct_variant_refusal, StructVariantGives};
+ghost use Rattle.content_de.specs.Reads.Own.{tuple_variant_refusal, TupleVariantGives};
 ghost use Rattle.content_de.specs.Reads.Read.{Reads};
 
 use crate::fields_read::{ReadFields, ReadParts};
@@ -86,4 +87,33 @@ pub fn read_variant_made_from<'de, 'n: 'de, K: Names, R: ReadFields<'de>, T: Mad
 {
     let fields = variant.struct_variant(alloc, K::names())?.by_name();
     read_made_from(alloc, fields)
+}
+
+/// The same of parts, by place.
+fn read_parts_made_from<'de, 'n: 'de, R: ReadParts<'de>, T: MadeFrom<R>>(
+    alloc: Global,
+    parts: Seq<'de, 'n>,
+) -> Result<T>
+    ensures { Reads (R.refusal (seq_view parts.entry))
+        (λ y. (row : R) × ((y ≡ T.made_from row) × R.gives row (seq_view parts.entry)))
+        result }
+{
+    let row = R::read(alloc, parts)?;
+    Ok(T::make(row))
+}
+
+/// Reads the values of a variant by place, and makes it of them. The errors are those of
+/// [`VariantAccess::tuple_variant`] and of the values.
+pub fn read_tuple_variant_made_from<'de, 'n: 'de, R: ReadParts<'de>, T: MadeFrom<R>>(
+    alloc: Global,
+    variant: VariantAccess<'de, 'n>,
+    len: usize,
+) -> Result<T>
+    ensures { Reads (tuple_variant_refusal R.refusal (variant_view variant.entry))
+        (λ y. (row : R) × ((y ≡ T.made_from row)
+        × TupleVariantGives (R.gives row) (variant_view variant.entry)))
+        result }
+{
+    let parts = variant.tuple_variant(alloc, len)?;
+    read_parts_made_from(alloc, parts)
 }
