@@ -81,6 +81,9 @@ def large() -> Iterator[Tuple[str, int, str]]:
     yield "1,000 structs that are flattened", 2, "".join(
         f"{derive}struct A{i} {{ x{i}: u8, #[serde(flatten)] y: A{i + 1} }}\n" for i in range(1000)) + (
         f"{derive}struct A1000 {{ z: u8 }}\n")
+    for count, status in ((100, 0), (1000, 2)):
+        yield f"{count} structs of one value that are flattened", status, f"{derive}struct A {{ #[serde(flatten)] x: A0 }}\n" + "".join(
+            f"{derive}struct A{i}(Box<A{i + 1}>);\n" for i in range(count)) + f"{derive}struct A{count} {{ y: u8 }}\n"
     yield "1,000 fields", 2, f"{derive}struct A {{\n{''.join(f'    x{i}: u8,{chr(10)}' for i in range(1000))}}}\n"
     left_out = '#[serde(skip_serializing_if = "Option::is_none")] '
     for count, status in ((64, 0), (65, 2)):
@@ -159,6 +162,10 @@ def commands(room: Path) -> Iterator[str]:
         got = command(room, *words)
         if got[:2] != (status, answer) or (stored and out.read_text() != stored):
             yield f"{' '.join(words)}: wanted {status} {answer}\nfound {got[0]} {got[1]}"
+    for word in ("ghost", "requires", "gen", "ensures", "deriving"):
+        got = command(room, "good.rs", "--module", f"model::{word}")
+        if got[0] != 2 or not got[1].endswith(f"--module model::{word}: `{word}` is a word of Rattle's: give the module another name"):
+            yield f"--module model::{word}: found {got[0]} {got[1]}"
     if out.read_text() != command(room, "good.rs")[2] or b"\r" in out.read_bytes() or "\ufeff" in out.read_text():
         yield "the module is not as it is printed, or has line ends or a mark of its declarations"
     if sorted(path.name for path in room.iterdir()) != ["bad.rs", "comments.rs", "empty.rs", "good.rs", "latin.rs", "out.rt"]:

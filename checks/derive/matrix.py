@@ -341,6 +341,12 @@ def crowded() -> Dict[str, str]:
     hashed = "(u64, Vec<isize>, HashMap<u64, Option<()>>)"
     made["crowded_wide"] = f"{ALL}\npub enum Tried {{ A {{ a: i128, b: {hashed}, c: bool, d: u32 }} }}"
     made["crowded_wide_place"] = f"{ALL}\npub enum Tried {{ A(i128, {hashed}, bool, u32), B(String) }}"
+    made["crowded_unread"] = f"{BOTH}\npub enum Tried {{ A {{ {', '.join(f'#[serde(skip)] f{i}: u8' for i in range(6))} }}, B }}"
+    made["hashed_in_variant"] = (f"{ALL}\npub enum Tried {{ A(bool, VecDeque<Option<Rc<i64>>>), B {{ a: String, b: i64, c: i64, d: u32 }},"
+                                 " C(BTreeMap<i32, u16>), D { a: HashMap<u8, i64>, b: Option<Box<str>>, c: Option<String> } }")
+    made["hashed_beside_tag"] = (f'{ALL}\n#[serde(tag = "kind")]\npub enum Tried {{ A {{ a: HashMap<u8, i64>, b: Option<Box<str>> }}, B,'
+                                 " C { a: i64, b: Vec<HashMap<String, u8>> } }")
+    made["hashed_place_in_variant"] = f"{ALL}\npub enum Tried {{ A(HashMap<u8, i64>, Option<String>), B(u8, Rc<HashMap<char, bool>>, i8) }}"
     made["crowded_wide_two"] = f"{ALL}\npub enum Tried {{ A {{ a: HashMap<String, (Vec<u64>, BTreeSet<char>, u64)>, b: bool }}, B {{ a: {wide}, b: i8 }} }}"
     return made
 
@@ -526,6 +532,20 @@ def generics() -> Dict[str, str]:
                                 f"{BOTH}\npub struct Tried {{ pub id: Id<std::time::Instant>, pub more: Vec<Id<u8>> }}",
         "generic_newtype": f"{ALL}\npub struct Tried<T>(pub Vec<T>);",
         "generic_two": f"{ALL}\npub struct Tried<K, V> {{ pub key: K, pub value: V, pub more: Vec<V> }}",
+        **{f"generic_unread_{count}": f"{BOTH}\npub struct Tried<T, U> {{ {named((held * 3)[:count])[2:-2]}, #[serde(skip)] g: Vec<T>,"
+           " #[serde(skip_deserializing)] h: u8 }" for count in (9, 20)},
+        **{f"generic_unread_place_{count}": f"{BOTH}\npub struct Tried<T, U>(#[serde(skip)] u8, {', '.join((held * 3)[:count])},"
+           " #[serde(skip)] String);" for count in (9, 20)},
+        **{f"generic_unread_in_{sort}": f"{BOTH}{tag}\npub enum Tried<T, U> {{ A {{ {named((held * 2)[:count])[2:-2].replace('pub ', '')},"
+           " #[serde(skip)] g: u8, #[serde(skip)] h: Option<Vec<T>> }, B, C { a: HashMap<u8, u8>, b: Vec<U>, #[serde(skip)] c: i8 } }"
+           for sort, tag, count in [("variant_3", "", 3), ("variant_6", "", 6), ("variant_12", "", 12),
+                                    ("internal_2", '\n#[serde(tag = "kind")]', 2), ("internal_9", '\n#[serde(tag = "kind")]', 9)]},
+        **{f"generic_place_in_variant_{count}": f"{BOTH}\npub enum Tried<T, U> {{ A({', '.join((held * 3)[:count])}), B, C(HashMap<u8, T>, u8) }}"
+           for count in (3, 9, 20)},
+        "generic_unread_place_in_variant": f"{BOTH}\npub enum Tried<T> {{ A(#[serde(skip)] u8, {', '.join(['Vec<T>', 'HashSet<u8>'] * 5)}), B(Vec<T>) }}",
+        "generic_unread_beside_own": f"{READ}\npub struct Inner<T> {{ a: Vec<T>, b: Vec<T>, c: Vec<T>, d: Vec<T> }}\n\n{READ}\npub enum Tried<T> {{"
+                                     " A { a: Vec<T>, b: Vec<T>, i: Inner<T>, #[serde(skip)] g: u8 }, B }",
+        "generic_place_all": f"{ALL}\npub enum Tried<T> {{ A(HashMap<String, Vec<T>>, i64, String), B(u8), C(Option<Box<T>>, i8) }}",
         "generic_closed": f"{ALL}\n#[serde(deny_unknown_fields)]\npub struct Tried<T> {{ pub f0: T, pub f1: Vec<T> }}",
         "generic_8": f"{ALL}\npub struct Tried<T> {named(['u8', 'String', 'Vec<T>', 'Option<u8>', 'bool', 'i32', 'Vec<u8>', 'u64'])}",
         "generic_9": f"{ALL}\npub struct Tried<T> {named(['u8', 'String', 'Vec<T>', 'Option<u8>', 'bool', 'i32', 'Vec<u8>', 'u64', 'u8'])}",
@@ -718,6 +738,10 @@ def nested() -> Dict[str, str]:
                                " D { x: Box<Tried> } }")
     made["nested_boxes"] = f"{ALL}\npub enum Tried {{ A(u64), B(Box<Tried>, Box<Tried>), C {{ x: Box<Tried>, y: Box<Tried> }} }}"
     made["nested_tree"] = f"{ALL}\npub struct Tried {{ pub x: Option<Box<Tried>>, pub y: Option<Box<Tried>> }}"
+    made["nested_crowded"] = (f"{BOTH}\npub enum Tried {{ A, B(Box<str>, Box<Tried>), C(Arc<Vec<PathBuf>>, u8, Box<HashSet<i32>>, Arc<()>),"
+                              " D { f0: HashMap<char, String> }, E { f0: Option<HashMap<u8, u8>>, f1: (u8, u8, Vec<Option<String>>) } }")
+    made["nested_crowded_tagged"] = (f'{BOTH}\n#[serde(tag = "t")]\npub enum Tried {{ A {{ x: Vec<Tried> }}, B {{ a: HashMap<u8, u8>, b: String,'
+                                     " c: u8, d: Vec<(u8, Option<String>, Vec<Box<u8>>)> } }")
     made["nested_held"] = (f"{ALL}\npub enum Other {{ A(Vec<Other>), B }}\n\n"
                            f"{ALL}\npub struct Tried {{ pub x: Other, pub y: Vec<Other>, pub z: u8 }}")
     return made

@@ -155,7 +155,7 @@ enum C { Map(BTreeMap<String, u8>), Text(String) }
 #[serde(tag = "t")]
 enum D { On, #[serde(skip)] Off }
 
-// 3: A: serde's `flatten` is covered in structs with named fields and without `deny_unknown_fields`
+// 3: A: serde's `flatten` is covered in structs with named fields and without `deny_unknown_fields`: delete one of them
 #[derive(Serialize)]
 #[serde(deny_unknown_fields)]
 struct A {
@@ -230,7 +230,7 @@ struct A {
     x: Box<u8>,
 }
 
-// 3: A: the name `\xe9` is not covered: printable ASCII but " and \ is
+// 3: A: the name `\xe9` is not covered: printable ASCII but " and \ is: write such a name, or the impls by hand
 #[derive(Serialize)]
 #[serde(rename = "é")]
 struct A(u8);
@@ -484,8 +484,8 @@ enum A { X(u8, u8, u8, u8, u8), Y { x: u8 } }
 #[serde(untagged)]
 enum B { X(u8, u8, u8, u8, u8), Y { x: u8 } }
 
-// 3: A: the name `a"b` is not covered: printable ASCII but " and \ is
-// 6: B: the name `\x00` is not covered: printable ASCII but " and \ is
+// 3: A: the name `a"b` is not covered: printable ASCII but " and \ is: write such a name, or the impls by hand
+// 6: B: the name `\x00` is not covered: printable ASCII but " and \ is: write such a name, or the impls by hand
 #[derive(Serialize)]
 #[serde(tag = "a\"b")]
 enum A { X }
@@ -581,10 +581,10 @@ struct ghost { x: u8 }
 #[derive(Serialize)]
 enum gen { X }
 
-// 2: A.0: the type `Vec` is not covered: the types that are stand in docs/OWN_TYPES.md
+// 2: A.0: `Vec` has 0 arguments here, and needs 1: write what it holds
+// 2: A.3: `Option` has 0 arguments here, and needs 1: write what it holds
 // 2: A.1: the type `std::list::Vec<u8>` is not covered: the types that are stand in docs/OWN_TYPES.md
 // 2: A.2: the type `core::u8` is not covered: hold what it is made of, as a number or a String
-// 2: A.3: the type `Option` is not covered: the types that are stand in docs/OWN_TYPES.md
 #[derive(Serialize)]
 struct A(std::vec::Vec, std::list::Vec<u8>, core::u8, Option);
 
@@ -600,7 +600,7 @@ enum PartialEq { X }
 #[serde(default)]
 struct A { x: u8 }
 
-// 3: A: serde's `default` on a container is covered on structs with named fields
+// 3: A: serde's `default` on a container is covered on structs with named fields: give its fields names, or delete it
 #[derive(Default, Deserialize)]
 #[serde(default)]
 struct A(u8, u8);
@@ -619,7 +619,7 @@ struct C { #[serde(default)] x: (u8, Box<u8>) }
 #[serde(transparent, rename = "B")]
 struct A(u8);
 
-// 3: A: serde's `transparent` is for structs of one field beside skipped ones
+// 3: A: serde's `transparent` is for structs of one field beside skipped ones: delete it, or skip all fields but one
 #[derive(Serialize)]
 #[serde(transparent)]
 struct A(u8, u8);
@@ -629,10 +629,10 @@ struct A(u8, u8);
 #[serde(transparent)]
 struct A { #[serde(default)] x: u8 }
 
-// 3: A: serde's `transparent` is for structs of one field beside skipped ones
+// 3: A: serde's `transparent` is for structs of one field beside skipped ones: delete it, or skip all fields but one
 // 6: B.x: serde's `skip_serializing_if` on a field is not covered where its struct is `transparent`: delete it
 // 6: B.y: its default is not covered: hold a number, bool, char, String, PathBuf, Duration, Option, Vec, map, set, an array or a tuple of these, or a type of your own that derives Default
-// 9: C: serde's `transparent` is for structs of one field beside skipped ones
+// 9: C: serde's `transparent` is for structs of one field beside skipped ones: delete it
 #[derive(Serialize, Deserialize)]
 #[serde(transparent)]
 struct A { x: u8, #[serde(skip_deserializing)] y: u8 }
@@ -683,7 +683,7 @@ struct A { b: B }
 #[derive(Serialize)]
 struct B { x: u8 }
 
-// 3: A: serde's `transparent` is for structs of one field beside skipped ones
+// 3: A: serde's `transparent` is for structs of one field beside skipped ones: delete it
 #[derive(Serialize)]
 #[serde(transparent)]
 enum A { B(u8) }
@@ -722,7 +722,7 @@ enum D { T { #[serde(default)] x: Box<u8> } }
 #[derive(Serialize)]
 struct E { t: u8 }
 
-// 3: A.x: the name `\xfc` is not covered: printable ASCII but " and \ is
+// 3: A.x: the name `\xfc` is not covered: printable ASCII but " and \ is: write such a name, or the impls by hand
 // 4: A.y: serde's `skip_serializing_if` so is not covered: Option::is_none is, Duration::is_zero, `is_empty` of String, Vec, VecDeque, slices, maps and sets, each on a field of its type, a function of this file that compares with one value, as `*n == 0`, and one of another module that is named from `crate` on
 // 5: A.z: two are called `y`: give one another name by `rename`
 // 6: A.u: two are called `y`: give one another name by `rename`
@@ -782,7 +782,7 @@ struct A {
 struct K(u8);
 #[derive(Serialize, Deserialize)] enum B {}
 
-// 2: A: serde's `flatten` is covered in structs with named fields and without `deny_unknown_fields`
+// 2: A: serde's `flatten` is covered in structs with named fields and without `deny_unknown_fields`: give the fields of this one names, or delete `flatten`
 // 4: C.X.b: serde's `flatten` is covered in structs with named fields and without `deny_unknown_fields`: hold such a struct in the variant
 #[derive(Serialize)]
 struct A(u8, u8, #[serde(flatten)] B);
@@ -850,7 +850,7 @@ struct A(super::super::B, self::other::B, B, Self::B, C, D);
 
 // 3: passed over: `fn f`
 // 4: passed over: `fn f`
-// 2: A.x: its default is not covered: write in this file a function `f` that gives one value, such as `8080`, `"text".to_owned()`, `Vec::new()` or a variant of an enum of this file, or name one of another module from `crate` on
+// 2: A.x: its default is not covered: write in this file one function `f` that gives one value, such as `8080`, `"text".to_owned()`, `Vec::new()` or a variant of an enum of this file, or name one of another module from `crate` on
 // 2: A.y: two are called `x`: give one another name
 #[derive(Serialize, Deserialize)]
 struct A { #[serde(default = "f")] x: u8, #[serde(alias = "x")] y: u8 }
@@ -869,7 +869,7 @@ enum B { X, #[serde(other)] Z(u8) }
 // 3: A.X: a field is called as the tag, `t`: give one of them another name
 // 5: B: two fields are called `x`: give one another name by `rename`
 // 9: D.x: serde's `default` so is not covered: write `default` alone
-// 9: D.y: serde's `rename` stands twice
+// 9: D.y: serde's `rename` stands twice: delete one of them
 #[derive(Serialize, Deserialize)]
 #[serde(tag = "t")]
 enum A { X { #[serde(alias = "t")] a: u8 }, Y { #[serde(skip)] t: u8, b: u8 }, #[serde(alias = "z")] Z, #[serde(skip)] W(u8, u8), V { #[serde(skip_deserializing)] a: u8 } }
@@ -962,7 +962,7 @@ fn here() {}
 // 3: passed over: `mod rules`
 // 6: passed over: `fn small`
 // 2: A.z: its default is not covered: write in this file a function `any` that gives one value, such as `8080`, `"text".to_owned()`, `Vec::new()` or a variant of an enum of this file, or name one of another module from `crate` on
-// 2: A.x: `rules` is a module that is passed over (line 3): import the type by its path from `crate`
+// 2: A.x: `rules` is a module that is passed over (line 3): move the function to another module, and name it from `crate` on
 // 2: A.y: `crate::types::small` is no function of another module: move it there, and name it from `crate` on
 #[derive(Serialize, Deserialize)]
 struct A { #[serde(default = "rules::one")] x: u8, #[serde(skip_serializing_if = "crate::types::small")] y: u8, #[serde(default = "any")] z: u8 }
@@ -1541,8 +1541,8 @@ struct A {
 
 // 7: passed over: `fn long`
 // 8: passed over: `fn big`
-// 4: A.x: its default is not covered: write in this file a function `long` that gives one value, such as `8080`, `"text".to_owned()`, `Vec::new()` or a variant of an enum of this file, or name one of another module from `crate` on
-// 5: A.y: its default is not covered: write in this file a function `big` that gives one value, such as `8080`, `"text".to_owned()`, `Vec::new()` or a variant of an enum of this file, or name one of another module from `crate` on
+// 4: A.x: its default is not covered, as `long` has `Duration::from_secs_f64(1.5)`: write there one value, such as `8080`, `"text".to_owned()`, `Vec::new()` or a variant of an enum of this file, or name one of another module from `crate` on
+// 5: A.y: its default is not covered, as `big` has `Duration::from_secs(18446744073709551616)`: write there one value, such as `8080`, `"text".to_owned()`, `Vec::new()` or a variant of an enum of this file, or name one of another module from `crate` on
 use std::time::Duration;
 #[derive(Serialize, Deserialize)]
 struct A {
@@ -1554,7 +1554,7 @@ fn big() -> Duration { Duration::from_secs(18446744073709551616) }
 
 // 2: A.X.0: a field of a parameter's type is not covered beside `BTreeMap<u8, BTreeMap<u8, T>>` in a variant: hold `Box<T>`
 // 2: A.Z.x: a field of a parameter's type is not covered beside `HashMap<u8, T>` in a variant: hold `Box<T>`
-// 2: A.Z.y: `HashMap<u8, T>` is or holds a HashMap, which is not covered beside types with parameters in a variant that has a field of a parameter's type: hold a BTreeMap or a BTreeSet
+// 2: A.Z.y: `HashMap<u8, T>` is or holds a HashMap, which is not covered beside a field of a parameter's type in a variant: hold a BTreeMap
 // 4: B.Y.0: `BTreeSet<PathBuf>` is not covered in a type that contains itself: hold it in another struct
 // 6: C.0: a field of a parameter's type is not covered beside `Option<PathBuf>` by place: hold `Box<T>`
 #[derive(Deserialize)]
@@ -1591,14 +1591,268 @@ struct A { x: [(); 2], y: [[char; 2]; 3], z: [char; 2], w: [[u8; 2]; 2], v: Vec<
 #[derive(Serialize, Deserialize)]
 enum B { X([[(); 2]; 3], u8), Y([Option<()>; 2]) }
 
-// 2: A.d: `HashSet<u8>` is or holds a HashMap or a HashSet, which is not covered beside types with parameters among more than 8 fields of which some are not read: hold a BTreeMap or a BTreeSet
-// 2: A.c: more than 2 fields of types with parameters are not covered among more than 8 fields of which some are not read: hold some in a struct
-// 4: B.X.f: more than 5 fields of types with parameters are not covered in a variant of which some fields are not read: hold some in a struct
-// 4: B.Z.b: `Vec<HashMap<u8, T>>` is or holds a HashMap, which is not covered beside types with parameters in a variant of which some fields are not read: hold a BTreeMap or a BTreeSet
-// 4: B.W.a: `C` is or holds a HashMap, which is not covered beside types with parameters in a variant of which some fields are not read: hold a BTreeMap or a BTreeSet
+// 2: A.x: an empty name is not covered: give one of at least a letter
+// 4: B.X: an empty name is not covered: give one of at least a letter
+#[derive(Serialize, Deserialize)]
+struct A { #[serde(rename = "")] x: u8 }
+#[derive(Serialize, Deserialize)]
+enum B { #[serde(rename(serialize = ""))] X, Y }
+
+// 4: passed over: `const N`
+// 6: passed over: `const N`
+// 7: passed over: `fn f`
+// 2: A.x: its default is not covered, as `f` has `N`: write there one value, such as `8080`, `"text".to_owned()`, `Vec::new()` or a variant of an enum of this file, or name one of another module from `crate` on
 #[derive(Deserialize)]
-struct A<T> { a: Vec<T>, b: Box<T>, c: Vec<T>, d: HashSet<u8>, e: u8, w: u8, x: u8, y: u8, z: u8, #[serde(skip)] g: Vec<T> }
+struct A { #[serde(default = "f")] x: u8 }
+#[cfg(unix)]
+const N: u8 = 1;
+#[cfg(windows)]
+const N: u8 = 2;
+fn f() -> u8 { N }
+
+// 5: passed over: `fn is_off`
+// 4: A.x: `is_off` compares a `Mode`, which does not derive PartialEq: derive it there
+#[derive(Serialize)]
+enum Mode { Off, On }
+#[derive(Serialize)]
+struct A { #[serde(skip_serializing_if = "is_off")] x: Mode }
+fn is_off(m: &Mode) -> bool { matches!(m, Mode::Off) }
+
+// 5: C: `C` contains itself, which is not covered beside `transparent`: write its impls by hand
+#[derive(Deserialize)]
+struct A { a: u8, #[serde(flatten)] c: Box<C> }
+#[derive(Deserialize)]
+#[serde(transparent)]
+struct C { d: Box<C> }
+
+// 4: C: `C` contains itself, which is not covered in a struct without named fields: name them
 #[derive(Serialize, Deserialize)]
-enum B<T> { X { a: Vec<T>, b: Box<T>, c: Vec<T>, d: Vec<T>, e: Vec<T>, f: Vec<T>, #[serde(skip)] g: u8 }, Y { a: C, b: u8 }, Z { a: u8, b: Vec<HashMap<u8, T>>, #[serde(skip)] g: u8 }, W { a: C, b: Vec<T>, #[serde(skip)] g: u8 }, V(HashMap<u8, T>) }
+struct A { a: u8, #[serde(flatten)] c: Box<C> }
 #[derive(Serialize, Deserialize)]
-struct C { a: HashMap<u8, String> }
+struct C(Option<Box<C>>);
+
+// 5: C: `C` contains itself, which is not covered beside `untagged`: write its impls by hand
+#[derive(Serialize)]
+struct A { a: u8, #[serde(flatten)] c: C }
+#[derive(Serialize)]
+#[serde(untagged)]
+enum C { Map(BTreeMap<String, u8>), More(Box<C>) }
+
+// 4: W: `W` contains itself, which is not covered in a struct without named fields: name them
+#[derive(Deserialize)]
+struct A<T> { a: T, #[serde(flatten)] b: Option<W<T>> }
+#[derive(Deserialize)]
+struct W<T>(Box<W<Vec<T>>>);
+
+// 2: C.d: `D` has 0 arguments here, and its parameters are: T
+// 2: C: `C` contains itself, which is not covered through `D`: write its impls by hand
+// 4: D: `D` contains itself, which is not covered through `C`: write its impls by hand
+#[derive(Deserialize)]
+struct C { a: i64, #[serde(flatten)] d: Option<Box<D>> }
+#[derive(Deserialize)]
+enum D<T> { X { c: C }, Y { t: T } }
+
+// 1: Port: `#[cfg(unix)]` is not covered, as the module is written once for all: delete it, or move what it is about to a file of its own
+// 5: Port.handle: the type `Handle` is not covered: declare it in this file, or name it by its full path
+#[cfg(unix)]
+#[derive(Serialize)]
+struct Port { fd: u8 }
+#[derive(PartialEq, Eq, Serialize, Deserialize)]
+struct Port { handle: Handle }
+#[derive(Deserialize)]
+struct Holder { p: Vec<Port> }
+
+// 5: Unit: serde's `transparent` is for structs of one field beside skipped ones: delete it
+#[derive(Deserialize)]
+struct F { #[serde(flatten)] x: Box<Unit> }
+#[derive(Deserialize)]
+#[serde(transparent)]
+struct Unit;
+
+// 3: passed over: `fn some`
+// 2: A.d: `Option` has 0 arguments here, and needs 1: write what it holds
+// 2: A.e: `HashMap<u8>` has 1 arguments here, and needs 2: write what it holds
+#[derive(Deserialize)]
+struct A { #[serde(default = "some")] d: Option, e: HashMap<u8> }
+fn some() -> Option { Some(1) }
+
+// 2: A.A.x: serde's `"u8"` on a field is not covered: delete it, or write the impls by hand
+// 4: A.1: `Option` has 0 arguments here, and needs 1: write what it holds
+#[derive(Deserialize)]
+enum A { A { #[serde("u8")] x: Box<A> } }
+#[derive(Deserialize)]
+struct A(u8, Option);
+
+// 2: A.x: `HashMap<String, u8, ahash::RandomState>` is not covered, as there is one hasher alone: delete `ahash::RandomState`
+// 2: A.y: `HashSet<u8, S>` is not covered, as there is one hasher alone: delete `S`
+// 2: A.z: `Vec<u8, Global>` is not covered, as there is one allocator alone: delete `Global`
+#[derive(Deserialize)]
+struct A { x: HashMap<String, u8, ahash::RandomState>, y: HashSet<u8, S>, z: Vec<u8, Global> }
+
+// 3: passed over: `mod date_format`
+// 4: passed over: `mod defaults`
+// 2: A.v: `date_format` is a module that is passed over (line 3): import the type by its path from `crate`
+// 2: A.x: `date_format` is a module that is passed over (line 3): move the function to another module, and name it from `crate` on
+// 2: A.y: `defaults` is a module that is passed over (line 4): move the function to another module, and name it from `crate` on
+// 2: A.z: `defaults` is a module that is passed over (line 4): move the function to another module, and name it from `crate` on
+#[derive(Serialize, Deserialize)]
+struct A { #[serde(with = "date_format")] x: u8, #[serde(default = "defaults::port")] y: u8, #[serde(skip_serializing_if = "defaults::none")] z: u8, v: date_format::T }
+mod date_format { pub fn deserialize() {} }
+mod defaults;
+
+// 4: passed over: `impl Default for A`
+// 9: passed over: `fn default_port`
+// 17: passed over: `impl Default for B`
+// 21: passed over: `impl Default for C`
+// 31: passed over: `fn two`
+// 35: passed over: `fn one`
+// 3: A.port: its default is not covered, as `A::default` has `default_port()`: write there one value, such as `8080`, `"text".to_owned()`, `Vec::new()` or a variant of an enum of this file, or above the field `default = ".."` with the path of a function of another module
+// 3: A.level: its default is not covered, as `A::default` has `Level::default()`: write there one value, such as `8080`, `"text".to_owned()`, `Vec::new()` or a variant of an enum of this file, or above the field `default = ".."` with the path of a function of another module
+// 3: A.n: its default is not covered, as `A::default` has `N{x: 1}`: write there one value, such as `8080`, `"text".to_owned()`, `Vec::new()` or a variant of an enum of this file, or above the field `default = ".."` with the path of a function of another module
+// 3: A.x: its default is not covered, as `A::default` has `vec![1]`: write there one value, such as `8080`, `"text".to_owned()`, `Vec::new()` or a variant of an enum of this file, or above the field `default = ".."` with the path of a function of another module
+// 16: B: its default is not covered, as `B::default` has `..Default::default()`: write each field there as `name: value`
+// 20: C: its default is not covered, as `C::default` has `Self::new()`: write there `C { .. }` with one value for each field, such as `8080`, `"text".to_owned()`, `Vec::new()` or a variant of an enum of this file
+// 24: D: its default is not covered: write in this file one function `make` whose body is `D { .. }` with one value for each field, such as `8080`, `"text".to_owned()`, `Vec::new()` or a variant of an enum of this file
+// 27: E: its default is not covered: write in this file one function whose body is `E { .. }` with one value for each field, such as `8080`, `"text".to_owned()`, `Vec::new()` or a variant of an enum of this file
+// 30: F: its default is not covered, as `two` has `let x = 1; F{x, y: 2}`: write there `F { .. }` with one value for each field, such as `8080`, `"text".to_owned()`, `Vec::new()` or a variant of an enum of this file
+// 34: G.y: its default is not covered, as `one` has none: write there one value, such as `8080`, `"text".to_owned()`, `Vec::new()` or a variant of an enum of this file, or above the field `default = ".."` with the path of a function of another module
+#[derive(Deserialize)]
+#[serde(default)]
+struct A { port: u16, level: Level, n: N, #[serde(skip_deserializing)] x: Vec<u8>, name: String }
+impl Default for A {
+    fn default() -> Self {
+        Self { port: default_port(), level: Level::default(), n: N { x: 1 }, x: vec![1], name: String::new() }
+    }
+}
+fn default_port() -> u16 { 80 }
+#[derive(Deserialize, Default)]
+enum Level { #[default] Low, High }
+#[derive(Deserialize, Default)]
+struct N { x: u8 }
+#[derive(Deserialize)]
+#[serde(default)]
+struct B { x: u16, y: u8 }
+impl Default for B { fn default() -> Self { Self { x: 80, ..Default::default() } } }
+#[derive(Deserialize)]
+#[serde(default)]
+struct C { x: u16, y: u8 }
+impl Default for C { fn default() -> Self { Self::new() } }
+#[derive(Deserialize)]
+#[serde(default = "make")]
+struct D { x: u16, y: u8 }
+#[derive(Deserialize)]
+#[serde(default = "crate::other::make")]
+struct E { x: u16 }
+#[derive(Deserialize)]
+#[serde(default = "two")]
+struct F { x: u16, y: u8 }
+fn two() -> F { let x = 1; F { x, y: 2 } }
+#[derive(Deserialize)]
+#[serde(default = "one")]
+struct G { x: u16, y: u8 }
+fn one() -> G { G { x: 1 } }
+
+// 7: C: serde's `default` by `Default::default` is not covered: write `default` alone
+#[derive(Deserialize)]
+struct A { #[serde(default = "Default::default")] x: B, #[serde(default = "std::default::Default::default")] y: B, #[serde(default = "Default::default")] z: u8 }
+#[derive(Deserialize, Default)]
+enum B { #[default] X, Y }
+#[derive(Deserialize)]
+#[serde(default = "Default::default")]
+struct C { x: u8 }
+
+// 3: passed over: `fn three`
+// 2: A.x: `std::vec::Vec::with` is not covered as a default of `Vec<u8>`: write in this file a function that gives one value, such as `8080`, `"text".to_owned()`, `Vec::new()` or a variant of an enum of this file, or name one of another module from `crate` on
+// 2: A.y: `std::collections::BTreeMap::new` is not covered as a default of `HashMap<u8, u8>`: write in this file a function that gives one value, such as `8080`, `"text".to_owned()`, `Vec::new()` or a variant of an enum of this file, or name one of another module from `crate` on
+// 2: A.z: its default is not covered, as `three` has `return 1; return 2;`: write there one value, such as `8080`, `"text".to_owned()`, `Vec::new()` or a variant of an enum of this file, or name one of another module from `crate` on
+#[derive(Deserialize)]
+struct A { #[serde(default = "std::vec::Vec::with")] x: Vec<u8>, #[serde(default = "std::collections::BTreeMap::new")] y: HashMap<u8, u8>, #[serde(default = "three")] z: u8 }
+fn three() -> u8 { return 1; return 2; }
+
+// 2: A.x: it is read by the name `x` already: delete the alias
+// 2: A.y: it is read by the name `b` already: delete the alias
+// 2: A.z: two are called `y`: give one another name
+// 4: B.X: it is read by the name `X` already: delete the alias
+// 4: B.Y: it is read by the name `b` already: delete the alias
+// 4: B.Z: two are called `Y`: give one another name
+#[derive(Deserialize)]
+struct A { #[serde(alias = "x")] x: u8, #[serde(alias = "b", alias = "b")] y: u8, #[serde(alias = "y")] z: u8 }
+#[derive(Deserialize)]
+enum B { #[serde(alias = "X")] X, #[serde(alias = "b", alias = "b")] Y, #[serde(alias = "Y")] Z }
+
+// 3: A: serde's `flatten` is covered in structs with named fields and without `deny_unknown_fields`: delete one of them
+// 7: C: serde's `flatten` is covered in structs with named fields and without `deny_unknown_fields`: give the fields of this one names, or delete `flatten`
+// 10: D: serde's `transparent` is for structs of one field beside skipped ones: delete it, or skip all fields but one
+// 13: E: serde's `default` on a container is covered on structs with named fields: delete it
+// 16: F: serde's `default` on a container is covered on structs with named fields: delete it
+// 18: G.x: the name `a\nb` is not covered: printable ASCII but " and \ is: write such a name, or the impls by hand
+// 18: G.y: an empty name is not covered: give one of at least a letter
+// 18: G.z: serde's `default` stands twice: delete one of them
+#[derive(Deserialize)]
+#[serde(deny_unknown_fields)]
+struct A { #[serde(flatten)] x: B }
+#[derive(Deserialize)]
+struct B { x: u8 }
+#[derive(Deserialize)]
+struct C(#[serde(flatten)] B);
+#[derive(Deserialize)]
+#[serde(transparent)]
+struct D { x: u8, y: u8, #[serde(skip)] z: u8 }
+#[derive(Deserialize)]
+#[serde(default)]
+enum E { X }
+#[derive(Deserialize, Default)]
+#[serde(default)]
+struct F;
+#[derive(Deserialize)]
+struct G { #[serde(rename = "a\nb")] x: u8, #[serde(rename = "")] y: u8, #[serde(default, default)] z: u8 }
+
+// 4: passed over: `impl<T> Default for A<T>`
+// 3: A: serde's `default` on a container is covered where it derives Default, as an impl on a type with parameters is not read: derive that, or write `default` on each field
+#[derive(Deserialize)]
+#[serde(default)]
+struct A<T> { x: Vec<T>, y: u8 }
+impl<T> Default for A<T> { fn default() -> Self { A { x: Vec::new(), y: 1 } } }
+
+// 3: A: its conversions stand in another module, which can't name `A`: write `pub(crate)` before that
+// 3: A: its conversions stand in another module, which can't make `A`, as it doesn't see its field `0`: write `pub(crate)` before that
+// 6: B: its conversions stand in another module, which can't name `D`: write `pub(crate)` before that
+// 6: B: its conversions stand in another module, which can't make `B`, as it doesn't see its fields `x`, `z`: write `pub(crate)` before each of them
+// 9: C: its conversions stand in another module, which can't name `C`, `D`: write `pub(crate)` before each of them
+// 9: C: its conversions stand in another module, which can't make `C`, as it doesn't see its field `x`: write `pub(crate)` before that
+#[derive(Serialize, Deserialize)]
+#[serde(from = "u8")]
+struct A(u8);
+#[derive(Serialize, Deserialize)]
+#[serde(from = "D", into = "u8")]
+pub struct B { x: u8, pub y: u8, z: u8 }
+#[derive(Serialize, Deserialize)]
+#[serde(from = "D")]
+struct C { x: u8 }
+#[derive(Serialize, Deserialize)]
+struct D(u8);
+
+// 2: A.x: a map with keys of type `Box<str>` is not covered: hold a Vec of pairs, or put the key into a struct that derives Ord
+// 2: A.y: `derive(Copy)` is not covered beside `Vec<Box<str>>`, which has memory of its own: delete Copy
+#[derive(Serialize, Clone, Copy)]
+struct A { x: BTreeMap<Box<str>, u8>, y: Vec<Box<str>> }
+
+// 3: passed over: `fn f`
+// 4: passed over: `fn g`
+// 8: passed over: `fn h`
+// 2: A.x: its default is not covered, as `f` has parameters: write there one value, such as `8080`, `"text".to_owned()`, `Vec::new()` or a variant of an enum of this file, or name one of another module from `crate` on
+// 2: A.y: its default is not covered: write in this file one function `g` that gives one value, such as `8080`, `"text".to_owned()`, `Vec::new()` or a variant of an enum of this file, or name one of another module from `crate` on
+// 7: B: its default is not covered, as `h` has parameters: write there `B { .. }` with one value for each field, such as `8080`, `"text".to_owned()`, `Vec::new()` or a variant of an enum of this file
+#[derive(Deserialize)]
+struct A { #[serde(default = "f")] x: u8, #[serde(default = "g")] y: u8 }
+fn f(x: u8) -> u8 { 1 }
+fn g() -> u8 {}
+#[derive(Deserialize)]
+#[serde(default = "h")]
+struct B { x: u8 }
+fn h(x: u8) -> B { B { x: 1 } }
+
+// 3: A.Y.a: `Option<HashMap<u8, u8>>` is not covered next to the tag of a type that contains itself: hold it in another struct
+#[derive(Serialize, Deserialize)]
+#[serde(tag = "t")]
+enum A { X { x: Vec<A> }, Y { a: Option<HashMap<u8, u8>> }, W { a: HashMap<u8, u8>, b: String } }

@@ -39,6 +39,9 @@ enum A {
 // 30: left out: `#[must_use]`
 // 31: left out: `#[non_exhaustive]`
 // 33: left out: `#[deprecated = "old"]`
+// 44: of another file: `Thing`, which needs Serialize, Deserialize, PartialEq, Eq, Clone, Debug, RoundTrip, CborRoundTrip; delete Eq here if it has no RoundTrip
+// 45: of another file: `other::Inner`, which needs Serialize, Deserialize, PartialEq, Eq, Clone, Debug, RoundTrip, CborRoundTrip; delete Eq here if it has no RoundTrip
+// 46: of another file: `Drei`, which needs Serialize, Deserialize, PartialEq, Eq, Clone, Debug, RoundTrip, CborRoundTrip; delete Eq here if it has no RoundTrip
 // 48: passed over: `impl fmt::Display for A`
 // 49: passed over: `impl<'a> From<&'a str> for A`
 // 50: passed over: `unsafe impl Send for A`
@@ -426,6 +429,7 @@ struct A { b: B, c: char }
 #[derive(Default, Serialize)]
 struct B { x: u8 }
 
+// 3: of another file: `crate::other::Thing`, which needs Serialize, Deserialize
 // 3: written as `Absent`: `derive(Default)` on `A`, whose value takes an allocator
 // + impl Absent for A
 #[derive(Default, Serialize, Deserialize)]
@@ -462,6 +466,7 @@ crate::m! {}
 const _: fn(u8) -> u8 = f;
 extern crate self as a;
 
+// 10: of another file: `Thing`, which needs Serialize
 // + use crate::other::Thing;
 #[cfg(x)]
 use std::collections::BTreeMap;
@@ -474,6 +479,10 @@ use crate::other::Thing;
 #[derive(Serialize)]
 struct A(BTreeMap<u8, Thing>);
 
+// 4: of another file: `Third`, which needs Serialize
+// 4: of another file: `crate::other::Inner`, which needs Serialize
+// 4: of another file: `crate::other::Thing`, which needs Serialize
+// 4: of another file: `other::Inner`, which needs Serialize
 // + use crate::other; use crate::other::deep::Third;
 // + struct A(crate::other::Thing, other::Inner, Third, crate::other::Thing, crate::other::Inner, B);
 use super::other;
@@ -489,6 +498,7 @@ struct B;
 // 4: passed over: `use crate::other`
 // 6: passed over: `use crate::other::Inner as Other`
 // 8: passed over: `type Number = Short`, whose type is written in its place
+// 10: of another file: `Thing`, which needs Serialize
 use serde::{self, Deserialize};
 use std::{fmt::{Write as _}, string::String as Text};
 pub use std::fmt;
@@ -500,6 +510,8 @@ type Number = Short;
 #[derive(serde::Serialize)]
 struct A(Text, Thing, Number);
 
+// 4: of another file: `Thing`, which needs Serialize, Deserialize, PartialEq, Eq, Clone, PartialOrd, Ord, RoundTrip, CborRoundTrip; delete Eq here if it has no RoundTrip
+// 5: of another file: `crate::other::deep::Thing`, which needs Serialize, Deserialize, PartialEq, Eq, Clone, PartialOrd, Ord, RoundTrip, CborRoundTrip; delete Eq here if it has no RoundTrip
 // + ghost use Rattle.a.specs.declared.other.Thing.{Thing};
 // + ghost use Rattle.a.specs.declared.other.deep.Thing as deep_thing_as_seen;
 // + Laws as deep_thing_serialize;
@@ -525,6 +537,7 @@ enum B { X { #[serde(default)] a: crate::other::deep::Thing, b: Thing } }
     lines"]
 pub(in crate) struct A(pub(in self) u8);
 
+// 3: of another file: `Other`, which needs Serialize, Deserialize, PartialEq, Eq, RoundTrip, CborRoundTrip; delete Eq here if it has no RoundTrip
 // + ghost use Rattle.a.specs.declared.other.Thing as other_as_seen;
 // - as thing_as_seen;
 // + (RowOrThen (name "y") (λ (x : (Vec other_as_seen.Thing Global)). x.items ≡ [])
@@ -732,6 +745,7 @@ enum E { Unit, Pair(u8, String), X { a: u8, b: Option<u8> } }
 #[derive(Serialize, Deserialize)]
 struct EXContent { a: u8 }
 
+// 2: of another file: `crate::other::Thing`, which needs Serialize, Clone
 // 2: written as `Absent`: `derive(Default)` on `A`, whose value takes an allocator
 // 4: left out: `derive(Default)` on `B`, as a `Box<u8>` takes memory: write a `new(alloc)`
 // 6: left out: `derive(Default)` on `C`, as `B` has none: write a `new(alloc)`
@@ -855,8 +869,8 @@ pub struct Part<'a>(&'a str, &'static str);
 #[derive(Serialize)]
 pub struct A<'a> { #[serde(skip_serializing_if = "<[_]>::is_empty")] pub x: &'a [u8], pub y: Vec<&'a [&'static str]> }
 
-// + struct From1OfAX(String, Option<u8>, i16);
-// + fn make_a_x(row: From1OfAX, d: String, e: u8) -> A
+// + struct From1OfAX(String, Option<u8>, i16, String, u8);
+// + impl serde_content::derive_support::MadeFrom<From1OfAX> for A
 // + fn send_told_a_x<S: Serializer>(alloc: Global, serializer: &mut S, a: &String, b: &Option<u8>, c: &i16) -> Result<()>
 // + { send_told_a_x(alloc, serializer, a, b, c) }
 // + A::X { a, b, c, d, e } => send_whole_a_x(alloc, serializer, self, a, b, c, d, e),
@@ -1047,6 +1061,7 @@ struct A {
     #[serde(flatten, skip_deserializing, default = "crate::rules::five")] z: i32,
 }
 
+// 2: of another file: `Cell`, which needs Serialize, Deserialize
 // + pub struct A { pub a: LinkedList, pub b: Range, pub c: Cell, pub d: Vec<BinaryHeap>, }
 // + use crate::other::Thing as Cell;
 #[derive(Serialize, Deserialize)]
@@ -1191,7 +1206,7 @@ pub enum A {
 // + let kind: std::marker::PhantomData<T> = Default::default();
 // + impl<T> Serialize for B<T>
 // + impl<'de, K, V: Deserialize<'de>> Variants<'de> for C<K, V>
-// + fn read_c_x<'de, 'n: 'de, K>(alloc: Global, fields: FieldsByName<'de, 'n>) -> Result<(u8, std::marker::PhantomData<K>)>
+// + impl<'de, K> ReadFields<'de> for From1OfCX<K>
 // + pub struct D { a: A<std::time::Instant>, }
 // - PhantomData::
 #[derive(Serialize, Deserialize)]
@@ -1223,6 +1238,7 @@ struct B(#[serde(with = "crate::rules")] u8);
 enum C { X(#[serde(with = "crate::rules")] u8), Y(#[serde(with = "crate::rules")] u8, u8) }
 
 // 2: written as `Absent`: `derive(Default)` on `A`, whose value takes an allocator
+// 4: of another file: `crate::other::View`, which needs Serialize
 // + ghost is_absent = { λ p. ⟦<String as Absent>⟧.is_absent p.x × ⟦<std::marker::PhantomData<u8> as Default>⟧.is_default p.of };
 // + A { x: Absent::absent(alloc), of: Default::default() }
 // + struct B<'a> { a: crate::other::View<'a>, b: Option<A>, }
@@ -1427,8 +1443,11 @@ struct B<T> { a: Vec<T>, b: u8, c: u8, d: u8, e: Box<T> }
 // + { serde_content::derive_support::read_made::<From1OfA<T>, Self>(alloc, fields) }
 // + serde_content::derive_support::read_made_of_parts::<From1OfB<T>, Self>(alloc, parts) }
 // + { serde_content::derive_support::read_made_from::<From1OfCX<T>, Self>(alloc, fields) }
-// + fn read_c_y<'de, 'n: 'de, T: Deserialize<'de>>(alloc: Global, fields: FieldsByName<'de, 'n>) -> Result<(Vec<T>, u8, u8)>
-// + fn make_d<T>(row: From1OfD<T>, j: u8) -> D<T>
+// + { serde_content::derive_support::read_made_from::<From1OfCY<T>, Self>(alloc, fields) }
+// + struct From1OfCY<T>(Vec<T>, u8, u8);
+// + impl<T> serde_content::derive_support::MadeOf<From1OfD<T>> for D<T>
+// + serde_content::derive_support::read_tuple_variant_made_from::<From1OfEX<T>, Self>(alloc, variant, 2)
+// + serde_content::derive_support::read_variant_made_from::<FieldsOfFX, From1OfFX, Self>(alloc, variant)
 use std::collections::HashMap;
 #[derive(Deserialize)]
 struct A<T> { a: Vec<T>, b: Vec<T>, c: Vec<T>, d: u8, e: u8, f: u8, g: u8, h: HashMap<u8, T>, i: u8 }
@@ -1439,3 +1458,84 @@ struct B<T>(Vec<T>, Vec<T>, Vec<T>, u8, u8, u8, u8, u8, HashMap<u8, u8>);
 enum C<T> { X { a: HashMap<u8, T>, b: u8 }, Y { a: Vec<T>, b: u8, #[serde(skip)] c: u8 } }
 #[derive(Deserialize)]
 struct D<T> { a: Vec<T>, b: u8, c: u8, d: u8, e: u8, f: u8, g: u8, h: u8, i: u8, #[serde(skip)] j: u8 }
+#[derive(Deserialize)]
+enum E<T> { X(HashMap<u8, T>, #[serde(skip)] u8, u8), Y(Vec<T>) }
+#[derive(Deserialize)]
+enum F { X { a: HashMap<u8, u8>, b: String }, Y { a: u8 } }
+
+// 3: passed over: `const N`
+// 4: passed over: `fn d`
+// 5: passed over: `fn is`
+// 6: passed over: `mod inner`
+// + ghost is_default = { λ x. x ≡ 2 };
+// + ghost is_skipped = { λ x. (nat_eq x (3)) };
+// + ghost is_skipped = { λ x. (nat_eq x (5)) };
+#[derive(Serialize, Deserialize)]
+struct A { #[serde(default = "inner::f")] x: u8, #[serde(skip_serializing_if = "inner::is")] y: u8, #[serde(skip_serializing_if = "is")] z: u8 }
+const N: u8 = 1;
+fn d() -> u8 { 5 }
+fn is(n: &u8) -> bool { *n == d() }
+mod inner {
+    const N: u8 = 2;
+    pub fn f() -> u8 { N }
+    fn d() -> u8 { 3 }
+    pub fn is(n: &u8) -> bool { *n == d() }
+}
+
+// + type Field1OfAZ = ReadField<FieldsOfAZ, 1, u8, OthersSkipped<FieldsOfAZ>>;
+// + type Field1OfAY = ReadField<FieldsOfAY, 1, u8, OthersRefused<FieldsOfAY>>;
+#[derive(Deserialize)]
+struct I { x: u8 }
+#[derive(Deserialize)]
+#[serde(tag = "t", deny_unknown_fields)]
+enum A { Z(I), Y { y: u8 } }
+
+// 7: passed over: `fn seven`
+// 8: passed over: `fn is_seven`
+// 12: passed over: `impl Default for B`
+// 16: passed over: `fn make`
+// + RowOrThen (name "x") (λ (x : (hash_map.HashMap ℕ ℕ (BuildHasherDefault FoldHasher))). x.entries ≡ [])
+// + RowOrThen (name "y") (λ (x : (String Global)). string_bytes x ≡ [])
+// + RowOrThen (name "z") (λ (x : ℕ). x ≡ 7)
+// + RowOrThen (name "x") (λ (x : (Vec ℕ Global)). x.items ≡ [])
+// + RowOrThen (name "y") (λ (x : ℕ). x ≡ 80)
+// + impl DefaultOf<u16> for Default1OfC { ghost is_default = { λ x. x ≡ 80 };
+// + impl SkipIf<u32> for Unless3OfA { ghost is_skipped = { λ x. (nat_eq x (7)) };
+#[derive(Serialize, Deserialize)]
+struct A {
+    #[serde(default = "std::collections::HashMap::new")] x: HashMap<u8, u8>,
+    #[serde(default = "::std::string::String::new")] y: String,
+    #[serde(default = "seven", skip_serializing_if = "is_seven")] z: u32,
+}
+fn seven() -> u32 { return 7; }
+fn is_seven(x: &u32) -> bool { return *x == 7 }
+#[derive(Deserialize)]
+#[serde(default)]
+struct B { x: Vec<u16>, y: u16 }
+impl Default for B { fn default() -> Self { return Self { x: alloc::vec::Vec::new(), y: 80 }; } }
+#[derive(Deserialize)]
+#[serde(default = "make")]
+struct C { x: u16, y: u16 }
+fn make() -> C { C { x: 80, y: 7 } }
+
+// 1: passed over: `pub(crate) use crate::x::*`
+// 2: passed over: `pub use crate::y::{B, z::*}`, but for what it brings into this file
+// 2: passed over: `use crate::y::z::*`
+// 3: passed over: `use crate::w::*`
+pub(crate) use crate::x::*;
+pub use crate::y::{B, z::*};
+use crate::w::*;
+#[derive(Serialize)]
+struct A(u8);
+
+// 2: left out: `derive(Default)` on `A`, as a `Box<str>` takes memory: write a `new(alloc)`
+#[derive(Serialize, Default)]
+struct A { x: Box<str>, y: Vec<Box<str>> }
+
+// 2: written as `Absent`: `derive(Default)` on `Tags`, whose value takes an allocator
+// + type Field1OfA = ReadFieldOr<FieldsOfA, 0, Tags, Field2OfA>; type Field2OfA = ReadFieldOr<FieldsOfA, 1, Tags, OthersSkipped<FieldsOfA>>;
+// - Tags::default(
+#[derive(Default, Deserialize)]
+struct Tags { v: Vec<String> }
+#[derive(Deserialize)]
+struct A { #[serde(default = "Tags::default")] x: Tags, #[serde(default = "Default::default")] y: Tags }

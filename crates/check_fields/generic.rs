@@ -24,8 +24,14 @@ pub struct Row<T>(pub Vec<T>, pub u8, pub u8, pub u8, pub u8, pub u8, pub u8, pu
 /// What happened.
 #[derive(Serialize, Deserialize)]
 pub enum Event<T> {
-    Made { of: HashMap<String, T>, count: u8 },
-    Lost,
+    Made {
+        of: HashMap<String, T>,
+        count: u8,
+        /// Whether somebody has seen it.
+        #[serde(skip)]
+        seen: bool,
+    },
+    Lost(Vec<T>, u16),
 }
 
 /// A message of some sort.

@@ -27,6 +27,7 @@ NOT_COVERED = {
     "crate": "what is written uses `serde_content`: delete it",
     "expecting": "refusals have a text of their own: delete it",
 }
+NO_NAME = "an empty name is not covered: give one of at least a letter"
 VALUED = {"tag", "content", "skip_serializing_if", "alias", *OWN_FUNCTIONS, *CONVERSIONS}
 DERIVES = set("Clone Copy Debug Default Drop Eq Hash Ord PartialEq PartialOrd Serialize Deserialize".split())
 SERDE = {"Serialize", "Deserialize"}
@@ -65,6 +66,12 @@ def no_rule(name: str) -> str:
     """Why a trait is not derived."""
     return (f"`derive({name})` is not covered, as no rule of Rattle writes it: delete it here, and write its impl by hand"
             " where you need it")
+
+
+def why_unsaid(name: str) -> str:
+    """Why a name is not sent, and what to write instead."""
+    return (f"the name `{ascii(name)[1:-1]}` is not covered: printable ASCII but \" and \\ is: write such a name, or the impls by"
+            " hand")
 
 
 class Attributes(Cursor):
@@ -181,7 +188,7 @@ class Attributes(Cursor):
                 why = "write it on the one field of the variant, and hold a struct there in place of several"
             raise Refused(line, f"serde's `{key}` on {level} is not covered: {why}")
         if key in into and key != "alias":
-            raise Refused(line, f"serde's `{key}` stands twice")
+            raise Refused(line, f"serde's `{key}` stands twice: delete one of them")
         if self.next.text == "(" and key.startswith("rename"):
             into[key] = self.directions(line, key)
             return
@@ -195,8 +202,10 @@ class Attributes(Cursor):
             raise NotRust(line, f"serde's `{key}` names no function: write its path")
         if valued and not value and key in CONVERSIONS:
             raise NotRust(line, f"serde's `{key}` names no type: write one")
+        if valued and not value and key == "rename":
+            raise Refused(line, NO_NAME)
         if "\n" in value:
-            raise Refused(line, f"the name `{ascii(value)[1:-1]}` is not covered: printable ASCII but \" and \\ is")
+            raise Refused(line, why_unsaid(value))
         into[key] = f"{into[key]}\n{value}" if key in into else value
         self.check_case(line, key, into[key])
 
@@ -216,6 +225,8 @@ class Attributes(Cursor):
             if given.get(direction) != "":
                 raise Refused(line, f"serde's `{key}` knows `serialize` and `deserialize`, each once")
             given[direction] = text_of(self.take())
+            if key == "rename" and not given[direction]:
+                raise Refused(line, NO_NAME)
             self.check_case(line, key, given[direction])
 
         self.expect("(")

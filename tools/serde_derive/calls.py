@@ -43,6 +43,8 @@ def called(path: str, homes: Homes) -> Called:
     path = path if "::" in path else "::".join(homes.path(path))
     before, _, name = path.rpartition("::")
     first = before.split("::")[0]
+    if first in homes.file.modules:
+        raise ValueError(f"`{first}` {homes.file.modules[first]}: move the function to another module, and name it from `crate` on")
     found = homes.path(before)
     mine = len(found) == 1 and found[0] in homes.items
     if mine:

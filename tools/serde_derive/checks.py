@@ -58,8 +58,10 @@ def check_attributes(item: Item, functions: Functions) -> Iterator[Refused]:
     flatten = "serde's `flatten` is covered in structs with named fields and without `deny_unknown_fields`"
     yield from (Refused(f.line, f"{flatten}: hold such a struct in the variant", f"{item.name}.{v.name}.{f.name}")
                 for v in item.variants for f in v.data.fields if "flatten" in f.serde)
-    if item.flattens() and not item.variants and (not item.data.named or "deny_unknown_fields" in item.serde):
-        reasons.append(flatten)
+    if item.flattens() and not item.variants and not item.data.named:
+        reasons.append(f"{flatten}: give the fields of this one names, or delete `flatten`")
+    elif item.flattens() and not item.variants and "deny_unknown_fields" in item.serde:
+        reasons.append(f"{flatten}: delete one of them")
     if any(sum("skip_serializing_if" in f.serde for f in data.fields) > MOST_SKIPPED for data in item.parts()):
         reasons.append(f"more than {MOST_SKIPPED} fields that may be left out are not covered: put some into a struct of their own")
     if item.sort == "struct":
@@ -68,16 +70,19 @@ def check_attributes(item: Item, functions: Functions) -> Iterator[Refused]:
         if "tag" in item.serde:
             reasons.append("serde's `tag` on a struct is not covered: write an enum of one variant, which has the struct's name")
     if "default" in item.serde and (item.sort != "struct" or not item.data.named):
-        reasons.append("serde's `default` on a container is covered on structs with named fields")
+        names = "give its fields names, or " * (item.sort == "struct" and bool(item.data.fields))
+        reasons.append(f"serde's `default` on a container is covered on structs with named fields: {names}delete it")
     elif "default" in item.serde and not (item.defaults or item.serde["default"] or f"{item.name}::default" in functions.named):
-        reasons.append("serde's `default` on a container is covered where it derives Default: derive that, or write"
+        unread = ", as an impl on a type with parameters is not read" * bool(item.parameters or item.lifetimes)
+        reasons.append(f"serde's `default` on a container is covered where it derives Default{unread}: derive that, or write"
                        " `default` on each field")
     if item.transparent():
         others = sorted(set(item.serde) - {"transparent"})
         reasons += [f"such attributes don't go together: `transparent` and `{key}`: delete one of them" for key in others]
         ways = {"Serialize": [f for f in item.data.fields if f.sent], "Deserialize": [f for f in item.data.fields if f.read]}
         if item.sort != "struct" or any(len(ways[trait]) != 1 for trait in ways if trait in item.derives):
-            reasons.append("serde's `transparent` is for structs of one field beside skipped ones")
+            skip = ", or skip all fields but one" * (len(item.data.fields) > 1)
+            reasons.append(f"serde's `transparent` is for structs of one field beside skipped ones: delete it{skip}")
     if ("content" in item.serde) > ("tag" in item.serde) or {"tag", "untagged"} <= set(item.serde):
         reasons.append("such attributes don't go together: write `tag`, `tag` and `content`, or `untagged`")
     yield from (Refused(item.line, reason, item.name) for reason in reasons)

@@ -11,6 +11,7 @@ from .text import DESERIALIZE, SERIALIZE, function, ghost
 from .types import NUMBERS, READ, SIGNED, Type, snake
 
 PRIVATE = ("", "pub(self) ")  # what stands before what no other module can name
+MOST_LISTED = 8  # a message names no more fields
 BY_FUNCTION = "convert it in a function, and name that by `deserialize_with` on the fields that hold it"
 # the types of texts, and what contracts call the bytes of one
 TEXTS = {"String": "string_bytes", "BoxedStr": "boxed_str_bytes", "PathBuf": "path_buf_bytes"}
@@ -87,10 +88,10 @@ def settle_conversions(homes: Homes) -> Iterator[Refused]:
                               " value itself, as String for &str", item.name)
             elif one.fails and not request_of(one.type):
                 yield Refused(item.line, "serde's `try_from` is covered with a bool, a char or a whole number, of which contracts"
-                              f" know which one is read, not with `{one.type.rust()}`: {BY_FUNCTION}", item.name)
+                              f" know which one is read, not with `{one.type.written()}`: {BY_FUNCTION}", item.name)
             elif one.key == "into" and one.type.name not in TEXTS and may_hold_memory(one.type, homes):
                 yield Refused(item.line, "serde's `into` is covered with a text, or a type that holds no memory, of which contracts"
-                              f" know which one is sent, not with `{one.type.rust()}`: write the impl of Serialize by hand", item.name)
+                              f" know which one is sent, not with `{one.type.written()}`: write the impl of Serialize by hand", item.name)
             else:
                 settle = settle_sent if one.key == "into" else settle_read
                 note = settle(item, one, homes)
@@ -98,15 +99,24 @@ def settle_conversions(homes: Homes) -> Iterator[Refused]:
 
 
 def check_hidden(item: Item, homes: Homes) -> Iterator[Refused]:
-    """Refuses an item that no other module can convert, as what is private is only named in this one."""
+    """Refuses an item that no other module can convert, as what is private is only named and seen in this one."""
     types = [own for one in item.conversions for own in one.type.owns()] if item.covered else []
     parts = [item] * bool(item.conversions and item.covered) + [homes.items[own.name] for own in types if own.name in homes.items]
     names = [part.name for part in parts if part.visible in PRIVATE]
     makes = parts and not item.defaults and any(one.trait == "Deserialize" for one in item.conversions)
     fields = [f.name for f in item.data.fields if makes and f.visible in PRIVATE]
-    why = f"name `{names[0]}`" if names else f"make `{item.name}`, as it doesn't see its field `{fields[0]}`" if fields else ""
-    if why:
-        yield Refused(item.line, f"its conversions stand in another module, which can't {why}: write `pub(crate)` before that", item.name)
+    whys = [f"name {listed(names)}"] * bool(names)
+    whys += [f"make `{item.name}`, as it doesn't see its field{'s' * (len(fields) > 1)} {listed(fields)}"] * bool(fields)
+    for why, private in zip(whys, filter(None, (names, fields))):
+        before = "each of them" if len(private) > 1 else "that"
+        yield Refused(item.line, f"its conversions stand in another module, which can't {why}: write `pub(crate)` before {before}",
+                      item.name)
+
+
+def listed(names: List[str]) -> str:
+    """These names, as a message has them: the first few of many."""
+    shown = ", ".join(f"`{name}`" for name in names[:MOST_LISTED])
+    return shown + " .." * (len(names) > MOST_LISTED)
 
 
 def settle_read(item: Item, one: Conversion, homes: Homes) -> str:

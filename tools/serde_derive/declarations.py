@@ -517,7 +517,7 @@ class Item(Named):
         if self.cycle:
             return "it contains itself, and is read to a limit of levels"
         for one in self.conversions:
-            return f"it is {'sent' if one.trait == 'Serialize' else 'read'} as `{one.type.rust()}`"
+            return f"it is {'sent' if one.trait == 'Serialize' else 'read'} as `{one.type.written()}`"
         for f in self.lost():
             return f"`{f.name}` {f.why_lost()}"
         for v in self.one_way():
@@ -540,7 +540,7 @@ class Item(Named):
         held = [(v, v.held()) for v in untagged]
         for v, one in held:
             if not one.takes():
-                return (f"which values `{one.rust()}` in `{v.name}` takes is not known: hold a struct of this file with named"
+                return (f"which values `{one.written()}` in `{v.name}` takes is not known: hold a struct of this file with named"
                         " fields, or a type of std's but Option and IP addresses")
         for (v, one), (w, other) in combinations(held, 2):
             if not one.is_apart(other):

@@ -51,7 +51,7 @@ def settle_default(item: Item, types: List[Type], takes: bool, items: Dict[str, 
     item.absent = item.valued and (takes or "Deserialize" in item.derives)
     if takes:
         item.derives.remove("Default")
-        why = lacks and (f"`{lacks.rust()}` has none" if lacks.home or lacks.opaque else f"a `{lacks.rust()}` takes memory")
+        why = lacks and (f"`{lacks.written()}` has none" if lacks.home or lacks.opaque else f"a `{lacks.written()}` takes memory")
         file.notes.append((item.line, f"left out: `derive(Default)` on `{item.name}`, as {why}: write a `new(alloc)`" if lacks
                            else f"written as `Absent`: `derive(Default)` on `{item.name}`, whose value takes an allocator"))
 
@@ -61,7 +61,7 @@ def settle_by_hand(item: Item, holding: Set[str], functions: Functions) -> None:
     item.valued = True
     path = f"{item.name}::default"
     found = functions.given(path, item.itself()) if item.variants else None
-    given = functions.fields_given(path) if item.data.named else {}
+    given = functions.fields_given(path, item.name) if item.data.named else {}
     values = {f.name: functions.value(given[f.name][0], f.type, given[f.name][1]) for f in item.data.fields if f.name in given}
     memoryless = all(value and value.code.startswith("Ok(") for value in values.values())
     if values and len(values) == len(item.data.fields) and memoryless:

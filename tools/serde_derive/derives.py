@@ -25,14 +25,14 @@ def lacking(t: Type, trait: str, items: Dict[str, Item], file: File) -> Iterator
     """The types in a field's type that have no such trait."""
     mine = items.get(t.name)
     if t.name in IN_MEMORY and trait in WHY:
-        yield f"`derive({trait})` is not covered beside `{t.rust()}`, {WHY[trait]}"
+        yield f"`derive({trait})` is not covered beside `{t.written()}`, {WHY[trait]}"
     elif mine:
         if trait not in mine.derives and (trait, t.name) not in file.impls:
             yield f"`{t.name}` does not derive {trait}, as what holds it does: derive it there too"
         for argument in t.arguments:
             yield from lacking(argument, trait, items, file)
     elif t.name in HASHED and trait in WITHOUT:
-        yield f"`derive({trait})` is not covered beside `{t.rust()}`, which has none: {WITHOUT[trait]}"
+        yield f"`derive({trait})` is not covered beside `{t.written()}`, which has none: {WITHOUT[trait]}"
     elif (trait, t.name) not in NOT_INSIDE:
         for argument in t.arguments:
             yield from lacking(argument, trait, items, file)
@@ -44,7 +44,7 @@ def check_missing(item: Item, items: Dict[str, Item]) -> Iterator[Refused]:
         without = lacking_absent(f.type, items) if by_type(f) and "Deserialize" in item.ways(*around) else ()
         lacks = next((t for t in without if f.read or not Functions.initial(t)), None)
         if lacks and lacks.opaque:
-            yield Refused(f.line, f"its default is not covered, as nothing makes a `{lacks.rust()}` here: hold an Option, or write"
+            yield Refused(f.line, f"its default is not covered, as nothing makes a `{lacks.written()}` here: hold an Option, or write"
                           " `default = \"..\"` with the path of a function of another module that does", where)
         elif lacks and not lacks.home:
             yield Refused(f.line, "its default is not covered: hold a number, bool, char, String, PathBuf, Duration, Option, Vec, map, set,"
@@ -75,6 +75,15 @@ def check_imports(item: Item, file: File) -> Iterator[Refused]:
             yield Refused(item.line, no_rule("::".join(path)), item.name)
 
 
+def check_compared(item: Item, items: Dict[str, Item], file: File) -> Iterator[Refused]:
+    """Refuses functions that say whether a field is left out where they compare an enum that has no equality."""
+    for where, f in placed(item):
+        of = items.get(f.type.name)
+        if f.test and not f.tester and of and "PartialEq" not in of.derives and ("PartialEq", of.name) not in file.impls:
+            yield Refused(f.line, f"`{f.serde['skip_serializing_if']}` compares a `{of.name}`, which does not derive PartialEq:"
+                          " derive it there", where)
+
+
 def check_derives(item: Item, items: Dict[str, Item], file: File) -> Iterator[Refused]:
     """Refuses derives that Rattle does not write for what an item holds."""
     derived = set(item.derives) | {trait for trait, name in file.impls if name == item.name}
@@ -87,6 +96,7 @@ def check_derives(item: Item, items: Dict[str, Item], file: File) -> Iterator[Re
                       " dropped: delete Copy", item.name)
     yield from check_imports(item, file)
     yield from check_default(item)
+    yield from check_compared(item, items, file)
     for trait in item.derives:
         for where, f in placed(item) if trait not in PASSED and not (trait == "Default" and item.variants) else ():
             yield from (Refused(f.line, why, where) for why in lacking(f.type, trait, items, file))

@@ -171,7 +171,7 @@ class EnumWriter:
         values = [f"z.{i}" for i in range(len(types))] if len(types) > 1 else ["z"]
         result = Type("tuple", types) if len(types) != 1 else types[0]
         if holder.big:
-            return holder.apart_reader() if holder.unread() else []
+            return []
         return holder.read_function(together(places), result, values)
 
     def maker(self, v: Variant, holder: Holder) -> List[str]:

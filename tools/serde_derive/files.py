@@ -24,8 +24,9 @@ class File:
     """What a file holds: its documentation, the paths that it uses, its types, by what aliases stand
     for, the types that are passed over with the reason, those of them that are `plain`, as they derive neither of Serde's traits,
     the traits that impls give to types, functions, and notes.
-    `lines` has what each name of a `use` or an alias stands for first, and its line, `brought` what each private
-    `use` brings, with its line, and `derived` the names that derives begin with."""
+    `modules` has what is said of those that are passed over, `lines` what each name of a `use` or an alias stands for
+    first, and its line, `brought` what each private `use` brings, with its line, and `derived` the names that derives begin
+    with."""
 
     docs: List[str] = field(default_factory=list)
     uses: Dict[str, List[str]] = field(default_factory=dict)
@@ -33,6 +34,7 @@ class File:
     aliases: Dict[str, Type] = field(default_factory=dict)
     passed: Dict[str, str] = field(default_factory=dict)
     plain: Set[str] = field(default_factory=set)
+    modules: Dict[str, str] = field(default_factory=dict)
     impls: Set[Tuple[str, str]] = field(default_factory=set)
     functions: Functions = field(default_factory=Functions)
     notes: List[Tuple[int, str]] = field(default_factory=list)
@@ -107,12 +109,15 @@ class Reader(Parser):
 
     def use(self, start: int) -> None:
         """A `use`, with the names that it brings."""
-        public, known = self.next is not self.tokens[start], len(self.into.brought)
+        public, known, notes = self.next is not self.tokens[start], len(self.into.brought), len(self.notes)
         self.expect("use")
         self.used([])
+        brings = len(self.into.brought) > known
         if public:
             del self.into.brought[known:]
-            self.note_passed(start, self.place, ", but for what it brings into this file")
+            if not brings:
+                del self.notes[notes:]
+            self.note_passed(start, self.place, ", but for what it brings into this file" * brings)
         self.expect(";")
 
     def used(self, before: List[str]) -> None:
@@ -193,8 +198,8 @@ class Reader(Parser):
                 self.eat("mut")
             name, end = self.any_name(NAMELESS.get(word, "")), self.place
             if word == "mod":
-                self.into.passed[name] = (f"is a module that is passed over (line {line}): import the type by its path"
-                                          " from `crate`")
+                self.into.modules[name] = f"is a module that is passed over (line {line})"
+                self.into.passed[name] = f"{self.into.modules[name]}: import the type by its path from `crate`"
         elif word in ("impl", "{"):
             self.pass_to("{", "where", *BEGIN_ITEMS, angles=True)
             end = self.place

@@ -2,21 +2,23 @@
 value, and which value one tests for."""
 import re
 from dataclasses import dataclass, field
-from typing import Dict, Iterator, List, Optional, Tuple
+from typing import Dict, Iterator, List, Optional, Set, Tuple
 
 from .declarations import Test, Value, absent_of
 from .literals import name_call, name_term
 from .named import has_default
-from .tokens import Token, text_of
+from .tokens import ROOTS, Token, shown, text_of
 from .types import DEFAULTS, NUMBERS, SIGNED, Type
 
 # what makes the value that `Absent` gives, of any type, and of one that is named
 EMPTIES = r"(?:(?:std|core)::default::)?Default::default\(\)|(?:\w+::)*{}::default\(\)"
-MADE_EMPTY = {"Option": r"|None", "Vec": r"|vec!\[\]|Vec::new\(\)", "Duration": r"|(?:\w+::)*Duration::ZERO",
-              **{name: rf"|{name}::new\(\)" for name in (
+OF_STD = r"(?:(?:::)?(?:std|core|alloc)::(?:\w+::)+)?"  # may stand before the name of a type of std's
+MADE_EMPTY = {"Option": r"|None", "Vec": rf"|vec!\[\]|{OF_STD}Vec::new\(\)", "Duration": r"|(?:\w+::)*Duration::ZERO",
+              **{name: rf"|{OF_STD}{name}::new\(\)" for name in (
                   "String", "PathBuf", "BTreeMap", "BTreeSet", "HashMap", "HashSet", "VecDeque")}}
 # the nanoseconds of each unit of which a Duration is made
 UNITS = {"secs": 1_000_000_000, "millis": 1_000_000, "micros": 1_000, "nanos": 1}
+ONE_VALUE = "such as `8080`, `\"text\".to_owned()`, `Vec::new()` or a variant of an enum of this file"
 MOST_NAMED = 16  # how often a constant may name another
 MOST_DIGITS = 100  # of a number, with the signs between them
 IS_ZERO = re.compile(r"(?:\w+::)*Duration::is_zero")
@@ -36,6 +38,10 @@ class Function:
     parameters: List[str]
     body: List[Token]
 
+    def has(self) -> str:
+        """What it has that gives no value that is known, as a message tells that."""
+        return "parameters" if self.parameters else f"`{shown(self.body)}`"
+
 
 @dataclass
 class Functions:
@@ -44,11 +50,14 @@ class Functions:
 
     named: Dict[str, Function] = field(default_factory=dict)
     constants: Dict[str, List[Token]] = field(default_factory=dict)
+    derived: Set[str] = field(default_factory=set)  # the types that derive Default
+    modules: Dict[str, str] = field(default_factory=dict)  # the module of an impl or a module, with `::` at its end
     variants: Dict[str, Dict[str, List[Type]]] = field(default_factory=dict)
     uses: Dict[str, List[str]] = field(default_factory=dict)
 
-    def collect(self, tokens: List[Token], pairs: Dict[int, int], place: int, end: int, owner: str = "") -> None:
-        """Takes in what stands between two places."""
+    def collect(self, tokens: List[Token], pairs: Dict[int, int], place: int, end: int, owner: str = "", module: str = "") -> None:
+        """Takes in what stands between two places, in an impl or a module."""
+        self.modules[owner[:-2]] = module
         while place < end:
             word, after = tokens[place].text, tokens[min(place + 1, end - 1)]
             inside = self.to(tokens, pairs, place + 1, end, "{;" if word != "const" else "=;{")
@@ -56,10 +65,12 @@ class Functions:
                 self.function(tokens, pairs, place, inside, owner)
             elif word in ("impl", "mod") and inside < end and tokens[inside].text == "{":
                 names = [token.text for token in tokens[place:inside] if token.sort == "name"]
-                self.collect(tokens, pairs, inside + 1, pairs[inside], f"{owner}{names[-1]}::")
+                inner = f"{owner}{names[-1]}::"
+                self.collect(tokens, pairs, inside + 1, pairs[inside], inner, inner if word == "mod" else module)
             elif word == "const" and inside < end and tokens[inside].text == "=":
                 last = self.to(tokens, pairs, inside + 1, end, ";")
-                self.constants[owner + after.text] = tokens[inside + 1:last]
+                twice = owner + after.text in self.constants
+                self.constants[owner + after.text] = tokens[inside + 1:last] * (not twice)
                 inside = last
             else:
                 place = pairs.get(place, place) + 1
@@ -81,7 +92,7 @@ class Functions:
                           if token.sort == "name" and (after.text == ":" or (token.text == "self" and after.text in ",)"))]
             path = owner + tokens[place + 1].text
             twice = path in self.named
-            self.named[path] = Function(owner[:-2], parameters, tokens[body + 1:pairs[body]] * (not twice))
+            self.named[path] = Function(owner[:-2], parameters, returned(tokens[body + 1:pairs[body]]) * (not twice))
 
     def given(self, path: str, t: Type) -> Optional[Value]:
         """What a function gives of this type, where its body is one value; one that has two bodies gives none."""
@@ -89,6 +100,10 @@ class Functions:
         if not found:
             return self.empty(f"{path}()", t)
         return self.value(found.body, t, found.owner) if not found.parameters else None
+
+    def whole(self, path: str, owner: str) -> str:
+        """The whole path of what is called so in an impl or a module."""
+        return self.modules.get(owner, "") + path
 
     @staticmethod
     def empty(text: str, t: Type) -> Optional[Value]:
@@ -111,23 +126,44 @@ class Functions:
             codes.append(value.code[3:-1])
         return Value(" × ".join(facts), f"Ok(({', '.join(codes)}{',' * (len(codes) == 1)}))")
 
-    def fields_given(self, path: str) -> Dict[str, Tuple[List[Token], str]]:
-        """By name what a function gives for the fields of a struct, where its body is one, each with the owner."""
-        found, fields = self.named.get(path), {}
+    def parts_given(self, path: str, name: str) -> List[List[Token]]:
+        """What a function gives for the fields of the struct of this name, where its body is one."""
+        found = self.named.get(path)
         texts = [token.text for token in found.body] if found and not found.parameters else []
-        if texts[1:2] + texts[-1:] != ["{", "}"] or texts[0] not in ("Self", found.owner):
+        if texts[1:2] + texts[-1:] != ["{", "}"] or texts[0] not in ("Self", found.owner, name):
+            return []
+        return list(divided(found.body[2:-1]))
+
+    def fields_given(self, path: str, name: str) -> Dict[str, Tuple[List[Token], str]]:
+        """The same by the fields' names, where it has one for each, with the owner."""
+        parts = self.parts_given(path, name)
+        if not all(map(is_field, parts)):
             return {}
-        for part in divided(found.body[2:-1]):
-            if len(part) < 3 or part[1].text != ":":
-                return {}
-            fields[part[0].text] = part[2:], found.owner
-        return fields
+        return {part[0].text: (part[2:], self.named[path].owner) for part in parts}
+
+    def why_no_fields(self, path: str, name: str) -> str:
+        """Why a function gives no fields of the struct of this name, and what to write."""
+        found, struct = self.named.get(path), f"`{name} {{ .. }}` with one value for each field, {ONE_VALUE}"
+        if not found or not found.body:
+            named = "" if path.count("::") > 1 or path.split("::")[0] in ROOTS else f" `{path}`"
+            return f": write in this file one function{named} whose body is {struct}"
+        part = next((one for one in self.parts_given(path, name) if not is_field(one)), None)
+        if part:
+            return f", as `{path}` has `{shown(part)}`: write each field there as `name: value`"
+        return f", as `{path}` has {found.has()}: write there {struct}"
+
+    def why_no_value(self, path: str) -> str:
+        """Why a function gives no value that is known, and what to write."""
+        found = self.named.get(path)
+        if found and found.body:
+            return f", as `{path}` has {found.has()}: write there one value, {ONE_VALUE}"
+        return f": write in this file {'one' if found else 'a'} function `{path}` that gives one value, {ONE_VALUE}"
 
     def value(self, tokens: List[Token], t: Type, owner: str) -> Optional[Value]:
         """The value that an expression is."""
         for _ in range(MOST_NAMED):
             text = "".join(token.text for token in tokens)
-            tokens = self.constants.get(text, tokens) if len(tokens) == 1 else tokens
+            tokens = self.constants.get(self.whole(text, owner), tokens) if len(tokens) == 1 else tokens
         if self.empty(text, t):
             return self.empty(text, t)
         if t.name == "bool" and text in ("true", "false"):
@@ -228,7 +264,8 @@ class Functions:
         text = "".join(token.text for token in tokens)
         if t.name == "String" and [token.sort for token in tokens] == ["text"]:
             tokens = tokens + [Token("sign", sign, 0) for sign in (".", "into", "(", ")")]
-        value = self.given(text[:-2], t) if text.endswith("()") and text[:-2] in self.named else self.value(tokens, t, owner)
+        called = self.whole(text[:-2], owner) if text.endswith("()") else ""
+        value = self.given(called, t) if called in self.named else self.value(tokens, t, owner)
         if value == EMPTY.get(t.name) and t.name in NUMBERS:
             value = Value(DEFAULTS[t.name], "Ok(0)")
         if not value:
@@ -247,6 +284,18 @@ class Functions:
             eq, one = f"⟦<{t.name} as PartialEq>⟧.eq", value.fact[4:]
             return Test(f"({eq} {{x}} {one})", f"*value == {value.code[3:-1]}", value.fact, f"equal_alike ({eq}) {{x}} {one} e y a")
         return None
+
+
+def is_field(part: List[Token]) -> bool:
+    """Whether this is a field's name and its value."""
+    return len(part) > 2 and part[1].text == ":"
+
+
+def returned(body: List[Token]) -> List[Token]:
+    """The value of a body; one that is `return value;` gives that."""
+    signs = [token.text for token in body]
+    end = len(body) - (signs[-1:] == [";"])
+    return body[1:end] if signs[:1] == ["return"] and ";" not in signs[:end] else body
 
 
 def said_of(fact: str, value: str) -> str:

@@ -106,6 +106,8 @@ class Holder:
     of_struct = False  # whether it is of a struct alone, and of no variant
     of_enum = False  # whether it is of a variant of an enum that is tagged externally, or internally with fields of its own
     parted = False  # whether what is around the values is sent by another function
+    container: Optional["Holder"] = None  # of the values that are read: what holds the others too
+    others: List[Tuple[Field, str]] = []  # those others, each with what code calls its value
     read_by = "ReadStruct"
     by_key = BY_NAME
     by_place = BY_PLACE
@@ -150,13 +152,16 @@ class Holder:
     @cached_property
     def reading(self) -> "Holder":
         """The same of the fields alone that are read, in the order in which they are."""
-        return self.part(self.data.to_read())
+        part = self.part(self.data.to_read())
+        if part is not self:
+            part.container, part.others = self, self.unread()
+        return part
 
     @property
     def big(self) -> bool:
-        """Whether it is read as a struct of its values."""
-        read = self.reading.count
-        return self.many and read > 0 and (self.crowded or self.made_from or read > self.reading.room())
+        """Whether it is read as a struct of its values, and of those beside them that aren't read."""
+        whole, read = self.container or self, self.reading
+        return self.many and read.count > 0 and (whole.crowded or whole.made_from or read.count > read.room())
 
     @property
     def made_of(self) -> bool:
@@ -166,13 +171,15 @@ class Holder:
 
     @property
     def made_from(self) -> bool:
-        """The same of what a variant is made from."""
-        return self.of_enum and self.data.named and not self.steps and self.generic
+        """The same of what a variant is made from: also where its values are many, or one is a hash map."""
+        if not (self.of_enum and self.many and self.reading.count) or self.reading.steps:
+            return False
+        return self.generic or self.crowded or any(f.type.has("HashMap") for f in self.reading.fields)
 
     @property
     def generic(self) -> bool:
-        """Whether all values are read, and some have parameters."""
-        return self.reading is self and any(f.type.parameters() for f in self.fields)
+        """Whether some values have parameters."""
+        return any(f.type.parameters() for f in self.fields)
 
     @property
     def crowded(self) -> bool:
@@ -246,7 +253,12 @@ class Holder:
 
     def run(self, start: int) -> str:
         """The struct of the values from a place on."""
-        return f"{self.run_name(start)}{angled(*self.data.arguments(start))}"
+        return f"{self.run_name(start)}{angled(*self.run_arguments(start))}"
+
+    def run_arguments(self, start: int) -> List[str]:
+        """The parameters of that struct: the first one holds the values that aren't read too."""
+        reading = self.reading
+        return replace(reading.data, fields=reading.fields[start:] + [f for f, _ in reading.others if not start]).arguments(0)
 
     def run_name(self, start: int) -> str:
         """The name of the struct of the values from a place on."""
@@ -391,17 +403,20 @@ class Holder:
         Its ghost members are functions, which the checker doesn't look into where nothing asks for it."""
         trait, source = self.trait(), "fields: FieldsByName" if self.data.named else "parts: serde_content::de::Seq"
         end = min(start + LONGEST_ROW, self.count)
-        more, whole, given = end < self.count, self.run(start), bounded(self.data.arguments(start), READ)
+        more, whole = end < self.count, self.run(start)
+        given = bounded(self.run_arguments(start), READ, bare=(self.container or self).data.bare())
         types, made = [f.type.rust() for f in self.fields[start:end]], self.places[start:end]
         values = [f"z.{place - start}" for place in range(self.count)]
         last = f"({self.run_member(end, 'gives')} {values[end]})" if more else self.end("gives")
         taken = self.taken(trait, source.split(":")[0], made, start)
+        beside = self.others if start == 0 else []
+        unread = [f"UnreadThen{f.absent()} z.{place}" for place, (f, _) in enumerate(beside, end - start + more)]
         members = "\n\n".join([
             ghost("refusal", f"λ f. ⟦<{self.row_type(start)} as {trait}<'de>>⟧.refusal f"),
-            ghost("gives", f"λ z f.{nest(self.parts('gives', self.given(values))[start:end], last)}\nf"),
-            function(f"fn read<'n: 'de>(alloc: Global, {source}<'de, 'n>) -> Result<Self>",
-                     *taken, f"Ok({self.run_name(start)}({', '.join(made + ['row'] * more)}))")])
-        held = ", ".join(types + [self.run(end)] * more)
+            ghost("gives", f"λ z f.{nest(unread + self.parts('gives', self.given(values))[start:end], last)}\nf"),
+            function(f"fn read<'n: 'de>(alloc: Global, {source}<'de, 'n>) -> Result<Self>", *taken, *self.unread_made(beside),
+                     f"Ok({self.run_name(start)}({', '.join(made + ['row'] * more + [place for _, place in beside])}))")])
+        held = ", ".join(types + [self.run(end)] * more + [f.type.rust() for f, _ in beside])
         return (f"/// The values from place {start + 1} on.\n#[derive(Drop)]\nstruct {whole}({held});\n\n"
                 f"impl{angled(LT_DE, *given)} {trait}<'de> for {whole} {{\n{members}\n}}\n")
 
@@ -413,10 +428,14 @@ class Holder:
         """A ghost member of the struct of the values from a place on."""
         return f"⟦<{self.run(start)} as {self.trait()}<'de>>⟧.{member}"
 
-    def run_term(self, values: List[str], start: int = 0) -> str:
-        """The struct of the values from a place on, as contracts make it."""
+    def whole_term(self, values: List[str]) -> str:
+        """The struct of all these values, as contracts make it."""
+        return self.run_term(self.those_of(values, self.reading.fields), [v for f, v in zip(self.fields, values) if not f.read])
+
+    def run_term(self, read: List[str], unread: List[str], start: int = 0) -> str:
+        """The struct of the values from a place on, and of those that aren't read."""
         end = start + LONGEST_ROW
-        inside = values[start:end] + ([self.run_term(values, end)] if end < self.count else [])
+        inside = read[start:end] + ([self.run_term(read, [], end)] if end < len(read) else []) + unread
         return "(record {\n" + "".join(f"{place} = {value};\n" for place, value in enumerate(inside)) + "})"
 
     def index(self, f: Field) -> int:
@@ -445,10 +464,10 @@ class Holder:
 
     def all_taken(self, trait: str, source: str) -> List[str]:
         """The statements that read or make all values, as `read_places` call them."""
-        if self.reading is not self:
-            return self.reading.all_taken(trait, source) + self.unread_made()
         if self.big:
             return [f"let row: {self.run(0)} = {trait}::read(alloc, {source})?;"]
+        if self.reading is not self:
+            return self.reading.all_taken(trait, source) + self.unread_made(self.unread())
         places = self.places
         if self.steps:
             pattern = "row" if self.steps < self.count else "_"
@@ -463,39 +482,40 @@ class Holder:
             return [f"{MADE_OF}::read_made{'_of_parts' * (not self.data.named)}::<{self.run(0)}, Self>(alloc, {source})"]
         return self.all_taken(self.trait(), source) + [f"Ok({made})"]
 
-    def unread_made(self) -> List[str]:
-        """The statements that make the values that aren't read."""
-        return [f"let {place}: {f.type.rust()} = {plain(f.made) or 'Absent::absent(alloc)'};" for f, place in self.unread()]
+    @staticmethod
+    def unread_made(unread: List[Tuple[Field, str]]) -> List[str]:
+        """The statements that make values that aren't read."""
+        return [f"let {place}: {f.type.rust()} = {plain(f.made) or 'Absent::absent(alloc)'};" for f, place in unread]
 
     def read_places(self) -> List[str]:
-        """What code calls the values that were read or made: the struct of those that were read, where there is one."""
-        return ["row"] + [place for _, place in self.unread()] if self.big else self.places
+        """What code calls the values that were read or made: the struct of them, where there is one."""
+        return ["row"] if self.big else self.places
 
     def maker_name(self) -> str:
         return self.reader.replace("read_", "make_", 1)
 
     def maker(self, result: Type, made: str, term: Callable[[List[str]], str]) -> List[str]:
-        """The function that makes a value of the struct of all values that were read, and of the others: its contract
-        spares proofs a look into that."""
+        """The function that makes a value of the struct of all values: its contract spares proofs a look into that."""
         if not self.big:
             return []
-        reading, places = self.reading, self.reading.places
-        apart = [f"let {self.run_name(start)}({', '.join(places[start:start + LONGEST_ROW] + ['row'] * more)}) = row;"
-                 for start in reading.starts() for more in [start + LONGEST_ROW < reading.count]]
-        read = {f.name: f"row{f'.{LONGEST_ROW}' * (place // LONGEST_ROW)}.{place % LONGEST_ROW}"
-                for place, f in enumerate(reading.fields)}
-        seen = [read.get(f.name, in_term(place)) for f, place in zip(self.fields, self.places)]
-        given = "".join(f", {place}: {f.type.rust()}" for f, place in self.unread())
+        reading, places, beside = self.reading, self.reading.places, [place for _, place in self.unread()]
+        apart = [f"let {self.run_name(start)}({', '.join(places[start:end] + ['row'] * (end < reading.count) + beside * (not start))}) = row;"
+                 for start in reading.starts() for end in [start + LONGEST_ROW]]
+        at = {f.name: f"row{f'.{LONGEST_ROW}' * (place // LONGEST_ROW)}.{place % LONGEST_ROW}"
+              for place, f in enumerate(reading.fields)}
+        first = min(reading.count, LONGEST_ROW) + (reading.count > LONGEST_ROW)
+        at.update({f.name: f"row.{place}" for place, (f, _) in enumerate(self.unread(), first)})
+        seen = [at[f.name] for f in self.fields]
         body = "\n".join(apart + [made])
         if self.made_of or self.made_from:
             trait, told = "MadeFrom", f"λ row. {term(seen)}"
             if self.made_of:
-                trait, told = "MadeOf", f"λ z. {self.run_term([f'z.{in_term(f.name)}' for f in self.fields])}"
+                trait, told = "MadeOf", f"λ z. {self.whole_term([f'z.{in_term(f.name)}' for f in self.fields])}"
             make = function(f"fn make(row: {self.run(0)}) -> {result.rust()}", *apart, made)
             return [f"impl{angled(*result.parameters())} {MADE_OF}::{trait}<{self.run(0)}> for {result.rust()} {{\n"
                     f"{ghost(snake(trait), told)}\n\n{make}\n}}\n"]
         return ["/// Its contract tells proofs what is made of the values.\n"
-                f"fn {self.maker_name()}{angled(*result.parameters())}(row: {reading.run(0)}{given}) -> {result.rust()}\n"
+                f"fn {self.maker_name()}{angled(*result.parameters())}(row: {self.run(0)}) -> {result.rust()}\n"
                 + clause("ensures", f"result ≡ {term(seen)}") + f"{{\n{body}\n}}\n"]
 
     def words(self, member: str) -> Tuple[str, str]:
@@ -702,16 +722,13 @@ class Holder:
         return [f"{refusal}({self.type_read(f).member(READ, 'gives')}) {v}" for refusal, f, v in zip(refused, self.fields, given)]
 
     def gives_row(self, values: List[str]) -> str:
+        if self.big:
+            return f"\n({self.run_member(0, 'gives')}\n{self.whole_term(values)})"
         if self.reading is not self:
             read = self.reading.gives_row(self.those_of(values, self.reading.fields))
-            return self.with_unread([value for f, value in zip(self.fields, values) if not f.read], read.lstrip())
-        if self.big:
-            return f"\n({self.run_member(0, 'gives')}\n{self.run_term(values)})"
+            unread = [(f, value) for f, value in zip(self.fields, values) if not f.read]
+            return nest([f"UnreadThen{f.absent()} {value}" for f, value in unread], read.lstrip())
         return self.row("gives", self.given(values))
-
-    def with_unread(self, values: List[str], read: str) -> str:
-        """That these values of the fields that aren't read are their defaults, and then what those may give that are."""
-        return nest([f"UnreadThen{f.absent()} {value}" for (f, _), value in zip(self.unread(), values)], read)
 
     def gives(self, values: List[str]) -> str:
         """What it may give."""
@@ -727,8 +744,10 @@ class Holder:
             return [f"{start};", f"Ok({make([])})"]
         if self.data.named and not self.of_variant:
             return [f"read_struct::<{self.list}, Self>(alloc, from)"]
-        if self.made_from:
+        if self.made_from and self.data.named:
             return [f"{MADE_OF}::read_variant_made_from::<{self.list}, {self.run(0)}, Self>(alloc, variant)"]
+        if self.made_from:
+            return [f"{MADE_OF}::read_tuple_variant_made_from::<{self.run(0)}, Self>(alloc, variant, {self.reading.count})"]
         if self.data.named:
             return [f"let fields = {start}.by_name();", *self.variant_taken(places), f"Ok({make(places)})"]
         if self.many and not self.of_variant:
@@ -742,7 +761,7 @@ class Holder:
 
     def variant_taken(self, places: List[str]) -> List[str]:
         """The statements that read a variant's fields or values."""
-        if not self.unread() and (self.big or not self.data.named):
+        if self.big or not (self.unread() or self.data.named):
             return self.every_taken()
         return [f"let {together(places)} = {self.reader}(alloc, {self.source()})?;"]
 
@@ -753,16 +772,6 @@ class Holder:
     def every_taken(self) -> List[str]:
         """The statements that read or make all values, out of that."""
         return self.all_taken(self.trait(), self.source())
-
-    def apart_reader(self) -> List[str]:
-        """The function that reads a struct of the values that are read, and makes the others: an enum's proof of reading
-        would look into these."""
-        run = Type(self.reading.run_name(0), tuple(map(parameter, self.reading.data.arguments(0))))
-        result = Type("tuple", (run, *(f.type for f, _ in self.unread())))
-        gives = self.with_unread([f"z.{place}" for place in range(1, len(result.arguments))],
-                                 f"({self.reading.run_member(0, 'gives')} z.0)")
-        lines = self.every_taken() + [f"Ok({together(self.read_places())})"]
-        return [fields_reader(self.reader, result, self.refusal_row(), gives, lines, self.data.named)]
 
     def read_function(self, made: str, result: Type, values: List[str]) -> List[str]:
         """The function that reads fields by name, or values by place of which some aren't read, and makes a value of this

@@ -205,11 +205,21 @@ class Homes:
         whole = replace(t, name=name, arguments=tuple(self.resolved(a, holder) for a in t.arguments))
         if whole == Type("Box", (Type("str"),)):
             return Type("BoxedStr")
+        self.check_arguments(whole)
         parts, levels = extent(whole)
         if parts > MOST_PARTS or levels > DEEPEST:
             raise ValueError(f"a type of more than {DEEPEST} levels or {MOST_PARTS} parts is not covered:"
                              " divide it into structs")
         return whole
+
+    def check_arguments(self, t: Type) -> None:
+        """Refuses a type of std's with more or less arguments than it has here, as a ValueError."""
+        count, known = len(t.arguments), ARGUMENTS.get(t.name, 0) if t.name not in self.items else 0
+        if known > count:
+            raise ValueError(f"`{t.written()}` has {count} arguments here, and needs {known}: write what it holds")
+        if 0 < known < count:
+            more = "hasher" if t.name in HASHED else "allocator"
+            raise ValueError(f"`{t.written()}` is not covered, as there is one {more} alone: delete `{t.arguments[known].written()}`")
 
     def marked(self, t: Type) -> Type:
         """The same type, with its opaque arrays marked, as they have a default of their own."""
@@ -293,7 +303,7 @@ class Homes:
         """The items, each after those that it holds, but those through which it contains itself."""
         self.find_cycles()
         begun, done = set(), set()
-        for first in self.file.items:
+        for first in self.items.values():
             stack = [] if first.name in begun else [(first, self.parts_of(first))]
             begun.add(first.name)
             while stack:
@@ -333,7 +343,7 @@ class Homes:
                     f.type = self.settled(f.type, item, traits, named)
                     hidden = f.type.unseen() if any(v.sent or v.read for v in around) else None
                     if hidden:
-                        raise ValueError(f"`{hidden.rust()}` is not covered on a skipped field of a variant: hold it in a struct, and"
+                        raise ValueError(f"`{hidden.written()}` is not covered on a skipped field of a variant: hold it in a struct, and"
                                          " that in the variant")
                 except ValueError as reason:
                     self.refuse(Refused(f.line, str(reason), where))
@@ -431,10 +441,10 @@ class Homes:
             return Type(t.name, arguments, lifetimes=t.lifetimes, count=t.count)
         of_std = t.name in (*HOLDERS, *LEAVES) or (arguments and self.path(t.name)[0] in STANDARD)
         if of_std or (arguments and t.name not in self.items and len(self.path(t.name)) < 2):
-            raise ValueError(f"the type `{t.rust()}` is not covered: the types that are stand in docs/OWN_TYPES.md")
+            raise ValueError(f"the type `{t.written()}` is not covered: the types that are stand in docs/OWN_TYPES.md")
         if t.name not in self.items:
             if arguments:
-                raise ValueError(f"`{t.rust()}` is not covered: a type with arguments is where this file declares it, or std's"
+                raise ValueError(f"`{t.written()}` is not covered: a type with arguments is where this file declares it, or std's"
                                  " is: write in another file a struct around it, with its impls by hand, and hold that")
             return replace(self.own(t.name), lifetimes=t.lifetimes)
         item = self.items[t.name]
@@ -514,16 +524,16 @@ class Homes:
     def part(self, t: Type, holder: Item, traits: Set[str]) -> Type:
         """An own type of this file, but for its arguments; a ValueError says why what holds it is not covered."""
         name, part = t.name, self.items[t.name]
+        if len(t.arguments) != len(part.parameters):
+            raise ValueError(f"`{name}` has {len(t.arguments)} arguments here, and its parameters are:"
+                             f" {', '.join(part.parameters) or 'none'}")
         if part in holder.cycle:
             return Type(name, home=self.here, declared=name, called=self.called(name, self.here, name), plain=True, astray=True,
                         lost=True, nested=True)
         if len(t.lifetimes) != len(part.lifetimes):
             raise ValueError(f"`{name}` has {len(t.lifetimes)} lifetimes here, and is declared with {len(part.lifetimes)}")
         if any(a.borrows() for a in t.arguments):
-            raise ValueError(f"`{t.rust()}` is not covered: what is borrowed is no argument of a type of this file")
-        if len(t.arguments) != len(part.parameters):
-            raise ValueError(f"`{name}` has {len(t.arguments)} arguments here, and its parameters are:"
-                             f" {', '.join(part.parameters) or 'none'}")
+            raise ValueError(f"`{t.written()}` is not covered: what is borrowed is no argument of a type of this file")
         lacking = traits - part.traits()
         if not part.covered:
             return Type(name, home=self.here, declared=name, called=snake(name))
@@ -578,7 +588,7 @@ class Homes:
         """Refuses a type that no key of this map or set has, as a ValueError."""
         mine = self.items.get(key.name)
         hashed, pairs = holder in HASHED, ARGUMENTS[holder] == 2
-        what, instead = (f"a map with keys of type `{key.rust()}`", "Vec of pairs") if pairs else (f"a set of `{key.rust()}`", "Vec")
+        what, instead = (f"a map with keys of type `{key.written()}`", "Vec of pairs") if pairs else (f"a set of `{key.written()}`", "Vec")
         if key.parameter or (key.home and key.arguments):
             known = "equality" if hashed else "order"
             raise ValueError(f"{what} is not covered, as their {known} is not known: hold a {instead}")

@@ -10,6 +10,7 @@ from .conversions import check_hidden, read_members, sent_members, settle_conver
 from .declarations import Item, Refusals, Refused
 from .defaults import settle_defaults
 from .derives import check_derives, check_missing
+from .elsewhere import elsewhere
 from .enums import EnumWriter
 from .files import File, Reader
 from .functions import CASES
@@ -18,7 +19,7 @@ from .literals import with_names
 from .names import name_item
 from .nested import NestedWriter
 from .nested_checks import check_nested
-from .sizes import check_arrays, check_generic, check_references, check_rows, check_sizes
+from .sizes import check_arrays, check_hashed, check_references, check_rows, check_sizes
 from .structs import StructWriter, TransparentWriter
 from .text import ghost
 from .tagged import TaggedWriter, check_tagged
@@ -145,6 +146,7 @@ def settled(file: File, homes: Homes) -> Dict[str, Writer]:
         homes.refuse(refused)
     homes.resolve()
     file.functions.uses = file.uses
+    file.functions.derived = {item.name for item in file.items if item.defaults}
     for item in file.items:
         file.functions.variants[item.name] = {v.name: [f.type for f in v.data.fields] for v in item.variants}
     keep(lambda item: name_item(item, file.functions))
@@ -158,7 +160,7 @@ def settled(file: File, homes: Homes) -> Dict[str, Writer]:
     keep(check_variants)
     keep(check_sizes)
     keep(check_rows)
-    keep(lambda item: check_generic(item, homes))
+    keep(lambda item: check_hashed(item, homes))
     keep(check_references)
     keep(lambda item: check_arrays(item, homes))
     covered = [item for item in file.items if item.covered]
@@ -242,7 +244,7 @@ def module(source: str, name: str, crate: str, place: str, cbor: bool = False,
     homes = Homes(crate, place, file, laws_of)
     writers = settled(file, homes)
     if notes is not None:
-        notes += [*file.notes, *homes.unused()] + [
+        notes += [*file.notes, *homes.unused(), *elsewhere(file, cbor)] + [
             (item.line, f"no RoundTrip is written for `{item.name}`: {item.why_astray()}")
             for item in file.items if item.derives_all() and not item.comes_back()]
         notes.sort()

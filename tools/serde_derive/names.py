@@ -2,12 +2,18 @@
 import re
 from typing import Iterator, List, Optional, Sequence, Tuple
 
-from .calls import ANYTHING, is_path
+from .attributes import why_unsaid
+from .calls import ANYTHING, STD, is_path
 from .cases import CASES, same
 from .declarations import Data, Field, Item, Named, NotRust, Refused, Value, Variant, absent_of
-from .functions import EMPTY, Functions
-from .tokens import LONGEST
+from .functions import EMPTY, ONE_VALUE, Functions
+from .tokens import LONGEST, Token, shown
 from .types import SKIPS
+
+
+BY_TYPE = re.compile(r"(?:(?:::)?(?:std|core)::default::)?Default::default")
+ALONE = "serde's `default` by `Default::default` is not covered: write `default` alone"
+ELSEWHERE = "name one of another module from `crate` on"
 
 
 def name_item(item: Item, functions: Functions) -> Iterator[Refused]:
@@ -33,6 +39,13 @@ def name_item(item: Item, functions: Functions) -> Iterator[Refused]:
     yield from name_fields(item.name, item.data, case, functions, item.derives)
 
 
+def twice(one: Named, alias: str) -> str:
+    """What is said of an alias that is taken: by what has it itself, or by another."""
+    if alias == one.known or one.aliases().count(alias) > 1:
+        return f"it is read by the name `{alias}` already: delete the alias"
+    return f"two are called `{alias}`: give one another name"
+
+
 def check_aliases(fields: List[Tuple[str, Field]], named: bool) -> Iterator[Refused]:
     """Refuses aliases that are names too, or of what isn't read by name."""
     taken = {f.known for _, f in fields if f.read}
@@ -42,7 +55,7 @@ def check_aliases(fields: List[Tuple[str, Field]], named: bool) -> Iterator[Refu
             if not (named and f.read):
                 yield Refused(f.line, "serde's `alias` is for fields with names that are read: delete it", where)
             elif alias in taken:
-                yield Refused(f.line, f"two are called `{alias}`: give one another name", where)
+                yield Refused(f.line, twice(f, alias), where)
             taken.add(alias)
 
 
@@ -53,7 +66,7 @@ def check_tags(item: Item, variants: List[Tuple[str, Variant]]) -> Iterator[Refu
         for alias in v.aliases():
             yield from check_sent(alias, v.line, where)
             if alias in taken:
-                yield Refused(v.line, f"two are called `{alias}`: give one another name", where)
+                yield Refused(v.line, twice(v, alias), where)
             taken.add(alias)
     others = [(where, v) for where, v in variants if "other" in v.serde]
     for where, v in others:
@@ -69,25 +82,53 @@ def default_fields(item: Item, functions: Functions) -> Iterator[Refused]:
     """Gives the fields of a struct the defaults that it has: those of their types where it derives Default."""
     path = item.serde["default"] or f"{item.name}::default"
     by_function = item.serde["default"] or (not item.defaults and path in functions.named)
-    given = functions.fields_given(path) if by_function else {}
-    for f in item.data.fields:
-        if not {"default", "flatten"} & set(f.serde):
-            f.serde["default"] = ""
-            if by_function:
-                value = functions.value(given[f.name][0], f.type, given[f.name][1]) if f.name in given else None
-                yield from default_by(f"{item.name}.{f.name}", f, value, path, functions)
+    given = functions.fields_given(path, item.name) if by_function else {}
+    by_container = [f for f in item.data.fields if not {"default", "flatten"} & set(f.serde)]
+    for f in by_container:
+        f.serde["default"] = ""
+        if given:
+            yield from default_in(f"{item.name}.{f.name}", f, given.get(f.name, ([], "")), path, functions)
+    if by_function and by_container and not given:
+        why = ALONE if BY_TYPE.fullmatch(path) else f"its default is not covered{functions.why_no_fields(path, item.name)}"
+        yield Refused(item.line, why, item.name)
 
 
-def default_by(where: str, f: Field, value: Optional[Value], path: str, functions: Functions) -> Iterator[Refused]:
-    """Gives a field the value that a function gives for it."""
+def default_in(where: str, f: Field, given: Tuple[List[Token], str], path: str, functions: Functions) -> Iterator[Refused]:
+    """Gives a field the value that a function gives for it in the struct: these tokens, in the impl of an owner."""
+    value = functions.value(given[0], f.type, given[1])
     if value:
-        f.missing, f.made = value.fact, value.code * (value != EMPTY.get(f.type.name))
-    elif is_path(f.serde["default"], functions.uses):
-        f.missing, f.maker = ANYTHING, path
+        take_value(f, value)
     else:
-        other = ", or name one of another module from `crate` on" * bool(f.serde["default"])
-        yield Refused(f.line, f"its default is not covered: write in this file a function `{path}` that gives one value, such as"
-                      f" `8080`, `\"text\".to_owned()`, `Vec::new()` or a variant of an enum of this file{other}", where)
+        has = f"has `{shown(given[0])}`" if given[0] else "has none"
+        yield Refused(f.line, f"its default is not covered, as `{path}` {has}: write there one value, {ONE_VALUE}, or above the field"
+                      " `default = \"..\"` with the path of a function of another module", where)
+
+
+def take_value(f: Field, value: Value) -> None:
+    """Gives a field this value, where it is missing."""
+    f.missing, f.made = value.fact, value.code * (value != EMPTY.get(f.type.name))
+
+
+def default_by(where: str, f: Field, path: str, functions: Functions) -> Iterator[Refused]:
+    """Gives a field the value that a function gives for it."""
+    value = functions.given(path, f.type)
+    if value:
+        take_value(f, value)
+    elif is_path(path, functions.uses):
+        f.missing, f.maker = ANYTHING, path
+    elif BY_TYPE.fullmatch(path):
+        yield Refused(f.line, ALONE, where)
+    elif path.lstrip(":").split("::")[0] in STD and path not in functions.named:
+        yield Refused(f.line, f"`{path}` is not covered as a default of `{f.type.written()}`: write in this file a function that gives"
+                      f" one value, {ONE_VALUE}, or {ELSEWHERE}", where)
+    else:
+        yield Refused(f.line, f"its default is not covered{functions.why_no_value(path)}, or {ELSEWHERE}", where)
+
+
+def is_derived(f: Field, functions: Functions) -> bool:
+    """Whether the default of a field is the Default that its type derives in this file."""
+    path = f.serde.get("default", "")
+    return f.type.name in functions.derived and bool(path == f"{f.type.name}::default" or BY_TYPE.fullmatch(path))
 
 
 def name_fields(holder: str, data: Data, case: Optional[str], functions: Functions, derives: List[str]) -> Iterator[Refused]:
@@ -102,9 +143,11 @@ def name_fields(holder: str, data: Data, case: Optional[str], functions: Functio
             yield Refused(f.line, "serde's `default` is covered in fields with names: give them names", where)
         if not f.read:
             f.serde.setdefault("default", "")
+        if is_derived(f, functions):
+            f.serde["default"] = ""
         may_be_missing = data.named or not f.read
         if f.serde.get("default") and "Deserialize" in derives and may_be_missing:
-            yield from default_by(where, f, functions.given(f.serde["default"], f.type), f.serde["default"], functions)
+            yield from default_by(where, f, f.serde["default"], functions)
         elif not f.missing and may_be_missing and (
                 "default" in f.serde or (f.type.name == "Option" and not f.function("deserialize"))):
             value = None if f.read else functions.initial(f.type)
@@ -137,7 +180,7 @@ def check_skipped(where: str, f: Field, data: Data, functions: Functions) -> Ite
 def check_sent(name: str, line: int, where: str) -> Iterator[Refused]:
     """Refuses a name that contracts can't hold."""
     if not re.fullmatch(r"[ !#-\[\]-~]+", name):
-        yield Refused(line, f"the name `{ascii(name)[1:-1]}` is not covered: printable ASCII but \" and \\ is", where)
+        yield Refused(line, why_unsaid(name), where)
     elif len(name) > LONGEST:
         yield Refused(line, f"a name of more than {LONGEST} letters is not covered: shorten it", where)
 

@@ -5,7 +5,7 @@ from .declarations import Field, Item, Variant
 from .enums import EnumWriter
 from .holder import Holder
 from .literals import name_method, name_term
-from .nested_holders import BELOW, Levels, NestedHolder, NestedTaggedHolder, path_of, struct_within
+from .nested_holders import BELOW, Levels, NestedHolder, NestedTaggedHolder, PlainHolder, PlainTaggedHolder, path_of, struct_within
 from .structs import StructWriter
 from .tagged import TaggedWriter
 from .text import DESERIALIZE, SERIALIZE, arm, bare, clause, elim, function, ghost, together
@@ -223,8 +223,12 @@ class NestedEnumWriter(NestedWriter, EnumWriter):
     def __init__(self, item: Item):
         EnumWriter.__init__(self, item)
         self.settle(item)
-        self.variants = [(v, NestedHolder.of(self.levels, "Variant", [item.wire, i, v.wire], v.data, v.owner)
-                          if self.leads_back(v) else holder) for i, (v, holder) in enumerate(self.variants)]
+        self.variants = [(v, self.variant_holder(v, "Variant", [item.wire, i, v.wire], v.data, v.owner))
+                         for i, v in enumerate(item.variants)]
+
+    def variant_holder(self, v: Variant, *given: object) -> Holder:
+        """What a variant holds."""
+        return NestedHolder.of(self.levels, *given) if self.leads_back(v) else PlainHolder(*given)
 
     @staticmethod
     def leads_back(v: Variant) -> bool:
@@ -366,8 +370,10 @@ class NestedTaggedWriter(NestedEnumWriter, TaggedWriter):
     def __init__(self, item: Item):
         TaggedWriter.__init__(self, item)
         self.settle(item)
-        self.variants = [(v, NestedTaggedHolder.of(self.levels, item, self.tag, v, holder.fields)
-                          if self.leads_back(v) else holder) for v, holder in self.variants]
+        self.variants = [(v, self.variant_holder(v, item, self.tag, v, holder.fields)) for v, holder in self.variants]
+
+    def variant_holder(self, v: Variant, *given: object) -> Holder:
+        return NestedTaggedHolder.of(self.levels, *given) if self.leads_back(v) else PlainTaggedHolder(*given)
 
     def has_sender(self, v: Variant) -> bool:
         return True

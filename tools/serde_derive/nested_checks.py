@@ -3,7 +3,7 @@ import re
 from typing import Dict, Iterator, List, Optional
 
 from .declarations import Data, Item, NotRust, Refused
-from .holder import LONGEST_HELD
+from .holder import LONGEST_HELD, needs_struct
 from .homes import placed
 from .types import ELSEWHERE, PHANTOM, Type
 from .words import NESTED_ITEMS, NESTED_WORDS
@@ -116,6 +116,9 @@ def check_data(item: Item, data: Data, line: int, where: str) -> Iterator[Refuse
         elif holds_as(f.type):
             yield Refused(f.line, f"`{item.name}` contains itself, which is not covered in `{holds_as(f.type)}`: hold it in Box,"
                           " Vec or Option<Box>", f"{where}.{f.name}")
+        elif "tag" in item.serde and needs_struct(f, True, True):
+            yield Refused(f.line, f"`{f.type.written()}` is not covered next to the tag of a type that contains itself: hold it in another"
+                          " struct", f"{where}.{f.name}")
         elif "tag" in item.serde and f.type.name == "Option" and f.type.leads_back():
             yield Refused(f.line, f"`{item.name}` contains itself, which is not covered in an Option next to a tag: hold it in a Vec",
                           f"{where}.{f.name}")

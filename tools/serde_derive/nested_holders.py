@@ -174,6 +174,16 @@ class NestedTaggedHolder(NestedHolder, TaggedHolder):
     """What stands beside the tag of a variant, of which some leads back."""
 
 
+class PlainHolder(Holder):
+    """What a variant holds of which nothing leads back: its values are read one by one."""
+
+    big = made_from = False
+
+
+class PlainTaggedHolder(PlainHolder, TaggedHolder):
+    """The same beside a tag."""
+
+
 def struct_within(holder: NestedHolder, whole: str, wire: str, values: List[str], bounds: str) -> str:
     """The impl that reads the fields of a struct, which contracts see as these values of `z`, by a function of their own."""
     holder.read_as = "l"

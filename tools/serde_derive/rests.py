@@ -2,7 +2,7 @@
 from typing import Dict, Iterator, List, Tuple
 
 from .declarations import Field, Item, Refused
-from .spread import OF_PARAMETER
+from .spread import DEEPEST_SPREAD, OF_PARAMETER, TOO_DEEP, is_told_apart
 from .types import POINTERS, Type
 
 MAPS = {"BTreeMap", "HashMap"}
@@ -12,29 +12,33 @@ COVERED = (f"{WHAT} is covered where it is a struct of this file with named fiel
            " or an Option of one of these: hold one of them, or delete `flatten`")
 
 
-def why_not(t: Type, items: Dict[str, Item]) -> str:
-    """Why no value of this type is read of what is left over, or nothing."""
+def why_not(t: Type, items: Dict[str, Item], levels: int = 0) -> str:
+    """Why no value of this type is read of what is left over, or nothing; what is flattened leads to it through so many types."""
     if t.name in MAPS:
         return ""
     if t.name in POINTERS:
-        return why_not(t.arguments[0], items)
+        return why_not(t.arguments[0], items, levels)
     if t.parameter:
         return f"{WHAT} {OF_PARAMETER}"
     if t.home and t.name not in items:
         return f"{WHAT} is not covered where its type is of another file: declare `{t.name}` in this one"
     if t.name not in items:
         return COVERED
+    if is_told_apart(items[t.name]):
+        return ""
+    if levels > DEEPEST_SPREAD:
+        return f"{WHAT} {TOO_DEEP}"
     item = items[t.name].at(t)
     if item.conversions:
         return f"{WHAT} {item.why_apart()}"
-    return why_not_enum(item) if item.variants else why_not_struct(item, items)
+    return why_not_enum(item) if item.variants else why_not_struct(item, items, levels + 1)
 
 
-def why_not_struct(item: Item, items: Dict[str, Item]) -> str:
+def why_not_struct(item: Item, items: Dict[str, Item], levels: int) -> str:
     """The same of a struct: one of one value is read as that, and of one with named fields Serde looks for their names alone."""
     if item.transparent() or item.data.style == "Newtype":
         by_function = f"{WHAT} is not covered where a function of yours reads it: hold the value itself"
-        return by_function if item.field_read().function("deserialize") else why_not(item.field_read().type, items)
+        return by_function if item.field_read().function("deserialize") else why_not(item.field_read().type, items, levels)
     if not item.data.named:
         return COVERED
     if item.data.closed:
@@ -72,7 +76,7 @@ def why_unread(f: Field, flattened: List[Field], first: Field, items: Dict[str, 
     if f is not first:
         return f"one field of a struct takes what is left over, here `{first.name}`: hold what both take in one struct or enum"
     if of.sized_by():
-        return f"{WHAT} is not covered where its size depends on `{of.sized_by()[0]}`: hold `Box<{of.rust()}>`"
+        return f"{WHAT} is not covered where its size depends on `{of.sized_by()[0]}`: hold `Box<{of.written()}>`"
     if any(flattened.index(other) > flattened.index(f) for other in inlined):
         return f"{WHAT} is covered behind other flattened structs, since Serde gives it their entries too: move it there"
     if any("flatten" in leaf.serde for other in inlined for leaf in other.inside.fields):

@@ -6,13 +6,10 @@ from .conversions import may_hold_memory
 from .declarations import Data, Field, Item, Refused
 from .holder import LONGEST_HELD, LONGEST_ROW, needs_struct
 from .homes import Homes, placed
-from .types import ARRAY, BORROWED, FLOATS, HASHED, LEAVES, STATIC, Type
+from .types import ARRAY, BORROWED, FLOATS, LEAVES, STATIC, Type
 
 # rows are refused by the checker in which more values stand before one of a parameter's type, or entries where some are flattened
 MOST_BEFORE, MOST_BEFORE_FLATTENED = 6, 4
-# so many fields of types with parameters are read that are taken apart, among more than a row has and in a variant: of more,
-# proofs are not found
-MOST_GENERIC, MOST_GENERIC_IN_VARIANT = 2, 5
 
 
 def check_sizes(item: Item) -> Iterator[Refused]:
@@ -73,38 +70,15 @@ def check_rows(item: Item) -> Iterator[Refused]:
                               f" hold `Box<{f.type.rust()}>`", f"{where}.{f.name}")
 
 
-def check_generic(item: Item, homes: Homes) -> Iterator[Refused]:
-    """Refuses fields with which proofs of reading are not found, where some are of types with parameters and they are not made of
-    a row at once: what is hashed, and more than a few of such types."""
-    parts = [(v.data, f"{item.name}.{v.name}") for v in item.variants if v.read] if item.variants else [(item.data, item.name)]
-    for data, where in parts if "Deserialize" in item.derives else ():
-        read = [f for f in data.leaves() if f.read]
-        generic = [f for f in read if f.type.parameters()]
-        why, in_variant = taken_apart(item, data), bool(item.variants) and data.named
-        if not generic or not why or not (in_variant or len(read) > LONGEST_ROW):
-            continue
-        most, among, hashed = ((MOST_GENERIC_IN_VARIANT, f"in a variant {why}", {"HashMap"}) if in_variant else
-                               (MOST_GENERIC, f"among more than {LONGEST_ROW} {why}", HASHED))
-        for f in read:
-            if holds(f.type, hashed, homes):
-                yield Refused(f.line, f"`{f.type.rust()}` is or holds a {' or a '.join(sorted(hashed))}, which is not covered beside types with"
-                              f" parameters {among}: hold a BTreeMap or a BTreeSet", f"{where}.{f.name}")
-        for f in generic[most:]:
-            yield Refused(f.line, f"more than {most} fields of types with parameters are not covered {among}: hold some in a struct",
-                          f"{where}.{f.name}")
-
-
-def taken_apart(item: Item, data: Data) -> str:
-    """Why the values of a struct or a variant are not made of a row at once, or nothing where they are."""
-    if any(not f.read for f in data.leaves()):
-        return "of which some fields are not read" if item.variants and data.named else "fields of which some are not read"
-    if not item.variants:
-        return ""
-    if not data.named:
-        return "values of a variant"
-    if "content" in item.serde:
-        return "of an enum that is tagged adjacently"
-    return "that has a field of a parameter's type" if data.steps() else ""
+def check_hashed(item: Item, homes: Homes) -> Iterator[Refused]:
+    """Refuses what is or holds a hash map beside a field of a parameter's type, in a variant of values by name: these are read one
+    by one then, and proofs of that are not found."""
+    for v in item.variants if "Deserialize" in item.derives and "untagged" not in item.serde else ():
+        read = [f for f in v.data.fields if v.read and f.read]
+        if v.data.named and any(f.sized_by() for f in read):
+            yield from (Refused(f.line, f"`{f.type.rust()}` is or holds a HashMap, which is not covered beside a field of a parameter's"
+                                " type in a variant: hold a BTreeMap", f"{item.name}.{v.name}.{f.name}")
+                        for f in read if holds(f.type, {"HashMap"}, homes))
 
 
 def holds(t: Type, names: Set[str], homes: Homes) -> bool:

@@ -199,7 +199,7 @@ class TransparentWriter(StructWriter):
         read = f"let {places[at]} = {reading.code if reading else 'Deserialize::deserialize'}(alloc, from)?;"
         return [ghost("refusal", refusal),
                 ghost("gives", f"λ s p. {' × '.join(given)}"),
-                function(DESERIALIZE.format(self.whole.rust()), read, *self.holder.unread_made(),
+                function(DESERIALIZE.format(self.whole.rust()), read, *self.holder.unread_made(self.holder.unread()),
                          f"Ok({self.item.data.made(self.item.name, places)})")]
 
     def round_trip(self) -> List[str]:

@@ -45,7 +45,7 @@ class TaggedHolder(Holder):
     most = 1
 
     def __init__(self, item: Item, tag: str, v: Variant, fields: List[Field]):
-        data, name = Data("Struct", fields, v.data.closed), (v.beside or item).wire
+        data, name = Data("Struct", fields, (v.beside or v).data.closed), (v.beside or item).wire
         super().__init__("Struct", [name], data, v.owner)
         self.names_known = [tag] + self.names_known
         self.names_sent = self.names_known if self.sent_list == self.list else [tag] + self.names_sent

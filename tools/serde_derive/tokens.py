@@ -132,6 +132,13 @@ def text_of(token: Token) -> str:
         raise NotRust(token.line, f"{token.text} holds an escape for no character") from None
 
 
+def shown(tokens: List[Token], most: int = 16) -> str:
+    """These tokens as a line, of which the first stand for many."""
+    texts = [one_line(token.text) for token in tokens[:most]]
+    line = "".join(text + " " * apart(text, after) for text, after in zip(texts, texts[1:] + [";"]))
+    return line[:MOST_QUOTED] + " .." * (len(tokens) > most or len(line) > MOST_QUOTED)
+
+
 class Cursor:
     """A place among the tokens of a file."""
 
@@ -212,6 +219,4 @@ class Cursor:
 
     def shown(self, start: int, end: int, most: int = 16) -> str:
         """The tokens between two places, as a line."""
-        texts = [one_line(token.text) for token in self.tokens[start:end][:most]]
-        line = "".join(text + " " * apart(text, after) for text, after in zip(texts, texts[1:] + [";"]))
-        return line[:MOST_QUOTED] + " .." * (end - start > most or len(line) > MOST_QUOTED)
+        return shown(self.tokens[start:end], most)

@@ -339,6 +339,10 @@ class Type:
             return f"[{inside}; {self.count}]"
         return f"{self.name}<{inside}>" if inside else self.name
 
+    def written(self) -> str:
+        """The same as a user writes it, who has no name for a boxed text."""
+        return re.sub(r"(?<![\w:])BoxedStr\b", "Box<str>", self.rust())
+
     def member(self, trait: str, member: str) -> str:
         """A ghost member of the impl of a trait."""
         return f"⟦<{self.rust()} as {trait}>⟧.{member}"

@@ -2,25 +2,26 @@
 //!
 //! Written by `tools/derive` from `generic.rs`: change that file, and write this one anew.
 
-ghost use Rattle.std.specs.Prelude.{◌≡◌, ◌∷◌, [], Option, None, refl};
+ghost use Rattle.std.specs.Prelude.{◌≡◌, ◌∷◌, [], Bool, Option, None, false, refl};
 ghost use Rattle.content_ser.specs.Scripts.Sends.{Sends};
 ghost use Rattle.content_ser.specs.Scripts.Own.{field_first, tuple_field_first, end_script};
-ghost use Rattle.content_ser.specs.Scripts.Own.{unit_variant_script, tuple_struct_script};
+ghost use Rattle.content_ser.specs.Scripts.Own.{tuple_struct_script, tuple_variant_script};
 ghost use Rattle.content_ser.specs.Scripts.Own.{struct_script, struct_variant_script};
 ghost use Rattle.content_ser.specs.Laws.StandardScripts.{leaf_lawful, option_lawful, seq_lawful};
 ghost use Rattle.content_ser.specs.Laws.StandardScripts.{map_lawful};
 ghost use Rattle.content_ser.specs.Laws.OwnScripts.{field_fits, struct_end_fits, tuple_field_fits};
-ghost use Rattle.content_ser.specs.Laws.OwnScripts.{tuple_end_fits, unit_variant_lawful};
-ghost use Rattle.content_ser.specs.Laws.OwnScripts.{tuple_struct_lawful, struct_lawful};
+ghost use Rattle.content_ser.specs.Laws.OwnScripts.{tuple_end_fits, tuple_struct_lawful};
+ghost use Rattle.content_ser.specs.Laws.OwnScripts.{tuple_variant_lawful, struct_lawful};
 ghost use Rattle.content_ser.specs.Laws.OwnScripts.{struct_variant_lawful};
 ghost use Rattle.content_de.specs.Reads.Tuples.{PartThen, NoPart};
 ghost use Rattle.content_de.specs.Reads.ByName.{read_by_name, ReadByName, NoOthers};
 ghost use Rattle.content_de.specs.Reads.Tagged.{tag_then_buffered, TagThenBuffered};
-ghost use Rattle.content_de.specs.Reads.Own.{enum_refusal, EnumGives, unit_variant_refusal};
-ghost use Rattle.content_de.specs.Reads.Own.{UnitVariantGives, tuple_struct_refusal};
-ghost use Rattle.content_de.specs.Reads.Own.{TupleStructGives, struct_refusal, StructGives};
+ghost use Rattle.content_de.specs.Reads.Own.{enum_refusal, EnumGives, tuple_struct_refusal};
+ghost use Rattle.content_de.specs.Reads.Own.{TupleStructGives, tuple_variant_refusal};
+ghost use Rattle.content_de.specs.Reads.Own.{TupleVariantGives, struct_refusal, StructGives};
 ghost use Rattle.content_de.specs.Reads.Own.{struct_variant_refusal, StructVariantGives};
 ghost use Rattle.serde_content.specs.Literals.{name, RowThen, RowOrThen, others_left};
+ghost use Rattle.serde_content.specs.Skips.{UnreadThen};
 ghost use Rattle.serde_content.specs.Variants.{variants};
 ghost use Rattle.serde_content.specs.Laws.Tagged.{tagged_script};
 ghost use Rattle.std.specs.declared.alloc.Global.{Global};
@@ -30,9 +31,9 @@ ghost use Rattle.check_fields.specs.declared.generic.Notice.TheVariants as notic
 
 use serde_content::de::{Deserialize, FieldsByName, VariantAccess};
 use serde_content::derive_support::{
-    Names, OthersSkipped, PartsEnd, ReadField, ReadFieldOr, ReadFields, ReadPart, ReadParts,
-    ReadStruct, SendEnd, SendField, SendOpen, SendPart, SendTag, TaggedVariants, Variants,
-    no_such_variant, read_enum, read_struct, read_tagged, send_row, variant_index,
+    Absent, Names, OthersSkipped, PartsEnd, ReadField, ReadFieldOr, ReadFields, ReadPart,
+    ReadParts, ReadStruct, SendEnd, SendField, SendOpen, SendPart, SendTag, TaggedVariants,
+    Variants, no_such_variant, read_enum, read_struct, read_tagged, send_row, variant_index,
 };
 use serde_content::ser::{Call, Serialize, Serializer};
 use serde_content::{Deserializer, Error, Result};
@@ -501,16 +502,21 @@ impl<'de, T: Deserialize<'de>> Deserialize<'de> for Row<T> {
 /// What happened.
 #[derive(Drop)]
 pub enum Event<T> {
-    Made { of: HashMap<String, T>, count: u8 },
-    Lost,
+    Made {
+        of: HashMap<String, T>,
+        count: u8,
+        /// Whether somebody has seen it.
+        seen: bool,
+    },
+    Lost(Vec<T>, u16),
 }
 
 impl<T> serde_content::derive_support::MadeFrom<From1OfEventMade<T>> for Event<T> {
-    ghost made_from = { λ row. event.Made row.0 row.1 };
+    ghost made_from = { λ row. event.Made row.0 row.1 row.2 };
 
     fn make(row: From1OfEventMade<T>) -> Event<T> {
-        let From1OfEventMade(of, count) = row;
-        Event::Made { of, count }
+        let From1OfEventMade(of, count, seen) = row;
+        Event::Made { of, count, seen }
     }
 }
 
@@ -527,28 +533,85 @@ impl Names for FieldsOfEventMade {
     }
 }
 
+/// Sends that variant.
+fn send_whole_event_made<S: Serializer, T: Serialize>(
+    alloc: Global,
+    serializer: &mut S,
+    whole: &Event<T>,
+    of: &HashMap<String, T>,
+    count: &u8,
+    seen: &bool,
+) -> Result<()>
+    requires { whole.now ≡ event.Made of.now count.now seen.now }
+    ensures { Sends S.step S.refuses (S.seen serializer.old)
+        (⟦<Event<T> as Serialize>⟧.script whole.now)
+        result (S.seen serializer.new) }
+{
+    let row = SendEnd;
+    let row = SendField(FieldsOfEventMade, 1, count, row);
+    let row = SendField(FieldsOfEventMade, 0, of, row);
+    let row = SendOpen(Call::StructVariant(name_event(), 0, name_made(), 2), row);
+    send_row(alloc, serializer, &row)
+}
+
 type Field1OfEventMade<T> = ReadField<FieldsOfEventMade, 0, HashMap<String, T>, Field2OfEventMade>;
 
 type Field2OfEventMade = ReadField<FieldsOfEventMade, 1, u8, OthersSkipped<FieldsOfEventMade>>;
 
 /// The values from place 1 on.
 #[derive(Drop)]
-struct From1OfEventMade<T>(HashMap<String, T>, u8);
+struct From1OfEventMade<T>(HashMap<String, T>, u8, bool);
 
 impl<'de, T: Deserialize<'de>> ReadFields<'de> for From1OfEventMade<T> {
     ghost refusal = { λ f. ⟦<Field1OfEventMade<T> as ReadFields<'de>>⟧.refusal f };
 
     ghost gives = { λ z f.
+        (UnreadThen (λ (x : Bool). x ≡ false) z.2
         (RowThen (name "of") (⟦<HashMap<String, T> as Deserialize<'de>>⟧.gives) z.0
         (RowThen (name "count") (⟦<u8 as Deserialize<'de>>⟧.gives) z.1
-        NoOthers))
+        NoOthers)))
         f };
 
     fn read<'n: 'de>(alloc: Global, fields: FieldsByName<'de, 'n>) -> Result<Self> {
         let row: Field1OfEventMade<T> = ReadFields::read(alloc, fields)?;
         let ReadField(of, row, _) = row;
         let ReadField(count, _, _) = row;
-        Ok(From1OfEventMade(of, count))
+        let seen: bool = Absent::absent(alloc);
+        Ok(From1OfEventMade(of, count, seen))
+    }
+}
+
+impl<T> serde_content::derive_support::MadeFrom<From1OfEventLost<T>> for Event<T> {
+    ghost made_from = { λ row. event.Lost row.0 row.1 };
+
+    fn make(row: From1OfEventLost<T>) -> Event<T> {
+        let From1OfEventLost(x1, x2) = row;
+        Event::Lost(x1, x2)
+    }
+}
+
+type Part1OfEventLost<T> = ReadPart<2, 0, Vec<T>, Part2OfEventLost>;
+
+type Part2OfEventLost = ReadPart<2, 1, u16, PartsEnd<2>>;
+
+/// The values from place 1 on.
+#[derive(Drop)]
+struct From1OfEventLost<T>(Vec<T>, u16);
+
+impl<'de, T: Deserialize<'de>> ReadParts<'de> for From1OfEventLost<T> {
+    ghost refusal = { λ f. ⟦<Part1OfEventLost<T> as ReadParts<'de>>⟧.refusal f };
+
+    ghost gives = { λ z f.
+        (PartThen (⟦<Vec<T> as Deserialize<'de>>⟧.gives) z.0
+        (PartThen (⟦<u16 as Deserialize<'de>>⟧.gives) z.1
+        NoPart))
+        f };
+
+    fn read<'n: 'de>(alloc: Global, parts: serde_content::de::Seq<'de, 'n>) -> Result<Self> {
+        let row: Part1OfEventLost<T> = ReadParts::read(alloc, parts)?;
+        let ReadPart(x1, row) = row;
+        let ReadPart(x2, _) = row;
+        Ok(From1OfEventLost(x1, x2))
     }
 }
 
@@ -567,32 +630,40 @@ impl Names for NamesOfEvent {
 
 impl<T: Serialize> Serialize for Event<T> {
     ghost script = { elim [
-      | event.Made x1 x2 ↦ struct_variant_script (name "Event") 0 (name "Made") 2
+      | event.Made x1 x2 x3 ↦ struct_variant_script (name "Event") 0 (name "Made") 2
           (field_first (name "of") (⟦<HashMap<String, T> as Serialize>⟧.script x1)
           (field_first (name "count") (⟦<u8 as Serialize>⟧.script x2)
           end_script))
-      | event.Lost ↦ unit_variant_script (name "Event") 1 (name "Lost")
+      | event.Lost x1 x2 ↦ tuple_variant_script (name "Event") 1 (name "Lost") 2
+          (tuple_field_first (⟦<Vec<T> as Serialize>⟧.script x1)
+          (tuple_field_first (⟦<u16 as Serialize>⟧.script x2)
+          end_script))
     ] };
 
     ghost lawful = { elim [
-      | event.Made x1 x2 ↦ λ readable. struct_variant_lawful
+      | event.Made x1 x2 x3 ↦ λ readable. struct_variant_lawful
           (field_fits (map_lawful (λ x h. leaf_lawful refl) (λ x h. T.lawful x h) x1.entries
           readable)
           (field_fits (leaf_lawful refl)
           struct_end_fits))
-      | event.Lost ↦ λ readable. unit_variant_lawful
+      | event.Lost x1 x2 ↦ λ readable. tuple_variant_lawful
+          (tuple_field_fits (seq_lawful (λ x h. T.lawful x h) x1.items readable)
+          (tuple_field_fits (leaf_lawful refl)
+          tuple_end_fits))
     ] };
 
     fn serialize<S: Serializer>(&self, alloc: Global, serializer: &mut S) -> Result<()> {
         match self {
-            Event::Made { of, count } => {
+            Event::Made { of, count, seen } => {
+                send_whole_event_made(alloc, serializer, self, of, count, seen)
+            }
+            Event::Lost(x1, x2) => {
                 let row = SendEnd;
-                let row = SendField(FieldsOfEventMade, 1, count, row);
-                let row = SendField(FieldsOfEventMade, 0, of, row);
-                let row = SendOpen(Call::StructVariant(name_event(), 0, name_made(), 2), row);
+                let row = SendPart(x2, row);
+                let row = SendPart(x1, row);
+                let row = SendOpen(Call::TupleVariant(name_event(), 1, name_lost(), 2), row);
                 send_row(alloc, serializer, &row)
             }
-            Event::Lost => Call::UnitVariant(name_event(), 1, name_lost()).send(serializer),
         }
     }
 }
@@ -605,22 +676,32 @@ impl<'de, T: Deserialize<'de>> Variants<'de> for Event<T> {
       struct_variant_refusal (read_by_name
           (⟦<From1OfEventMade<T> as ReadFields<'de>>⟧.refusal)),
     )
-        ∷ (name "Lost", unit_variant_refusal)
+        ∷ (
+          name "Lost",
+          tuple_variant_refusal
+              (⟦<From1OfEventLost<T> as ReadParts<'de>>⟧.refusal),
+        )
         ∷ []) };
 
     ghost named = { elim [
-      | event.Made x1 x2 ↦ name "Made"
-      | event.Lost ↦ name "Lost"
+      | event.Made x1 x2 x3 ↦ name "Made"
+      | event.Lost x1 x2 ↦ name "Lost"
     ] };
 
     ghost held = { elim [
-      | event.Made x1 x2 ↦ StructVariantGives (ReadByName
+      | event.Made x1 x2 x3 ↦ StructVariantGives (ReadByName
           (⟦<From1OfEventMade<T> as ReadFields<'de>>⟧.gives
           (record {
             0 = x1;
             1 = x2;
+            2 = x3;
           })))
-      | event.Lost ↦ UnitVariantGives
+      | event.Lost x1 x2 ↦ TupleVariantGives
+          (⟦<From1OfEventLost<T> as ReadParts<'de>>⟧.gives
+          (record {
+            0 = x1;
+            1 = x2;
+          }))
     ] };
 
     #[tactic(auto, unfolding(serde_content::specs::Literals::name))]
@@ -646,8 +727,10 @@ impl<'de, T: Deserialize<'de>> Variants<'de> for Event<T> {
                 >(alloc, variant)
             }
             Some(1) => {
-                variant.unit_variant(alloc)?;
-                Ok(Event::Lost)
+                serde_content::derive_support::read_tuple_variant_made_from::<
+                    From1OfEventLost<T>,
+                    Self,
+                >(alloc, variant, 2)
             }
             _ => Err(no_such_variant(alloc, tag, &NamesOfEvent)),
         }

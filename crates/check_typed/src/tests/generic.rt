@@ -49,8 +49,8 @@ fn variants_are_read_by_their_tag(rt: HostRuntime) -> Result<(), Fail> {
         alloc,
     )?;
     check(&rt, alloc, &made, wanted)?;
-    let lost: Event<u8> = reader(alloc, "Lost")?.deserialize(alloc)?;
-    check(&rt, alloc, &lost, "Event::Lost")
+    let lost: Event<u8> = reader(alloc, "{ Lost: [ [ 5, 6 ], 7 ] }")?.deserialize(alloc)?;
+    check(&rt, alloc, &lost, "Event::Lost([5u8, 6u8], 7u16)")
 }
 
 #[test]
