@@ -84,6 +84,10 @@ def large() -> Iterator[Tuple[str, int, str]]:
     for count, status in ((100, 0), (1000, 2)):
         yield f"{count} structs of one value that are flattened", status, f"{derive}struct A {{ #[serde(flatten)] x: A0 }}\n" + "".join(
             f"{derive}struct A{i}(Box<A{i + 1}>);\n" for i in range(count)) + f"{derive}struct A{count} {{ y: u8 }}\n"
+    sent = "#[derive(Serialize)]\n"
+    yield "40 flattened enums, each with two of the next", 0, f"{sent}struct A {{ #[serde(flatten)] x: A0 }}\n" + "".join(
+        f"{sent}#[serde(untagged)]\nenum A{i} {{ X(Box<A{i + 1}>), Y(Box<A{i + 1}>) }}\n" for i in range(40)) + (
+        f"{sent}struct A40 {{ y: u8 }}\n")
     yield "1,000 fields", 2, f"{derive}struct A {{\n{''.join(f'    x{i}: u8,{chr(10)}' for i in range(1000))}}}\n"
     left_out = '#[serde(skip_serializing_if = "Option::is_none")] '
     for count, status in ((64, 0), (65, 2)):

@@ -388,8 +388,8 @@ class Conversion:
 class Item(Named):
     """A struct or an enum, with the traits that it derives. Its functions are called after its
     `owner`, and contracts know an enum's variants by `cases`. `levels` is how deep what is flattened
-    stands, and it is `spread` where it is flattened and not inlined, and sends its entries there; what is not `covered` is
-    not written. It `defaults` where its declaration derives Default,
+    stands, and it is `spread` where it is flattened and not inlined, and sends its entries there; `unspread` says, once that
+    is asked, why it can't. What is not `covered` is not written. It `defaults` where its declaration derives Default,
     and `absent` says that Absent is written, for a field that is read as that value where it is missing: this `absent_value`,
     where it is given. It is `valued` where it has Absent, written here or by hand.
     It borrows for its `lifetimes`. One with `parameters` may be `held_as` a type that has arguments in their place. One that
@@ -404,6 +404,7 @@ class Item(Named):
     covered: bool = True
     levels: int = 1
     spread: bool = False
+    unspread: Optional[str] = None
     owner: str = ""
     cases: str = ""
     defaults: bool = False

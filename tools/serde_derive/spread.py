@@ -43,15 +43,21 @@ def why_unspread(t: Type, items: Dict[str, Item], levels: int = 0) -> str:
         return OF_PARAMETER
     if not part or t.arguments or not (part.variants or part.data.style in ("Struct", "Newtype")):
         return UNSPREAD
-    part.spread = True
+    if part.unspread is None:
+        part.spread, part.unspread = True, why_part_unspread(part, items, levels + 1)
+    return part.unspread
+
+
+def why_part_unspread(part: Item, items: Dict[str, Item], levels: int) -> str:
+    """The same of a type of the file, which is asked once."""
     if part.data.style == "Newtype" or part.transparent():
         by_function = "is not covered where a function of yours sends it: hold the value itself"
-        return by_function if part.field_sent().function("serialize") else why_unspread(part.field_sent().type, items, levels + 1)
+        return by_function if part.field_sent().function("serialize") else why_unspread(part.field_sent().type, items, levels)
     most = MOST_SPREAD - ("tag" in part.serde)
     rows = [(v.beside or v).data.leaves() for v in part.variants] or [part.data.leaves()]
     if max(map(len, rows)) > most:
         return f"is covered so where it has up to {most} fields: hold some in a struct that is not flattened"
-    return next(filter(None, (why_variant_unspread(part, v, items, levels + 1) for v in part.variants)), "")
+    return next(filter(None, (why_variant_unspread(part, v, items, levels) for v in part.variants)), "")
 
 
 def why_variant_unspread(part: Item, v: Variant, items: Dict[str, Item], levels: int) -> str:
