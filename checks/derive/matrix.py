@@ -740,8 +740,6 @@ def nested() -> Dict[str, str]:
     made["nested_tree"] = f"{ALL}\npub struct Tried {{ pub x: Option<Box<Tried>>, pub y: Option<Box<Tried>> }}"
     made["nested_crowded"] = (f"{BOTH}\npub enum Tried {{ A, B(Box<str>, Box<Tried>), C(Arc<Vec<PathBuf>>, u8, Box<HashSet<i32>>, Arc<()>),"
                               " D { f0: HashMap<char, String> }, E { f0: Option<HashMap<u8, u8>>, f1: (u8, u8, Vec<Option<String>>) } }")
-    made["nested_crowded_tagged"] = (f'{BOTH}\n#[serde(tag = "t")]\npub enum Tried {{ A {{ x: Vec<Tried> }}, B {{ a: HashMap<u8, u8>, b: String,'
-                                     " c: u8, d: Vec<(u8, Option<String>, Vec<Box<u8>>)> } }")
     made["nested_held"] = (f"{ALL}\npub enum Other {{ A(Vec<Other>), B }}\n\n"
                            f"{ALL}\npub struct Tried {{ pub x: Other, pub y: Vec<Other>, pub z: u8 }}")
     return made

@@ -1852,7 +1852,8 @@ fn g() -> u8 {}
 struct B { x: u8 }
 fn h(x: u8) -> B { B { x: 1 } }
 
-// 3: A.Y.a: `Option<HashMap<u8, u8>>` is not covered next to the tag of a type that contains itself: hold it in another struct
+// 3: A.Y.a: `Option<HashSet<u8>>` is not covered next to the tag of a type that contains itself: hold it in another struct
+// 3: A.W.a: `HashMap<u8, u8>` is not covered next to the tag of a type that contains itself: hold it in another struct
 #[derive(Serialize, Deserialize)]
 #[serde(tag = "t")]
-enum A { X { x: Vec<A> }, Y { a: Option<HashMap<u8, u8>> }, W { a: HashMap<u8, u8>, b: String } }
+enum A { X { x: Vec<A> }, Y { a: Option<HashSet<u8>>, b: HashSet<u8> }, W { a: HashMap<u8, u8>, b: String } }

@@ -116,7 +116,7 @@ def check_data(item: Item, data: Data, line: int, where: str) -> Iterator[Refuse
         elif holds_as(f.type):
             yield Refused(f.line, f"`{item.name}` contains itself, which is not covered in `{holds_as(f.type)}`: hold it in Box,"
                           " Vec or Option<Box>", f"{where}.{f.name}")
-        elif "tag" in item.serde and needs_struct(f, True, True):
+        elif "tag" in item.serde and (needs_struct(f, True, True) or f.type.has("HashMap")):
             yield Refused(f.line, f"`{f.type.written()}` is not covered next to the tag of a type that contains itself: hold it in another"
                           " struct", f"{where}.{f.name}")
         elif "tag" in item.serde and f.type.name == "Option" and f.type.leads_back():
