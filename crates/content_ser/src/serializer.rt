@@ -51,6 +51,8 @@ pub trait Serializer {
     /// the error is in `error`, whatever was there before. Where it is `Ok`, `error` says nothing.
     /// An implementation need not give it; one that does spares its callers the moving of a large
     /// answer. Not in `serde-content`.
+    // Inlined, it would cost each level of a walk the room of an answer on the stack.
+    #[inline(never)]
     fn call_aside(&mut self, call: Call<'_>, error: &mut Error) -> Sent
         ensures { Takes step refuses (seen self.old) (event_of call.entry)
             (answer_of result error.new) (seen self.new) }
