@@ -510,8 +510,8 @@ type Number = Short;
 #[derive(serde::Serialize)]
 struct A(Text, Thing, Number);
 
-// 4: of another file: `Thing`, which needs Serialize, Deserialize, PartialEq, Eq, Clone, PartialOrd, Ord, RoundTrip, CborRoundTrip; delete Eq here if it has no RoundTrip
-// 5: of another file: `crate::other::deep::Thing`, which needs Serialize, Deserialize, PartialEq, Eq, Clone, PartialOrd, Ord, RoundTrip, CborRoundTrip; delete Eq here if it has no RoundTrip
+// 4: of another file: `Thing`, which needs Serialize, Deserialize, PartialEq, Eq, Clone, Ord, PartialOrd, RoundTrip, CborRoundTrip; delete Eq here if it has no RoundTrip
+// 5: of another file: `crate::other::deep::Thing`, which needs Serialize, Deserialize, PartialEq, Eq, Clone, Ord, PartialOrd, RoundTrip, CborRoundTrip; delete Eq here if it has no RoundTrip
 // + ghost use Rattle.a.specs.declared.other.Thing.{Thing};
 // + ghost use Rattle.a.specs.declared.other.deep.Thing as deep_thing_as_seen;
 // + Laws as deep_thing_serialize;
@@ -1539,3 +1539,9 @@ struct A { x: Box<str>, y: Vec<Box<str>> }
 struct Tags { v: Vec<String> }
 #[derive(Deserialize)]
 struct A { #[serde(default = "Tags::default")] x: Tags, #[serde(default = "Default::default")] y: Tags }
+
+// 2: called: `crate::other::sent()`, of whose value contracts know nothing
+// 2: of another file: `crate::other::Read`, which needs Deserialize, Clone
+// 2: of another file: `crate::other::Sent`, which needs Serialize, Clone
+#[derive(Clone, Serialize, Deserialize)]
+struct A { #[serde(skip_deserializing, default = "crate::other::sent")] x: crate::other::Sent, #[serde(skip_serializing)] y: crate::other::Read }

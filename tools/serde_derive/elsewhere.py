@@ -1,13 +1,14 @@
 """What types of other files have to have, for what is written of those that hold them."""
 from typing import Iterator, List, Tuple
 
+from .attributes import SERDE
 from .declarations import Field, Item, Named
 from .files import File
 from .homes import needed, placed_in
 from .types import Type
 
-WRITTEN = ["Serialize", "Deserialize", "PartialEq", "Eq"]
-NOT_ASKED = {"Drop", "Default", *WRITTEN}  # of derives: what is told otherwise
+FIRST = ["Serialize", "Deserialize", "PartialEq", "Eq"]
+NOT_ASKED = {"Drop", "Default", *SERDE}  # derives that don't ask their like of each field
 
 
 def types_in(t: Type) -> Iterator[Type]:
@@ -22,9 +23,9 @@ def asked(item: Item, f: Field, around: List[Named], cbor: bool) -> List[str]:
     used = needed(item, f, *around)
     if not used:
         return []
-    derived = [trait for trait in item.derives if trait not in NOT_ASKED]
+    used |= set(item.derives) - NOT_ASKED
     back = ["RoundTrip"] * item.comes_back() + ["CborRoundTrip"] * (cbor and item.comes_back_from_cbor())
-    return [trait for trait in WRITTEN if trait in used or trait in item.derives] + derived + back
+    return [trait for trait in FIRST if trait in used] + sorted(used - set(FIRST)) + back
 
 
 def elsewhere(file: File, cbor: bool) -> Iterator[Tuple[int, str]]:
@@ -32,10 +33,10 @@ def elsewhere(file: File, cbor: bool) -> Iterator[Tuple[int, str]]:
     here, found = {item.name for item in file.items}, {}  # by name: the first line, and the traits in their order
     for item in file.items:
         for _, f, *around in placed_in(item):
-            for t in types_in(f.type):
-                if t.home and t.name not in here and asked(item, f, around, cbor):
-                    line, traits = found.setdefault(t.name, (f.line, {}))
-                    traits.update(dict.fromkeys(asked(item, f, around, cbor)))
+            traits = asked(item, f, around, cbor)
+            for t in types_in(f.type) if traits else ():
+                if t.home and t.name not in here:
+                    found.setdefault(t.name, (f.line, {}))[1].update(dict.fromkeys(traits))
     for name, (line, traits) in found.items():
         without = "; delete Eq here if it has no RoundTrip" * ("RoundTrip" in traits)
         yield line, f"of another file: `{name}`, which needs {', '.join(traits)}{without}"
