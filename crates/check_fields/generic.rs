@@ -31,7 +31,8 @@ pub enum Event<T> {
         #[serde(skip)]
         seen: bool,
     },
-    Lost(Vec<T>, u16),
+    Lost,
+    Kept(Vec<T>, u16),
 }
 
 /// A message of some sort.

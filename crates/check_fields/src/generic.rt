@@ -5,18 +5,20 @@
 ghost use Rattle.std.specs.Prelude.{◌≡◌, ◌∷◌, [], Bool, Option, None, false, refl};
 ghost use Rattle.content_ser.specs.Scripts.Sends.{Sends};
 ghost use Rattle.content_ser.specs.Scripts.Own.{field_first, tuple_field_first, end_script};
-ghost use Rattle.content_ser.specs.Scripts.Own.{tuple_struct_script, tuple_variant_script};
-ghost use Rattle.content_ser.specs.Scripts.Own.{struct_script, struct_variant_script};
+ghost use Rattle.content_ser.specs.Scripts.Own.{unit_variant_script, tuple_struct_script};
+ghost use Rattle.content_ser.specs.Scripts.Own.{tuple_variant_script, struct_script};
+ghost use Rattle.content_ser.specs.Scripts.Own.{struct_variant_script};
 ghost use Rattle.content_ser.specs.Laws.StandardScripts.{leaf_lawful, option_lawful, seq_lawful};
 ghost use Rattle.content_ser.specs.Laws.StandardScripts.{map_lawful};
 ghost use Rattle.content_ser.specs.Laws.OwnScripts.{field_fits, struct_end_fits, tuple_field_fits};
-ghost use Rattle.content_ser.specs.Laws.OwnScripts.{tuple_end_fits, tuple_struct_lawful};
-ghost use Rattle.content_ser.specs.Laws.OwnScripts.{tuple_variant_lawful, struct_lawful};
-ghost use Rattle.content_ser.specs.Laws.OwnScripts.{struct_variant_lawful};
+ghost use Rattle.content_ser.specs.Laws.OwnScripts.{tuple_end_fits, unit_variant_lawful};
+ghost use Rattle.content_ser.specs.Laws.OwnScripts.{tuple_struct_lawful, tuple_variant_lawful};
+ghost use Rattle.content_ser.specs.Laws.OwnScripts.{struct_lawful, struct_variant_lawful};
 ghost use Rattle.content_de.specs.Reads.Tuples.{PartThen, NoPart};
 ghost use Rattle.content_de.specs.Reads.ByName.{read_by_name, ReadByName, NoOthers};
 ghost use Rattle.content_de.specs.Reads.Tagged.{tag_then_buffered, TagThenBuffered};
-ghost use Rattle.content_de.specs.Reads.Own.{enum_refusal, EnumGives, tuple_struct_refusal};
+ghost use Rattle.content_de.specs.Reads.Own.{enum_refusal, EnumGives, unit_variant_refusal};
+ghost use Rattle.content_de.specs.Reads.Own.{UnitVariantGives, tuple_struct_refusal};
 ghost use Rattle.content_de.specs.Reads.Own.{TupleStructGives, tuple_variant_refusal};
 ghost use Rattle.content_de.specs.Reads.Own.{TupleVariantGives, struct_refusal, StructGives};
 ghost use Rattle.content_de.specs.Reads.Own.{struct_variant_refusal, StructVariantGives};
@@ -508,7 +510,8 @@ pub enum Event<T> {
         /// Whether somebody has seen it.
         seen: bool,
     },
-    Lost(Vec<T>, u16),
+    Lost,
+    Kept(Vec<T>, u16),
 }
 
 impl<T> serde_content::derive_support::MadeFrom<From1OfEventMade<T>> for Event<T> {
@@ -581,25 +584,25 @@ impl<'de, T: Deserialize<'de>> ReadFields<'de> for From1OfEventMade<T> {
     }
 }
 
-impl<T> serde_content::derive_support::MadeFrom<From1OfEventLost<T>> for Event<T> {
-    ghost made_from = { λ row. event.Lost row.0 row.1 };
+impl<T> serde_content::derive_support::MadeFrom<From1OfEventKept<T>> for Event<T> {
+    ghost made_from = { λ row. event.Kept row.0 row.1 };
 
-    fn make(row: From1OfEventLost<T>) -> Event<T> {
-        let From1OfEventLost(x1, x2) = row;
-        Event::Lost(x1, x2)
+    fn make(row: From1OfEventKept<T>) -> Event<T> {
+        let From1OfEventKept(x1, x2) = row;
+        Event::Kept(x1, x2)
     }
 }
 
-type Part1OfEventLost<T> = ReadPart<2, 0, Vec<T>, Part2OfEventLost>;
+type Part1OfEventKept<T> = ReadPart<2, 0, Vec<T>, Part2OfEventKept>;
 
-type Part2OfEventLost = ReadPart<2, 1, u16, PartsEnd<2>>;
+type Part2OfEventKept = ReadPart<2, 1, u16, PartsEnd<2>>;
 
 /// The values from place 1 on.
 #[derive(Drop)]
-struct From1OfEventLost<T>(Vec<T>, u16);
+struct From1OfEventKept<T>(Vec<T>, u16);
 
-impl<'de, T: Deserialize<'de>> ReadParts<'de> for From1OfEventLost<T> {
-    ghost refusal = { λ f. ⟦<Part1OfEventLost<T> as ReadParts<'de>>⟧.refusal f };
+impl<'de, T: Deserialize<'de>> ReadParts<'de> for From1OfEventKept<T> {
+    ghost refusal = { λ f. ⟦<Part1OfEventKept<T> as ReadParts<'de>>⟧.refusal f };
 
     ghost gives = { λ z f.
         (PartThen (⟦<Vec<T> as Deserialize<'de>>⟧.gives) z.0
@@ -608,10 +611,10 @@ impl<'de, T: Deserialize<'de>> ReadParts<'de> for From1OfEventLost<T> {
         f };
 
     fn read<'n: 'de>(alloc: Global, parts: serde_content::de::Seq<'de, 'n>) -> Result<Self> {
-        let row: Part1OfEventLost<T> = ReadParts::read(alloc, parts)?;
+        let row: Part1OfEventKept<T> = ReadParts::read(alloc, parts)?;
         let ReadPart(x1, row) = row;
         let ReadPart(x2, _) = row;
-        Ok(From1OfEventLost(x1, x2))
+        Ok(From1OfEventKept(x1, x2))
     }
 }
 
@@ -620,11 +623,11 @@ impl<'de, T: Deserialize<'de>> ReadParts<'de> for From1OfEventLost<T> {
 struct NamesOfEvent;
 
 impl Names for NamesOfEvent {
-    ghost names = { name "Made" ∷ name "Lost" ∷ [] };
+    ghost names = { name "Made" ∷ name "Lost" ∷ name "Kept" ∷ [] };
 
     #[tactic(auto, unfolding(serde_content::specs::Literals::name))]
     fn names() -> &'static [&'static str] {
-        &["Made", "Lost"]
+        &["Made", "Lost", "Kept"]
     }
 }
 
@@ -634,7 +637,8 @@ impl<T: Serialize> Serialize for Event<T> {
           (field_first (name "of") (⟦<HashMap<String, T> as Serialize>⟧.script x1)
           (field_first (name "count") (⟦<u8 as Serialize>⟧.script x2)
           end_script))
-      | event.Lost x1 x2 ↦ tuple_variant_script (name "Event") 1 (name "Lost") 2
+      | event.Lost ↦ unit_variant_script (name "Event") 1 (name "Lost")
+      | event.Kept x1 x2 ↦ tuple_variant_script (name "Event") 2 (name "Kept") 2
           (tuple_field_first (⟦<Vec<T> as Serialize>⟧.script x1)
           (tuple_field_first (⟦<u16 as Serialize>⟧.script x2)
           end_script))
@@ -646,7 +650,8 @@ impl<T: Serialize> Serialize for Event<T> {
           readable)
           (field_fits (leaf_lawful refl)
           struct_end_fits))
-      | event.Lost x1 x2 ↦ λ readable. tuple_variant_lawful
+      | event.Lost ↦ λ readable. unit_variant_lawful
+      | event.Kept x1 x2 ↦ λ readable. tuple_variant_lawful
           (tuple_field_fits (seq_lawful (λ x h. T.lawful x h) x1.items readable)
           (tuple_field_fits (leaf_lawful refl)
           tuple_end_fits))
@@ -657,11 +662,12 @@ impl<T: Serialize> Serialize for Event<T> {
             Event::Made { of, count, seen } => {
                 send_whole_event_made(alloc, serializer, self, of, count, seen)
             }
-            Event::Lost(x1, x2) => {
+            Event::Lost => Call::UnitVariant(name_event(), 1, name_lost()).send(serializer),
+            Event::Kept(x1, x2) => {
                 let row = SendEnd;
                 let row = SendPart(x2, row);
                 let row = SendPart(x1, row);
-                let row = SendOpen(Call::TupleVariant(name_event(), 1, name_lost(), 2), row);
+                let row = SendOpen(Call::TupleVariant(name_event(), 2, name_kept(), 2), row);
                 send_row(alloc, serializer, &row)
             }
         }
@@ -676,16 +682,18 @@ impl<'de, T: Deserialize<'de>> Variants<'de> for Event<T> {
       struct_variant_refusal (read_by_name
           (⟦<From1OfEventMade<T> as ReadFields<'de>>⟧.refusal)),
     )
+        ∷ (name "Lost", unit_variant_refusal)
         ∷ (
-          name "Lost",
+          name "Kept",
           tuple_variant_refusal
-              (⟦<From1OfEventLost<T> as ReadParts<'de>>⟧.refusal),
+              (⟦<From1OfEventKept<T> as ReadParts<'de>>⟧.refusal),
         )
         ∷ []) };
 
     ghost named = { elim [
       | event.Made x1 x2 x3 ↦ name "Made"
-      | event.Lost x1 x2 ↦ name "Lost"
+      | event.Lost ↦ name "Lost"
+      | event.Kept x1 x2 ↦ name "Kept"
     ] };
 
     ghost held = { elim [
@@ -696,8 +704,9 @@ impl<'de, T: Deserialize<'de>> Variants<'de> for Event<T> {
             1 = x2;
             2 = x3;
           })))
-      | event.Lost x1 x2 ↦ TupleVariantGives
-          (⟦<From1OfEventLost<T> as ReadParts<'de>>⟧.gives
+      | event.Lost ↦ UnitVariantGives
+      | event.Kept x1 x2 ↦ TupleVariantGives
+          (⟦<From1OfEventKept<T> as ReadParts<'de>>⟧.gives
           (record {
             0 = x1;
             1 = x2;
@@ -727,8 +736,12 @@ impl<'de, T: Deserialize<'de>> Variants<'de> for Event<T> {
                 >(alloc, variant)
             }
             Some(1) => {
+                variant.unit_variant(alloc)?;
+                Ok(Event::Lost)
+            }
+            Some(2) => {
                 serde_content::derive_support::read_tuple_variant_made_from::<
-                    From1OfEventLost<T>,
+                    From1OfEventKept<T>,
                     Self,
                 >(alloc, variant, 2)
             }
@@ -1002,6 +1015,14 @@ fn name_lost() -> &'static str
     ensures { result.now ≡ name "Lost" }
 {
     "Lost"
+}
+
+/// The name `Kept`.
+#[tactic(auto, unfolding(serde_content::specs::Literals::name))]
+fn name_kept() -> &'static str
+    ensures { result.now ≡ name "Kept" }
+{
+    "Kept"
 }
 
 /// The name `Notice`.

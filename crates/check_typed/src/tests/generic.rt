@@ -49,8 +49,10 @@ fn variants_are_read_by_their_tag(rt: HostRuntime) -> Result<(), Fail> {
         alloc,
     )?;
     check(&rt, alloc, &made, wanted)?;
-    let lost: Event<u8> = reader(alloc, "{ Lost: [ [ 5, 6 ], 7 ] }")?.deserialize(alloc)?;
-    check(&rt, alloc, &lost, "Event::Lost([5u8, 6u8], 7u16)")
+    let kept: Event<u8> = reader(alloc, "{ Kept: [ [ 5, 6 ], 7 ] }")?.deserialize(alloc)?;
+    check(&rt, alloc, &kept, "Event::Kept([5u8, 6u8], 7u16)")?;
+    let lost: Event<u8> = reader(alloc, "Lost")?.deserialize(alloc)?;
+    check(&rt, alloc, &lost, "Event::Lost")
 }
 
 #[test]
