@@ -1,9 +1,10 @@
 //! The names that a row may have static.
 
 /// The names that a row may have static.
-static NAMES: [&'static str; 30] = [
+static NAMES: [&'static str; 33] = [
     "Foo", "Bar", "Baz", "Point", "Shape", "Dot", "Ring", "Span", "Area", "Other", "E", "K", "N",
-    "S", "T", "V", "a", "b", "c", "h", "k", "p", "q", "w", "x", "y", "z", "bar", "baz", LONG_NAME,
+    "S", "T", "V", "a", "b", "c", "h", "k", "p", "q", "w", "x", "y", "z", "bar", "baz", "Duration",
+    "secs", "nanos", LONG_NAME,
 ];
 
 /// A name of 200 bytes.

@@ -7,6 +7,7 @@ mod converting;
 mod copying;
 mod editing;
 mod looking;
+mod naming;
 mod printing;
 mod reading;
 mod returning;
@@ -47,12 +48,15 @@ fn write_answer(out: &mut Answer, operation: &str, columns: &mut Cursor<'_, u8>)
 }
 
 /// The same for an operation whose arguments are read by pieces. A request, the steps of `access`
-/// and the type of `read` or `round_trip` are one word each.
+/// or `fields` and the type of `read`, `round_trip` or `send_as` are one word each.
 fn write_columns(out: &mut Answer, operation: &str, columns: &mut Cursor<'_, u8>) {
     let mut pieces = Vec::new(columns.alloc());
     for (place, column) in take_rest(columns).split('\t').enumerate() {
         match (operation, place) {
-            ("access", 1 | 2) | ("ask" | "read" | "round_trip", 1) | ("enum", 2) => {
+            ("access", 1 | 2)
+            | ("ask" | "read" | "read_buffered" | "round_trip", 1)
+            | ("enum", 2)
+            | ("fields" | "send_as" | "send_readable", 0) => {
                 let word = columns.copied(column);
                 columns.made(pieces.push(Piece::Word(word)));
             }
@@ -76,6 +80,7 @@ fn write_of_pieces(out: &mut Answer, operation: &str, pieces: &mut Pieces<'_>) {
         "enum" => asking::variant(out, pieces),
         "error" => printing::error(out, pieces),
         "expected" => printing::expected(out, pieces),
+        "fields" => naming::fields(out, pieces),
         "from" => converting::from(out, pieces),
         "image" => printing::image(out, pieces),
         "into" => converting::into(out, pieces),
@@ -85,10 +90,12 @@ fn write_of_pieces(out: &mut Answer, operation: &str, pieces: &mut Pieces<'_>) {
         "plain" => reading::plain(out, pieces),
         "pretty" => printing::pretty(out, pieces),
         "read" => reading::read(out, pieces),
+        "read_buffered" => reading::read_buffered(out, pieces),
         "readable" => building::readable(out, pieces),
         "round_trip" => returning::round_trip(out, pieces),
         "send" => sending::send(out, pieces),
         "send_as" => sending::send_as(out, pieces),
+        "send_readable" => sending::send_readable(out, pieces),
         "type" => printing::typ(out, pieces),
         "unexpected" => printing::unexpected(out, pieces),
         "unexpected_part" => printing::unexpected_part(out, pieces),

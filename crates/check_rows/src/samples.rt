@@ -5,9 +5,13 @@ use crate::failure::Failure;
 use crate::piece::{Pieces, take_held, take_if_word, take_mark, take_parsed, take_word};
 use serde_content::Result;
 use serde_content::samples::{Point, Shape};
+use std::str::FromStr;
 
 /// Two numbers in brackets.
-fn read_two(pieces: &mut Pieces<'_>) -> (i32, i32) {
+fn read_two<T: FromStr + Default + Drop>(pieces: &mut Pieces<'_>) -> (T, T)
+where
+    T::Err: Drop,
+{
     take_mark(pieces, b'(');
     let two = (take_parsed(pieces), take_parsed(pieces));
     take_mark(pieces, b')');
@@ -23,7 +27,7 @@ pub fn read_point(pieces: &mut Pieces<'_>) -> Point {
     Point { x, y }
 }
 
-/// A shape; one with fields has no row.
+/// A shape.
 pub fn read_shape(pieces: &mut Pieces<'_>) -> Shape {
     match take_word(pieces) {
         "Dot" => Shape::Dot,
@@ -31,6 +35,10 @@ pub fn read_shape(pieces: &mut Pieces<'_>) -> Shape {
         "Span" => {
             let (first, second) = read_two(pieces);
             Shape::Span(first, second)
+        }
+        "Area" => {
+            let (w, h) = read_two(pieces);
+            Shape::Area { w, h }
         }
         _ => pieces.found_or(None, Shape::Dot),
     }

@@ -9,10 +9,14 @@ use crate::piece::{Pieces, take_word};
 use crate::printable::write_datum;
 use crate::samples::{read_point, read_shape, write_point, write_shape};
 use crate::tree::read_tree;
-use serde_content::{Deserializer, Result, RoundTrip, Value};
+use serde_content::{Deserializer, Number, Result, RoundTrip, Value, from_value, to_value};
 use std::alloc::Global;
-use std::collections::BTreeMap;
+use std::boxed::BoxedStr;
+use std::collections::{BTreeMap, BTreeSet, HashMap, VecDeque};
 use std::fmt::Debug;
+use std::net::{IpAddr, Ipv4Addr, Ipv6Addr};
+use std::path::PathBuf;
+use std::rc::Rc;
 
 /// The value of a type, as it comes back.
 pub fn round_trip(out: &mut Answer, pieces: &mut Pieces<'_>) {
@@ -27,14 +31,19 @@ pub fn round_trip(out: &mut Answer, pieces: &mut Pieces<'_>) {
         _ => with_type!(typ, write_as(out, pieces, flags), [
             (), bool, i8, u8, i16, u16, i32, u32, i64, u64, i128, u128, char, String, Option<()>,
             Option<String>, Vec<bool>, Vec<i16>, (bool,), (u8,), (bool, bool), (bool, usize),
-            (bool, char, String),
+            (bool, char, String), (String, char, bool, Number), (Vec<Option<u8>>, isize),
+            [[(u8, char); 2]; 2], (Ipv4Addr, Ipv6Addr, [IpAddr; 2]),
+            (BTreeSet<char>, HashMap<PathBuf, VecDeque<u8>>, Rc<BoxedStr>),
         ], out.fail(Failure::NoRow)),
     }
 }
 
-/// What comes back of a value. It is equal to the value, by the contract of `round_trip`.
+/// What comes back of a value, by its tree and then by `round_trip`. It is equal to the value, by
+/// their contracts.
 fn sent_back<'de, T: RoundTrip<'de>>(alloc: Global, value: &T, flags: Flags) -> Result<T> {
-    serde_content::round_trip(alloc, value, flags.human_readable, flags.coerces)
+    let tree = to_value(alloc, value, flags.human_readable)?;
+    let back: T = from_value(alloc, tree, flags.human_readable)?;
+    serde_content::round_trip(alloc, &back, flags.human_readable, flags.coerces)
 }
 
 /// The value that a tree gives, where a number that tells no kind is one of any, as it comes back.

@@ -5,16 +5,21 @@ use crate::call::read_calls;
 use crate::cursor::Cursor;
 use crate::failure::Failure;
 use crate::methods::make_call;
+use crate::named::with_type;
 use crate::number::with_whole;
 use crate::piece::{Pieces, take_word};
 use crate::printable::write_refusal;
 use crate::show::write_whole;
 use crate::show_call::write_calls;
 use crate::tree::read_tree;
+use serde_content::de::Deserialize;
+use serde_content::samples::{Point, Shape};
 use serde_content::ser::{Call, Recorder, Serialize, from_calls};
-use serde_content::{CowStr, Number, Result, Serializer, Value};
+use serde_content::{CowStr, Deserializer, Number, Result, Serializer, Value};
 use std::alloc::{AllocError, Global};
 use std::collections::BTreeMap;
+use std::net::{IpAddr, Ipv4Addr, Ipv6Addr};
+use std::time::Duration;
 
 /// Entries in the order of their keys.
 type Sorted<'a> = BTreeMap<Value<'a>, Value<'a>>;
@@ -36,9 +41,14 @@ fn shown(alloc: Global, value: Value<'_>) -> Result<String> {
     Ok(out.finish().ok().ok_or(AllocError)?)
 }
 
-/// The tree that a `Serializer` makes of it.
-fn built<T: Serialize>(alloc: Global, value: &T) -> Result<String> {
-    shown(alloc, Serializer::new().serialize(alloc, value)?)
+/// The tree that a `Serializer` makes of it, human readable or not.
+fn built<T: Serialize>(alloc: Global, value: &T, human_readable: bool) -> Result<String> {
+    let serializer = if human_readable {
+        Serializer::new().human_readable()
+    } else {
+        Serializer::new()
+    };
+    shown(alloc, serializer.serialize(alloc, value)?)
 }
 
 /// The tree that the calls spell.
@@ -50,17 +60,30 @@ fn spelled(alloc: Global, calls: &[Call<'_>]) -> Result<String> {
 }
 
 /// Whether the tree that a `Serializer` makes of it is the one that the calls spell.
-fn is_built<T: Serialize>(alloc: Global, value: &T, calls: &[Call<'_>]) -> Result<bool> {
-    Ok(built(alloc, value)? == spelled(alloc, calls)?)
+fn is_built<T: Serialize>(
+    alloc: Global,
+    value: &T,
+    human_readable: bool,
+    calls: &[Call<'_>],
+) -> Result<bool> {
+    Ok(built(alloc, value, human_readable)? == spelled(alloc, calls)?)
 }
 
 /// Adds the calls by which it is sent, and where it stops the text of that.
 fn write_sent<T: Serialize>(out: &mut Answer, value: &T) {
-    let mut recorder = Recorder::new(out.alloc(), false);
+    write_sent_under(out, value, false);
+}
+
+/// The same, human readable or not.
+fn write_sent_under<T: Serialize>(out: &mut Answer, value: &T, human_readable: bool) {
+    let mut recorder = Recorder::new(out.alloc(), human_readable);
     let ended = value.serialize(out.alloc(), &mut recorder);
     write_calls(out, recorder.calls());
     match ended {
-        Ok(()) => write_if_another(out, is_built(out.alloc(), value, recorder.calls())),
+        Ok(()) => {
+            let same = is_built(out.alloc(), value, human_readable, recorder.calls());
+            write_if_another(out, same);
+        }
         Err(error) => write_refusal(out, "; stop ", error),
     }
 }
@@ -79,10 +102,54 @@ pub fn send(out: &mut Answer, pieces: &mut Pieces<'_>) {
     drop(value);
 }
 
-/// Of what a tree holds, as the type that is named.
+/// Of what a tree is read as or holds, as the type that is named.
 pub fn send_as(out: &mut Answer, pieces: &mut Pieces<'_>) {
     let named = take_word(pieces);
-    match (named, read_tree(pieces)) {
+    let tree = read_tree(pieces);
+    with_type!(
+        named,
+        write_sent_as(out, Deserializer::new(tree), false),
+        [
+            &[u8],
+            [(u8, char); 2],
+            Duration,
+            IpAddr,
+            Ipv4Addr,
+            Ipv6Addr,
+            Point,
+            Shape,
+        ],
+        write_sent_held(out, named, tree)
+    )
+}
+
+/// The same of what is human readable where it is sent.
+pub fn send_readable(out: &mut Answer, pieces: &mut Pieces<'_>) {
+    let named = take_word(pieces);
+    let tree = read_tree(pieces);
+    with_type!(
+        named,
+        write_sent_as(out, Deserializer::new(tree), true),
+        [IpAddr, Ipv4Addr],
+        out.unfit(tree)
+    )
+}
+
+/// Of what a tree is read as.
+fn write_sent_as<'de, 'n: 'de, T: Deserialize<'de> + Serialize>(
+    out: &mut Answer,
+    from: Deserializer<'de, 'n>,
+    human_readable: bool,
+) {
+    let value = from.deserialize::<T>(out.alloc());
+    if let Some(value) = out.given(value) {
+        write_sent_under(out, &value, human_readable);
+    }
+}
+
+/// Of what a tree holds, as the type that is named.
+fn write_sent_held(out: &mut Answer, named: &str, tree: Value<'_>) {
+    match (named, tree) {
         ("tuple", Value::Tuple(items)) => write_sent_tuple(out, items),
         ("BTreeMap", Value::Map(pairs)) => write_sent_map(out, pairs),
         (_, value) => write_sent_part(out, named, &value),

@@ -33,6 +33,11 @@ pub fn access(out: &mut Answer, pieces: &mut Pieces<'_>) {
 /// Adds the answer of the step at this place.
 fn write_step(out: &mut Answer, place: usize, answer: Result<String>) {
     out.push_str(if place == 0 { "" } else { "; " });
+    write_answered(out, answer);
+}
+
+/// Adds the answer of a step.
+pub fn write_answered(out: &mut Answer, answer: Result<String>) {
     match answer {
         Ok(text) => {
             out.push_str("ok ");
@@ -55,7 +60,7 @@ fn write_refused(out: &mut Answer, kind: &ErrorKind) {
 }
 
 /// A datum as it prints.
-fn told<T: Debug + Drop>(alloc: Global, datum: Result<T>) -> Result<String> {
+pub fn told<T: Debug + Drop>(alloc: Global, datum: Result<T>) -> Result<String> {
     let datum = datum?;
     Ok(format!(in alloc; "{datum:?}")?)
 }
@@ -89,7 +94,7 @@ fn seq_step(out: &mut Answer, items: &mut Seq<'_, 'static>, step: &str) -> Resul
 }
 
 /// No answer, since the line is no row.
-fn no_step(out: &mut Answer) -> Result<String> {
+pub fn no_step(out: &mut Answer) -> Result<String> {
     out.fail(Failure::NoRow);
     Ok(String::new(out.alloc()))
 }
