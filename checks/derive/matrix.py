@@ -90,6 +90,12 @@ def enums() -> Dict[str, str]:
         made[f"adjacent_big_{count}"] = (f'{ALL}\n#[serde(tag = "kind", content = "of")]\npub enum Tried {{ A, B{held(types, "named")},'
                                          f' C{held(types[:4], "place")} }}')
         made[f"internal_big_{count}"] = f'{ALL}\n#[serde(tag = "kind")]\npub enum Tried {{ A, B{held(types, "named")} }}'
+    adjacent = f'{ALL}\n#[serde(tag = "t", content = "c")]\npub enum Tried'
+    made["adjacent_held_9"] = (f"{ALL}\npub enum Other {{ A(u8), B {{ x: bool }} }}\n\n{adjacent} {{ V0(Other, u8),"
+                               " V1 { x: Vec<Other>, y: u8 }, V2(Other), V3, V4, V5, V6, V7, V8(u8, bool) }")
+    made["adjacent_wide_7"] = (f"{adjacent} {{ V0(Option<u8>, u8, Rc<isize>, BTreeSet<u8>), V1 {{ f0: (BTreeMap<char, String>,"
+                               " HashMap<char, String>, i16, Option<isize>), f1: u64, f2: u32, f3: [Vec<u8>; 1], f4: (BTreeSet<PathBuf>,"
+                               " u8, Rc<i64>) }, V2, V3 { x: bool }, V4, V5(usize), V6 { x: Box<HashMap<u64, i8>> } }")
     untagged = ["bool", "i64", "String", "Vec<u8>", "()", "BTreeMap<String, u8>"]
     for count in (1, 2, 4, 6):
         body = ", ".join(f"V{i}({t})" for i, t in enumerate(untagged[:count]))
@@ -740,6 +746,8 @@ def nested() -> Dict[str, str]:
     made["nested_tree"] = f"{ALL}\npub struct Tried {{ pub x: Option<Box<Tried>>, pub y: Option<Box<Tried>> }}"
     made["nested_crowded"] = (f"{BOTH}\npub enum Tried {{ A, B(Box<str>, Box<Tried>), C(Arc<Vec<PathBuf>>, u8, Box<HashSet<i32>>, Arc<()>),"
                               " D { f0: HashMap<char, String> }, E { f0: Option<HashMap<u8, u8>>, f1: (u8, u8, Vec<Option<String>>) } }")
+    made["nested_hashed"] = (f"{ALL}\npub enum Tried {{ A, B {{ x: Option<Box<Tried>>, y: Box<HashSet<i32>> }},"
+                             " C(Option<Box<Tried>>, HashSet<i32>), D { x: Box<Tried>, y: HashMap<u8, u8> } }")
     made["nested_held"] = (f"{ALL}\npub enum Other {{ A(Vec<Other>), B }}\n\n"
                            f"{ALL}\npub struct Tried {{ pub x: Other, pub y: Vec<Other>, pub z: u8 }}")
     return made

@@ -1852,6 +1852,10 @@ fn g() -> u8 {}
 struct B { x: u8 }
 fn h(x: u8) -> B { B { x: 1 } }
 
+// 2: A.Y.b: `HashSet<u8>` is not covered beside an Option of `A`: hold `Box<HashSet<u8>>`
+#[derive(Serialize, Deserialize)]
+enum A { X { a: Option<Box<A>>, b: Box<HashSet<u8>> }, Y { b: HashSet<u8>, a: Option<Box<A>> } }
+
 // 3: A.Y.a: `Option<HashSet<u8>>` is not covered next to the tag of a type that contains itself: hold it in another struct
 // 3: A.W.a: `HashMap<u8, u8>` is not covered next to the tag of a type that contains itself: hold it in another struct
 #[derive(Serialize, Deserialize)]

@@ -14,6 +14,8 @@ from .text import all_hold, bare, clause, facts, fields_reader, ghost, ghost_typ
 from .types import DEFAULTS, READ, Type, angled, in_term, nest
 
 MOST_AT_ONCE = 8  # of more variants it is proved one by one that they come back: the checker's steps for one proof are so many
+MOST_LOOKED_AT = 200  # and where more types, of which the values are made, are looked at for all variants
+MOST_COMPARED = 20  # of a content whose values are made of more types, the law is named before it is compared
 LONGEST_BESIDE = 5  # as many values by name are sent in one row with the tag: proofs of longer ones are not found
 MOST_BORROWED = 2  # as many stand there in a row with references in what it refers to
 ELEMENTS = BY_PLACE._replace(
@@ -137,8 +139,10 @@ class ContentHolder(TaggedHolder):
         return self.content_row("kept", self.named_first(law, self.inside.kept, values), *self.scripts(values))
 
     def named_first(self, law: str, rows: Callable[[List[str], List[str]], str], values: List[str]) -> str:
-        """This law of these rows. Where they are many they are named first, and so compared with what is asked but once."""
-        if not (self.parted or (self.struct and self.inside.count > LONGEST_ROW)):
+        """This law of these rows. Where they are many, or of many types, they are named first, and so compared with what is asked but
+        once."""
+        many = self.inside.count > LONGEST_ROW or sum(f.type.weight() for f in self.inside.fields) > MOST_COMPARED
+        if not (self.parted or (self.struct and many)):
             return law.format(rows(values, self.sees))
         sees = [see.replace("λ q.", f"λ (q : {self.struct.item.name}).") for see in self.sees]
         return f"let law = {bare(rows(values, sees))} in {law.format(' law')}"
@@ -171,7 +175,9 @@ class AdjacentWriter(TaggedWriter):
     def one_by_one(self) -> bool:
         """Whether that values come back is proved of each variant by itself."""
         several = any(isinstance(holder, ContentHolder) for _, holder in self.variants)
-        return several and len(self.variants) > MOST_AT_ONCE and not self.item.parameters and self.item.comes_back()
+        types = sum(f.type.weight() for v, _ in self.variants for f in v.data.fields)
+        many = len(self.variants) > MOST_AT_ONCE or len(self.variants) * types > MOST_LOOKED_AT
+        return several and many and not self.item.parameters and self.item.comes_back()
 
     def back_name(self) -> str:
         """The trait that says so."""

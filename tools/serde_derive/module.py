@@ -186,7 +186,8 @@ def brought(words: Set[str], word: str, texts: List[str]) -> bool:
 def uses(file: File, homes: Homes, texts: List[str]) -> List[str]:
     """The lines that bring the words of contracts, and those that bring the items of code."""
     seen = [found for text in texts for found in re.findall(r"λ\s(?:o\s)?\([xz]\s:\s(.*?)\)\.\s", text, re.S)
-            + re.findall(r"let\slaw\s:\s\(x\s:\s(.*?)\)\s\(readable\s", text, re.S)]
+            + re.findall(r"let\slaw\s:\s\(x\s:\s(.*?)\)\s\(readable\s", text, re.S)
+            + re.findall(r"ghost\svariant_\d+:\s\{\s(.*?)→", text, re.S)]
     words, named = words_in(texts), words_in(re.sub(r"(_as_seen)\.\w+", r"\1", text) for text in seen)
     owns = {own.called: own for item in file.items for own in item.owns()}.values()
     ghosts = words_of(words, WORDS) + words_of(named, SEEN)

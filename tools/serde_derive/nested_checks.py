@@ -2,10 +2,10 @@
 import re
 from typing import Dict, Iterator, List, Optional
 
-from .declarations import Data, Item, NotRust, Refused
+from .declarations import Data, Field, Item, NotRust, Refused
 from .holder import LONGEST_HELD, needs_struct
 from .homes import placed
-from .types import ELSEWHERE, PHANTOM, Type
+from .types import ELSEWHERE, HASHED, PHANTOM, POINTERS, Type
 from .words import NESTED_ITEMS, NESTED_WORDS
 
 USED = re.compile(rf"Below|Inner\d+|{'|'.join([*NESTED_ITEMS, *NESTED_WORDS])}")
@@ -104,6 +104,13 @@ def check_nested(item: Item, items: List[Item]) -> Iterator[Refused]:
         yield from check_data(item, data, line, where)
 
 
+def is_beside_option(item: Item, data: Data, f: Field) -> bool:
+    """Whether what is hashed stands among named values of a variant, beside an Option that leads back: proofs of reading both are
+    not found but where it is in a Box or the like."""
+    options = any(one.type.name == "Option" and one.type.leads_back() for one in data.fields)
+    return options and data.named and bool(item.variants) and f.type.has(*HASHED) and f.type.name not in POINTERS
+
+
 def check_data(item: Item, data: Data, line: int, where: str) -> Iterator[Refused]:
     """Refuses what such a struct or a variant of such an enum holds, and is not covered."""
     sort, most = ("variant", LONGEST_HELD) if item.variants else ("struct", LONGEST_NESTED)
@@ -122,6 +129,9 @@ def check_data(item: Item, data: Data, line: int, where: str) -> Iterator[Refuse
         elif "tag" in item.serde and f.type.name == "Option" and f.type.leads_back():
             yield Refused(f.line, f"`{item.name}` contains itself, which is not covered in an Option next to a tag: hold it in a Vec",
                           f"{where}.{f.name}")
+        elif is_beside_option(item, data, f):
+            yield Refused(f.line, f"`{f.type.written()}` is not covered beside an Option of `{item.name}`: hold"
+                          f" `Box<{f.type.written()}>`", f"{where}.{f.name}")
         elif f.aliases() or "default" in f.serde or f.skips or not (f.sent and f.read):
             yield Refused(f.line, "`alias`, `default`, `skip` and `skip_serializing_if` are not covered in a type that contains"
                           " itself: delete it, or write the impls by hand", f"{where}.{f.name}")
