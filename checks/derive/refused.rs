@@ -1852,6 +1852,20 @@ fn g() -> u8 {}
 struct B { x: u8 }
 fn h(x: u8) -> B { B { x: 1 } }
 
+// 4: A.e: `i32` is not covered among more than 10 fields of which some are not read: hold some in another struct
+#[derive(Deserialize)]
+struct A {
+    a: u8, b: u8, c: u8, d: u8,
+    e: i32, f: i8, g: u8, h: u8,
+    #[serde(skip)] i: u8, #[serde(skip)] j: u8, #[serde(skip)] k: u8,
+}
+
+// 3: A.X.0: of an enum that is tagged adjacently, `(u8, bool)` is not covered beside a signed number: hold a struct of them
+// 3: A.Z.a: of an enum that is tagged adjacently, `HashMap<u8, u8>` is not covered beside a signed number: hold a struct of them
+#[derive(Serialize, Deserialize)]
+#[serde(tag = "t", content = "c")]
+enum A { X((u8, bool), i32), Y { a: (u8, bool), b: i32 }, Z { a: HashMap<u8, u8>, b: i64 } }
+
 // 2: A.Y.b: `HashSet<u8>` is not covered beside an Option of `A`: hold `Box<HashSet<u8>>`
 #[derive(Serialize, Deserialize)]
 enum A { X { a: Option<Box<A>>, b: Box<HashSet<u8>> }, Y { b: HashSet<u8>, a: Option<Box<A>> } }

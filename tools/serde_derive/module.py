@@ -19,7 +19,7 @@ from .literals import with_names
 from .names import name_item
 from .nested import NestedWriter
 from .nested_checks import check_nested
-from .sizes import check_arrays, check_hashed, check_references, check_rows, check_sizes
+from .sizes import check_arrays, check_hashed, check_references, check_rows, check_sizes, check_unread
 from .structs import StructWriter, TransparentWriter
 from .text import ghost
 from .tagged import TaggedWriter, check_tagged
@@ -160,6 +160,7 @@ def settled(file: File, homes: Homes) -> Dict[str, Writer]:
     keep(check_variants)
     keep(check_sizes)
     keep(check_rows)
+    keep(check_unread)
     keep(lambda item: check_hashed(item, homes))
     keep(check_references)
     keep(lambda item: check_arrays(item, homes))

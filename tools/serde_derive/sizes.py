@@ -6,10 +6,11 @@ from .conversions import may_hold_memory
 from .declarations import Data, Field, Item, Refused
 from .holder import LONGEST_HELD, LONGEST_ROW, needs_struct
 from .homes import Homes, placed
-from .types import ARRAY, BORROWED, FLOATS, LEAVES, STATIC, Type
+from .types import ARRAY, BORROWED, FLOATS, LEAVES, SIGNED, STATIC, Type
 
 # rows are refused by the checker in which more values stand before one of a parameter's type, or entries where some are flattened
 MOST_BEFORE, MOST_BEFORE_FLATTENED = 6, 4
+MOST_WITH_UNREAD = 10  # of more fields, of which some aren't read and one that is read is signed, proofs of reading are not found
 
 
 def check_sizes(item: Item) -> Iterator[Refused]:
@@ -68,6 +69,16 @@ def check_rows(item: Item) -> Iterator[Refused]:
             if f.type.parameter:
                 yield Refused(f.line, f"a field of a parameter's type is covered among the first {first} that are sent:"
                               f" hold `Box<{f.type.rust()}>`", f"{where}.{f.name}")
+
+
+def check_unread(item: Item) -> Iterator[Refused]:
+    """Refuses structs of so many fields, of which some aren't read, that the proof that tells of a signed number is not found."""
+    fields = item.data.fields
+    read = [f for f in fields if f.read]
+    if "Deserialize" in item.derives and item.data.named and len(read) <= LONGEST_ROW and MOST_WITH_UNREAD < len(fields):
+        signed = [f for f in read if f.type.name in SIGNED]
+        yield from (Refused(f.line, f"`{f.type.name}` is not covered among more than {MOST_WITH_UNREAD} fields of which some are not"
+                            " read: hold some in another struct", f"{item.name}.{f.name}") for f in signed[:1])
 
 
 def check_hashed(item: Item, homes: Homes) -> Iterator[Refused]:

@@ -1,7 +1,7 @@
 """What is written of a tagged enum: structs of which one field names the variant, and the others or
 one other hold its values."""
 import re
-from typing import Iterator, List
+from typing import Iterator, List, Optional
 
 from .cases import pascal
 from .declarations import Data, Field, Item, Refused, Variant
@@ -10,12 +10,20 @@ from .enums import EnumWriter, sent_names
 from .holder import MADE_OF, Holder
 from .literals import list_impl, name_call, name_method, name_term, opened
 from .text import DESERIALIZE, bare, elim, function, ghost, together
-from .types import MOST_IN_TUPLE, nest
+from .types import HASHED, MOST_IN_TUPLE, nest
 
 
 def beside_tag(v: Variant) -> List[Field]:
     """The fields of a variant beside an internal tag."""
     return v.beside.data.fields if v.beside else v.data.fields
+
+
+def beside_signed(v: Variant) -> Optional[Field]:
+    """What is not covered among a variant's values in a content, as one of them is a signed number: what is hashed, and by place a
+    tuple. Proofs of reading both are not found."""
+    if not (v.read and v.data.several and v.signed()):
+        return None
+    return next((f for f in v.data.fields if f.type.name in HASHED or f.type.name == "tuple" and not v.data.named), None)
 
 
 def check_tagged(item: Item) -> Iterator[Refused]:
@@ -32,6 +40,9 @@ def check_tagged(item: Item) -> Iterator[Refused]:
         elif content and v.data.style == "Tuple" and len(v.data.fields) > MOST_IN_TUPLE:
             yield Refused(v.line, "of an enum that is tagged adjacently, only variants with no values, with values by name, and"
                           " with one to four by place, are covered: hold a struct of them", where)
+        elif content and (found := beside_signed(v)):
+            yield Refused(found.line, f"of an enum that is tagged adjacently, `{found.type.written()}` is not covered beside a signed"
+                          " number: hold a struct of them", f"{where}.{found.name}")
         elif not content and v.data.style == "Tuple":
             yield Refused(v.line, "of an enum that is tagged internally, only variants with no values and with a struct, or"
                           " values by name, are covered: hold a struct of them", where)
