@@ -108,7 +108,8 @@ def is_beside_option(item: Item, data: Data, f: Field) -> bool:
     """Whether what is hashed stands among named values of a variant, beside an Option that leads back: proofs of reading both are
     not found but where it is in a Box or the like."""
     options = any(one.type.name == "Option" and one.type.leads_back() for one in data.fields)
-    return options and data.named and bool(item.variants) and f.type.has(*HASHED) and f.type.name not in POINTERS
+    read = "Deserialize" in item.derives and bool(item.variants) and data.named
+    return read and options and f.type.has(*HASHED) and f.type.name not in POINTERS
 
 
 def check_data(item: Item, data: Data, line: int, where: str) -> Iterator[Refused]:

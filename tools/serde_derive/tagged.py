@@ -18,10 +18,10 @@ def beside_tag(v: Variant) -> List[Field]:
     return v.beside.data.fields if v.beside else v.data.fields
 
 
-def beside_signed(v: Variant) -> Optional[Field]:
+def beside_signed(item: Item, v: Variant) -> Optional[Field]:
     """What is not covered among a variant's values in a content, as one of them is a signed number: what is hashed, and by place a
     tuple. Proofs of reading both are not found."""
-    if not (v.read and v.data.several and v.signed()):
+    if not ("Deserialize" in item.derives and v.read and v.data.several and v.signed()):
         return None
     return next((f for f in v.data.fields if f.type.name in HASHED or f.type.name == "tuple" and not v.data.named), None)
 
@@ -40,7 +40,7 @@ def check_tagged(item: Item) -> Iterator[Refused]:
         elif content and v.data.style == "Tuple" and len(v.data.fields) > MOST_IN_TUPLE:
             yield Refused(v.line, "of an enum that is tagged adjacently, only variants with no values, with values by name, and"
                           " with one to four by place, are covered: hold a struct of them", where)
-        elif content and (found := beside_signed(v)):
+        elif content and (found := beside_signed(item, v)):
             yield Refused(found.line, f"of an enum that is tagged adjacently, `{found.type.written()}` is not covered beside a signed"
                           " number: hold a struct of them", f"{where}.{found.name}")
         elif not content and v.data.style == "Tuple":
