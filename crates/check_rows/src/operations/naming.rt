@@ -1,4 +1,8 @@
 //! Fields by name, step by step.
+//!
+//! The steps: `named_field<u8>(NAME)`, `field_or_7(NAME)`, which gives 7 where there is none,
+//! `tag_field(NAME)`, `take_named(NAME)`; and at the end one of `rest`, `attempt<bool>`,
+//! `ignore_unknown(NAMES)`, `deny_unknown(NAMES)`, `keep_unknown(NAMES)`, with commas between names.
 
 use crate::answer::Answer;
 use crate::deserializer::write_handed;
@@ -37,13 +41,13 @@ fn write_field_steps(out: &mut Answer, steps: &str, mut fields: FieldsByName<'_,
     write_answered(out, answer);
 }
 
-/// The word of a step, and what stands in its brackets.
+/// The word of a step, and what its brackets contain.
 fn parts_of(step: &str) -> (&str, &str) {
     let (word, rest) = step.split_once('(').unwrap_or((step, ")"));
     (word, rest.strip_suffix(')').unwrap_or(""))
 }
 
-/// The names that commas part.
+/// The names in a list with commas between.
 fn names_of(alloc: Global, list: &str) -> Result<Vec<&str>> {
     let mut names = Vec::new(alloc);
     for name in list.split_terminator(", ") {
@@ -97,7 +101,7 @@ fn last_step(out: &mut Answer, fields: FieldsByName<'_, 'static>, step: &str) ->
     end(out, fields, word, names.as_slice())
 }
 
-/// The same of a step of this word, where these names are known.
+/// The same of the step of this word, with these names.
 fn end(
     out: &mut Answer,
     fields: FieldsByName<'_, 'static>,
@@ -118,13 +122,13 @@ fn end(
     }
 }
 
-/// What is left, where it is a boolean.
+/// The fields that are left, if they can be read as a boolean.
 fn attempted(alloc: Global, fields: FieldsByName<'_, 'static>) -> Result<Option<bool>> {
     let rest = fields.rest(alloc)?;
     attempt(alloc, &rest)
 }
 
-/// What is kept beside these names, where it is all numbers.
+/// The fields that are kept, if all are numbers.
 fn kept(
     alloc: Global,
     fields: FieldsByName<'_, 'static>,

@@ -102,7 +102,7 @@ pub fn send(out: &mut Answer, pieces: &mut Pieces<'_>) {
     drop(value);
 }
 
-/// Of what a tree is read as or holds, as the type that is named.
+/// The calls of the value of the named type, which is read from a tree or in it.
 pub fn send_as(out: &mut Answer, pieces: &mut Pieces<'_>) {
     let named = take_word(pieces);
     let tree = read_tree(pieces);
@@ -123,7 +123,7 @@ pub fn send_as(out: &mut Answer, pieces: &mut Pieces<'_>) {
     )
 }
 
-/// The same of what is human readable where it is sent.
+/// The same, sent human readable.
 pub fn send_readable(out: &mut Answer, pieces: &mut Pieces<'_>) {
     let named = take_word(pieces);
     let tree = read_tree(pieces);
@@ -135,7 +135,7 @@ pub fn send_readable(out: &mut Answer, pieces: &mut Pieces<'_>) {
     )
 }
 
-/// Of what a tree is read as.
+/// The calls of a value that is read.
 fn write_sent_as<'de, 'n: 'de, T: Deserialize<'de> + Serialize>(
     out: &mut Answer,
     from: Deserializer<'de, 'n>,
@@ -147,7 +147,7 @@ fn write_sent_as<'de, 'n: 'de, T: Deserialize<'de> + Serialize>(
     }
 }
 
-/// Of what a tree holds, as the type that is named.
+/// The calls of what a tree holds, as the named type.
 fn write_sent_held(out: &mut Answer, named: &str, tree: Value<'_>) {
     match (named, tree) {
         ("tuple", Value::Tuple(items)) => write_sent_tuple(out, items),
