@@ -29,20 +29,7 @@ fn is_due(frames: &Vec<Frame>, openings: &Vec<Opening>) -> bool
     if count == 0 {
         return frames.len() == 0;
     }
-    match openings[count - 1].waits {
-        Waits::Child => true,
-        Waits::Element => true,
-        Waits::TupleField => true,
-        Waits::Key => true,
-        Waits::Value => true,
-        Waits::EntryKey => true,
-        Waits::EntryValue => true,
-        Waits::Field => true,
-        Waits::InElements => false,
-        Waits::InTupleFields => false,
-        Waits::InMap => false,
-        Waits::InRecord => false,
-    }
+    !is_idle(openings[count - 1].waits)
 }
 
 /// The label of a call whose tree is whole: its text and bytes are copied, its names are not.

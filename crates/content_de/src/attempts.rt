@@ -49,6 +49,7 @@ pub fn attempt_last<'de, 'n: 'de, T: Deserialize<'de>>(
             if matches!(error.kind(), ErrorKind::OutOfMemory) {
                 return Err(error);
             }
+            drop(error);
             Ok(None)
         }
     }

@@ -108,21 +108,27 @@ impl<'de, 'n> Left<'de, 'n> {
         }
     }
 
-    /// The refusal of the first key that is left.
-    fn end(self, alloc: Global, known: &[&str]) -> Result<()>
+    /// The refusal of the first key that is left, which is taken away.
+    fn end(&mut self, alloc: Global, known: &[&str]) -> Result<()>
         ensures value { Reads
-            (first_other (map (λ name. name.now) known.now) (entries_of self.entry))
+            (first_other (map (λ name. name.now) known.now) (entries_of self.old))
             (λ u. ⊤) result }
-        ensures succeeds { first_other (map (λ name. name.now) known.now) (entries_of self.entry)
+        ensures succeeds { first_other (map (λ name. name.now) known.now) (entries_of self.old)
             ≡ None → IsOk result }
     {
         match self {
-            Left::Pairs(mut pairs) => match pairs.pop_front() {
-                Some((key, _value)) => Err(other_key(alloc, key, known)),
+            Left::Pairs(pairs) => match pairs.pop_front() {
+                Some((key, value)) => {
+                    drop(value);
+                    Err(other_key(alloc, key, known))
+                }
                 None => Ok(()),
             },
-            Left::Fields(mut fields) => match fields.pop_front() {
-                Some((name, _value)) => Err(other_name(alloc, name.as_str(), known)),
+            Left::Fields(fields) => match fields.pop_front() {
+                Some((name, value)) => {
+                    drop(value);
+                    Err(other_name(alloc, name.as_str(), known))
+                }
                 None => Ok(()),
             },
         }
@@ -253,13 +259,18 @@ impl<'de, 'n> FieldsByName<'de, 'n> {
     {
         let FieldsByName {
             keyless,
-            left,
+            mut left,
             flags: _,
         } = self;
-        match keyless {
-            Some(_value) => Err(no_name(alloc, NamedValue::Unit)),
+        let answer = match keyless {
+            Some(value) => {
+                drop(value);
+                Err(no_name(alloc, NamedValue::Unit))
+            }
             None => left.end(alloc, known),
-        }
+        };
+        drop(left);
+        answer
     }
 }
 

@@ -53,7 +53,7 @@ impl<'de, 'n> Deserializer<'de, 'n> {
     }
 
     /// The same, human readable: types may read another form. It takes no memory.
-    pub fn human_readable(self) -> Deserializer<'de, 'n>
+    pub fn human_readable(mut self) -> Deserializer<'de, 'n>
         ensures { subject result ≡ record {
           origin = (subject self.entry).origin;
           flags = record {
@@ -63,20 +63,13 @@ impl<'de, 'n> Deserializer<'de, 'n> {
           };
         } }
     {
-        let Deserializer { source, flags } = self;
-        Deserializer {
-            source,
-            flags: Flags {
-                human_readable: true,
-                coerces: flags.coerces,
-                buffered: flags.buffered,
-            },
-        }
+        self.flags.human_readable = true;
+        self
     }
 
     /// The same with numbers coerced: a request for a number of one kind also takes a number of
     /// another whose value lies in the kind's range. It takes no memory.
-    pub fn coerce_numbers(self) -> Deserializer<'de, 'n>
+    pub fn coerce_numbers(mut self) -> Deserializer<'de, 'n>
         ensures { subject result ≡ record {
           origin = (subject self.entry).origin;
           flags = record {
@@ -86,28 +79,18 @@ impl<'de, 'n> Deserializer<'de, 'n> {
           };
         } }
     {
-        let Deserializer { source, flags } = self;
-        Deserializer {
-            source,
-            flags: Flags {
-                human_readable: flags.human_readable,
-                coerces: true,
-                buffered: flags.buffered,
-            },
-        }
+        self.flags.coerces = true;
+        self
     }
 
     /// The same, read as Serde reads from its buffer, for instance the variants of an untagged
     /// enum: numbers are coerced, the unit is an empty option, and a tuple refuses elements that
     /// are left over. It takes no memory.
-    pub fn buffered(self) -> Deserializer<'de, 'n>
+    pub fn buffered(mut self) -> Deserializer<'de, 'n>
         ensures { subject result ≡ in_buffer (subject self.entry) }
     {
-        let Deserializer { source, flags } = self;
-        Deserializer {
-            source,
-            flags: flags.buffering(),
-        }
+        self.flags = self.flags.buffering();
+        self
     }
 
     /// Whether what is read is human readable; a key that is a field's name and a variant's name

@@ -140,9 +140,12 @@ pub fn ignore_unknown_fields(
         ≡ None → IsOk result }
 {
     if from.is_empty() {
+        drop(from);
         return Ok(());
     }
-    none_again(alloc, &from, known)
+    let answer = none_again(alloc, &from, known);
+    drop(from);
+    answer
 }
 
 /// Ends the reading of fields by name, for a type of your own that keeps others: gives what is
@@ -165,8 +168,13 @@ pub fn keep_unknown_fields<'de, 'n: 'de>(
     ensures succeeds { others_skipped (map (λ name. name.now) known.now) (fields_left from.entry)
         ≡ None → ArePairsLeft from.entry → IsOk result }
 {
-    none_again(alloc, &from, known)?;
-    Ok(from.rest(alloc)?.buffered())
+    match none_again(alloc, &from, known) {
+        Ok(()) => Ok(from.rest(alloc)?.buffered()),
+        Err(error) => {
+            drop(from);
+            Err(error)
+        }
+    }
 }
 
 /// The refusal of the first of these names that an entry has.

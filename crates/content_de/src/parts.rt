@@ -1,6 +1,6 @@
 //! The parts of what a type reads: of a tuple by place, of a struct by name.
 
-ghost use Rattle.std.specs.Prelude.{◌≡◌, ◌≢◌, None, IsOk, ⊤};
+ghost use Rattle.std.specs.Prelude.{◌≡◌, ◌≢◌, ◌≤◌, ◌-◌, None, IsOk, ⊤};
 ghost use Rattle.content_tree.specs.Errors.Cause.{out_of_memory};
 ghost use Rattle.content_de.specs.Outcomes.{cause};
 ghost use Rattle.content_de.specs.Accesses.Seq.{seq_view, first_item, after_item};
@@ -51,7 +51,7 @@ pub fn next_part<'de, 'n: 'de, T: Deserialize<'de>>(
 /// As those of [`next_part`] and [`finish_parts`].
 pub fn two_parts<'de, 'n: 'de, A: Deserialize<'de>, B: Deserialize<'de>>(
     alloc: Global,
-    mut from: Seq<'de, 'n>,
+    from: Seq<'de, 'n>,
 ) -> Result<(A, B)>
     ensures value { Reads
         (part_then 2 0 A.refusal (part_then 2 1 B.refusal (end_of_parts 2)) (seq_view from.entry))
@@ -59,10 +59,51 @@ pub fn two_parts<'de, 'n: 'de, A: Deserialize<'de>, B: Deserialize<'de>>(
     ensures succeeds { MemorylessThen A.memoryless (MemorylessThen B.memoryless (MayEnd 2))
         (seq_view from.entry) → IsOk result }
 {
-    let first = next_part(alloc, &mut from, 2, 0)?;
-    let second = next_part(alloc, &mut from, 2, 1)?;
-    finish_parts(alloc, from, 2)?;
+    last_two(alloc, from, 2)
+}
+
+/// The last two parts of a tuple, and its end.
+#[inline(always)]
+pub(crate) fn last_two<'de, 'n: 'de, A: Deserialize<'de>, B: Deserialize<'de>>(
+    alloc: Global,
+    mut from: Seq<'de, 'n>,
+    expected: usize,
+) -> Result<(A, B)>
+    requires { 2 ≤ expected }
+    ensures value { Reads
+        (part_then expected (expected - 2) A.refusal
+        (part_then expected (expected - 1) B.refusal (end_of_parts expected)) (seq_view from.entry))
+        (λ p. PartThen A.gives p.0 (PartThen B.gives p.1 NoPart) (seq_view from.entry)) result }
+    ensures succeeds { MemorylessThen A.memoryless (MemorylessThen B.memoryless (MayEnd expected))
+        (seq_view from.entry) → IsOk result }
+{
+    let first = next_part(alloc, &mut from, expected, expected - 2)?;
+    let second = next_part(alloc, &mut from, expected, expected - 1)?;
+    finish_parts(alloc, from, expected)?;
     Ok((first, second))
+}
+
+/// The last three parts of a tuple, and its end.
+#[inline(always)]
+pub(crate) fn last_three<
+    'de,
+    'n: 'de,
+    A: Deserialize<'de>,
+    B: Deserialize<'de>,
+    C: Deserialize<'de>,
+>(alloc: Global, mut from: Seq<'de, 'n>, expected: usize) -> Result<(A, B, C)>
+    requires { 3 ≤ expected }
+    ensures value { Reads
+        (part_then expected (expected - 3) A.refusal (part_then expected (expected - 2) B.refusal
+        (part_then expected (expected - 1) C.refusal (end_of_parts expected))) (seq_view from.entry))
+        (λ p. PartThen A.gives p.0 (PartThen B.gives p.1 (PartThen C.gives p.2 NoPart))
+        (seq_view from.entry)) result }
+    ensures succeeds { MemorylessThen A.memoryless (MemorylessThen B.memoryless
+        (MemorylessThen C.memoryless (MayEnd expected))) (seq_view from.entry) → IsOk result }
+{
+    let first = next_part(alloc, &mut from, expected, expected - 3)?;
+    let (second, third) = last_two(alloc, from, expected)?;
+    Ok((first, second, third))
 }
 
 /// Ends the reading of a tuple of `expected` parts, for a type of your own, as Serde's derives do:
@@ -94,7 +135,10 @@ pub fn end_parts<'de, 'n>(alloc: Global, mut from: Seq<'de, 'n>, expected: usize
 {
     match from.next_deserializer() {
         None => Ok(()),
-        Some(_) => Err(too_many(alloc, expected)),
+        Some(item) => {
+            drop(item);
+            Err(too_many(alloc, expected))
+        }
     }
 }
 

@@ -1,6 +1,6 @@
 //! Serialiser calls as data.
 
-ghost use Rattle.std.specs.Prelude.{◌≡◌, true, Ok, IfOk, IfErr, IfSome, IsOk};
+ghost use Rattle.std.specs.Prelude.{◌≡◌, true, None, Ok, IfOk, IfErr, IfSome, IsOk};
 ghost use Rattle.content_tree.specs.Errors.Kind.{IsOutOfMemory};
 ghost use Rattle.content_ser.specs.Calls.Call.{event_of, text_part, IsOwned};
 
@@ -87,48 +87,11 @@ impl<'a> Call<'a> {
             → IsOk result }
         ensures memory { IfErr result (λ e. IsOutOfMemory e) }
     {
-        let copy = match self {
-            Call::Bool(b) => Call::Bool(*b),
-            Call::Number(n) => Call::Number(*n),
-            Call::Char(c) => Call::Char(*c),
-            Call::Str(CowStr::Borrowed(text)) => Call::Str(CowStr::Borrowed(text)),
-            Call::Str(CowStr::Owned(text)) => Call::Str(CowStr::Owned(String::from_str(
-                alloc,
-                text.as_str(),
-            )?)),
-            Call::Bytes(CowBytes::Borrowed(bytes)) => Call::Bytes(CowBytes::Borrowed(bytes)),
-            Call::Bytes(CowBytes::Owned(bytes)) => Call::Bytes(CowBytes::Owned(
-                bytes.as_slice().to_vec(alloc)?,
-            )),
-            Call::Unit => Call::Unit,
-            Call::NoneCall => Call::NoneCall,
-            Call::SomeCall => Call::SomeCall,
-            Call::UnitStruct(name) => Call::UnitStruct(name),
-            Call::UnitVariant(name, index, variant) => Call::UnitVariant(name, *index, variant),
-            Call::NewtypeStruct(name) => Call::NewtypeStruct(name),
-            Call::NewtypeVariant(name, index, variant) => Call::NewtypeVariant(
-                name, *index, variant,
-            ),
-            Call::Seq(hint) => Call::Seq(*hint),
-            Call::Tuple(len) => Call::Tuple(*len),
-            Call::TupleStruct(name, len) => Call::TupleStruct(name, *len),
-            Call::TupleVariant(name, index, variant, len) => Call::TupleVariant(
-                name, *index, variant, *len,
-            ),
-            Call::Map(hint) => Call::Map(*hint),
-            Call::Struct(name, len) => Call::Struct(name, *len),
-            Call::StructVariant(name, index, variant, len) => Call::StructVariant(
-                name, *index, variant, *len,
-            ),
-            Call::Element => Call::Element,
-            Call::TupleField => Call::TupleField,
-            Call::Field(key) => Call::Field(key),
-            Call::Key => Call::Key,
-            Call::Value => Call::Value,
-            Call::Entry => Call::Entry,
-            Call::End => Call::End,
-        };
-        Ok(copy)
+        match self {
+            Call::Str(text) => Ok(Call::Str(text.try_clone(alloc)?)),
+            Call::Bytes(bytes) => Ok(Call::Bytes(bytes.try_clone(alloc)?)),
+            other => Ok(other.bare()),
+        }
     }
 
     /// The same call with its text or bytes borrowed from this one. It takes no memory.
@@ -137,11 +100,38 @@ impl<'a> Call<'a> {
         ensures { event_of result ≡ event_of self.now }
     {
         match self {
+            Call::Str(text) => Call::Str(CowStr::Borrowed(text.as_str())),
+            Call::Bytes(bytes) => Call::Bytes(CowBytes::Borrowed(bytes.as_bytes())),
+            other => other.bare(),
+        }
+    }
+
+    /// Makes the call's text or bytes owned. Owned ones are moved, without memory, and borrowed
+    /// ones copied; where that allocation fails: an error of kind `OutOfMemory`.
+    pub fn into_owned(self, alloc: Global) -> Result<Call<'static>>
+        ensures value { IfOk result (λ call. event_of call ≡ event_of self.entry) }
+        ensures owned { IfOk result IsOwned }
+        ensures moved { IsOwned self.entry → result ≡ Ok self.entry }
+        ensures memory { IfErr result (λ e. IsOutOfMemory e) }
+    {
+        match self {
+            Call::Str(text) => Ok(Call::Str(CowStr::Owned(text.into_owned(alloc)?))),
+            Call::Bytes(bytes) => Ok(Call::Bytes(CowBytes::Owned(bytes.into_owned(alloc)?))),
+            other => Ok(other.bare()),
+        }
+    }
+
+    /// The same call, but that a text or bytes are empty here.
+    #[inline(always)]
+    fn bare<'b>(&self) -> Call<'b>
+        ensures { text_part self.now ≡ None → result ≡ self.now }
+    {
+        match self {
             Call::Bool(b) => Call::Bool(*b),
             Call::Number(n) => Call::Number(*n),
             Call::Char(c) => Call::Char(*c),
-            Call::Str(text) => Call::Str(CowStr::Borrowed(text.as_str())),
-            Call::Bytes(bytes) => Call::Bytes(CowBytes::Borrowed(bytes.as_bytes())),
+            Call::Str(_) => Call::Str(CowStr::Borrowed("")),
+            Call::Bytes(_) => Call::Bytes(CowBytes::Borrowed(&[])),
             Call::Unit => Call::Unit,
             Call::NoneCall => Call::NoneCall,
             Call::SomeCall => Call::SomeCall,
@@ -170,50 +160,5 @@ impl<'a> Call<'a> {
             Call::Entry => Call::Entry,
             Call::End => Call::End,
         }
-    }
-
-    /// Makes the call's text or bytes owned. Owned ones are moved, without memory, and borrowed
-    /// ones copied; where that allocation fails: an error of kind `OutOfMemory`.
-    pub fn into_owned(self, alloc: Global) -> Result<Call<'static>>
-        ensures value { IfOk result (λ call. event_of call ≡ event_of self.entry) }
-        ensures owned { IfOk result IsOwned }
-        ensures moved { IsOwned self.entry → result ≡ Ok self.entry }
-        ensures memory { IfErr result (λ e. IsOutOfMemory e) }
-    {
-        let owned = match self {
-            Call::Bool(b) => Call::Bool(b),
-            Call::Number(n) => Call::Number(n),
-            Call::Char(c) => Call::Char(c),
-            Call::Str(text) => Call::Str(CowStr::Owned(text.into_owned(alloc)?)),
-            Call::Bytes(bytes) => Call::Bytes(CowBytes::Owned(bytes.into_owned(alloc)?)),
-            Call::Unit => Call::Unit,
-            Call::NoneCall => Call::NoneCall,
-            Call::SomeCall => Call::SomeCall,
-            Call::UnitStruct(name) => Call::UnitStruct(name),
-            Call::UnitVariant(name, index, variant) => Call::UnitVariant(name, index, variant),
-            Call::NewtypeStruct(name) => Call::NewtypeStruct(name),
-            Call::NewtypeVariant(name, index, variant) => Call::NewtypeVariant(
-                name, index, variant,
-            ),
-            Call::Seq(hint) => Call::Seq(hint),
-            Call::Tuple(len) => Call::Tuple(len),
-            Call::TupleStruct(name, len) => Call::TupleStruct(name, len),
-            Call::TupleVariant(name, index, variant, len) => Call::TupleVariant(
-                name, index, variant, len,
-            ),
-            Call::Map(hint) => Call::Map(hint),
-            Call::Struct(name, len) => Call::Struct(name, len),
-            Call::StructVariant(name, index, variant, len) => Call::StructVariant(
-                name, index, variant, len,
-            ),
-            Call::Element => Call::Element,
-            Call::TupleField => Call::TupleField,
-            Call::Field(key) => Call::Field(key),
-            Call::Key => Call::Key,
-            Call::Value => Call::Value,
-            Call::Entry => Call::Entry,
-            Call::End => Call::End,
-        };
-        Ok(owned)
     }
 }

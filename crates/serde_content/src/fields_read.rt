@@ -103,8 +103,13 @@ impl<'de, K: Names, const I: usize, T: Deserialize<'de>, R: ReadFields<'de>> Rea
     #[tactic(auto, unfolding(crate::specs::Literals::row_then, crate::specs::Literals::RowThen, crate::specs::Literals::RowMemoryless))]
     #[inline(always)]
     fn read<'n: 'de>(alloc: Global, mut fields: FieldsByName<'de, 'n>) -> Result<Self> {
-        let value = field_at::<K, T>(alloc, &mut fields, I)?;
-        Ok(ReadField(value, R::read(alloc, fields)?, PhantomData))
+        match field_at::<K, T>(alloc, &mut fields, I) {
+            Ok(value) => Ok(ReadField(value, R::read(alloc, fields)?, PhantomData)),
+            Err(error) => {
+                drop(fields);
+                Err(error)
+            }
+        }
     }
 }
 
@@ -125,8 +130,13 @@ impl<'de, K: Names, const I: usize, T: Deserialize<'de> + Absent, R: ReadFields<
     #[tactic(auto, unfolding(crate::specs::Literals::row_or_then, crate::specs::Literals::RowOrThen, crate::specs::Literals::RowOrMemoryless))]
     #[inline(always)]
     fn read<'n: 'de>(alloc: Global, mut fields: FieldsByName<'de, 'n>) -> Result<Self> {
-        let value = field_at_or::<K, T>(alloc, &mut fields, I)?;
-        Ok(ReadFieldOr(value, R::read(alloc, fields)?, PhantomData))
+        match field_at_or::<K, T>(alloc, &mut fields, I) {
+            Ok(value) => Ok(ReadFieldOr(value, R::read(alloc, fields)?, PhantomData)),
+            Err(error) => {
+                drop(fields);
+                Err(error)
+            }
+        }
     }
 }
 

@@ -63,10 +63,27 @@ pub fn first_of_two<'de, 'n: 'de, A: Deserialize<'de>, B: Deserialize<'de>>(
         (Some (custom none.now))))
         (TwoGive A.refusal A.gives B.refusal B.gives (in_buffer (subject from.entry))) result }
 {
-    if let Some(first) = attempt(alloc, &from)? {
+    let answer = two_of(alloc, &from, none);
+    drop(from);
+    answer
+}
+
+/// The same of what is lent.
+fn two_of<'de, 'n: 'de, A: Deserialize<'de>, B: Deserialize<'de>>(
+    alloc: Global,
+    from: &Deserializer<'de, 'n>,
+    none: &str,
+) -> Result<OneOfTwo<A, B>>
+    ensures { Reads
+        (or_next (A.refusal (in_buffer (subject from.now)))
+        (or_next (B.refusal (in_buffer (subject from.now)))
+        (Some (custom none.now))))
+        (TwoGive A.refusal A.gives B.refusal B.gives (in_buffer (subject from.now))) result }
+{
+    if let Some(first) = attempt(alloc, from)? {
         return Ok(OneOfTwo::First(first));
     }
-    if let Some(second) = attempt(alloc, &from)? {
+    if let Some(second) = attempt(alloc, from)? {
         return Ok(OneOfTwo::Second(second));
     }
     Err(Error::custom(alloc, none))
@@ -90,10 +107,29 @@ pub fn first_of_three<'de, 'n: 'de, A: Deserialize<'de>, B: Deserialize<'de>, C:
         (ThreeGive A.refusal A.gives B.refusal B.gives C.refusal C.gives
         (in_buffer (subject from.entry))) result }
 {
-    if let Some(first) = attempt(alloc, &from)? {
+    let answer = three_of(alloc, &from, none);
+    drop(from);
+    answer
+}
+
+/// The same of what is lent.
+fn three_of<'de, 'n: 'de, A: Deserialize<'de>, B: Deserialize<'de>, C: Deserialize<'de>>(
+    alloc: Global,
+    from: &Deserializer<'de, 'n>,
+    none: &str,
+) -> Result<OneOfThree<A, B, C>>
+    ensures { Reads
+        (or_next (A.refusal (in_buffer (subject from.now)))
+        (or_next (B.refusal (in_buffer (subject from.now)))
+        (or_next (C.refusal (in_buffer (subject from.now)))
+        (Some (custom none.now)))))
+        (ThreeGive A.refusal A.gives B.refusal B.gives C.refusal C.gives
+        (in_buffer (subject from.now))) result }
+{
+    if let Some(first) = attempt(alloc, from)? {
         return Ok(OneOfThree::First(first));
     }
-    match first_of_two(alloc, from, none)? {
+    match two_of(alloc, from, none)? {
         OneOfTwo::First(second) => Ok(OneOfThree::Second(second)),
         OneOfTwo::Second(third) => Ok(OneOfThree::Third(third)),
     }
@@ -121,10 +157,33 @@ pub fn first_of_four<
         (FourGive A.refusal A.gives B.refusal B.gives C.refusal C.gives D.refusal D.gives
         (in_buffer (subject from.entry))) result }
 {
-    if let Some(first) = attempt(alloc, &from)? {
+    let answer = four_of(alloc, &from, none);
+    drop(from);
+    answer
+}
+
+/// The same of what is lent.
+fn four_of<
+    'de,
+    'n: 'de,
+    A: Deserialize<'de>,
+    B: Deserialize<'de>,
+    C: Deserialize<'de>,
+    D: Deserialize<'de>,
+>(alloc: Global, from: &Deserializer<'de, 'n>, none: &str) -> Result<OneOfFour<A, B, C, D>>
+    ensures { Reads
+        (or_next (A.refusal (in_buffer (subject from.now)))
+        (or_next (B.refusal (in_buffer (subject from.now)))
+        (or_next (C.refusal (in_buffer (subject from.now)))
+        (or_next (D.refusal (in_buffer (subject from.now)))
+        (Some (custom none.now))))))
+        (FourGive A.refusal A.gives B.refusal B.gives C.refusal C.gives D.refusal D.gives
+        (in_buffer (subject from.now))) result }
+{
+    if let Some(first) = attempt(alloc, from)? {
         return Ok(OneOfFour::First(first));
     }
-    match first_of_three(alloc, from, none)? {
+    match three_of(alloc, from, none)? {
         OneOfThree::First(second) => Ok(OneOfFour::Second(second)),
         OneOfThree::Second(third) => Ok(OneOfFour::Third(third)),
         OneOfThree::Third(fourth) => Ok(OneOfFour::Fourth(fourth)),

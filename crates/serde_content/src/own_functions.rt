@@ -79,8 +79,13 @@ impl<
     #[tactic(auto, unfolding(crate::specs::Literals::row_or_then, crate::specs::Literals::RowOrThen))]
     #[inline(always)]
     fn read<'n: 'de>(alloc: Global, mut fields: FieldsByName<'de, 'n>) -> Result<Self> {
-        let value = field_at_else::<K, T, D>(alloc, &mut fields, I)?;
-        Ok(ReadFieldElse(value, R::read(alloc, fields)?, PhantomData))
+        match field_at_else::<K, T, D>(alloc, &mut fields, I) {
+            Ok(value) => Ok(ReadFieldElse(value, R::read(alloc, fields)?, PhantomData)),
+            Err(error) => {
+                drop(fields);
+                Err(error)
+            }
+        }
     }
 }
 

@@ -96,6 +96,11 @@ version_refusal =
     (variant_or (codes "V6") (newtype_variant_refusal ipv6_refusal)
     (no_variant_of (codes "V4" ∷ codes "V6" ∷ [])))
 
+-- the address that the variant of this name holds
+abbrev pub IsVersion : List ℕ → VariantLeft → IpAddr → Type 0
+IsVersion version v (ip.V4 a) = (version ≡ codes "V4") × NewtypeVariantGives Ipv4Gives a v
+IsVersion version v (ip.V6 a) = (version ≡ codes "V6") × NewtypeVariantGives Ipv6Gives a v
+
 -- an address of either version
 abbrev pub ip_refusal : Refusal
 ip_refusal = text_or_refusal ip_text_refusal (enum_refusal (codes "IpAddr") version_refusal)

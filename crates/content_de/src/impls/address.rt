@@ -4,12 +4,15 @@ ghost use Rattle.std.specs.Net.Grammar.{IsIpText, IsIpv4Text, IsIpv6Text};
 ghost use Rattle.content_de.specs.Reads.Addresses.{ip_refusal, ip_text_refusal, IpGives};
 ghost use Rattle.content_de.specs.Reads.Addresses.{ipv4_refusal, ipv4_text_refusal, Ipv4Gives};
 ghost use Rattle.content_de.specs.Reads.Addresses.{ipv6_refusal, ipv6_text_refusal, Ipv6Gives};
+ghost use Rattle.content_de.specs.Reads.Addresses.{version_refusal, IsVersion};
 ghost use Rattle.content_de.specs.Reads.Read.{Reads};
+ghost use Rattle.content_de.specs.Accesses.Enum.{variant_view};
 
 use crate::deserialize::Deserialize;
 use crate::deserializer::Deserializer;
 use crate::refusal::custom;
 use crate::unknown_names::unknown_variant;
+use crate::variant_access::VariantAccess;
 use content_tree::{CowStr, Result};
 use std::alloc::Global;
 use std::net::{IpAddr, Ipv4Addr, Ipv6Addr};
@@ -57,16 +60,31 @@ impl<'de> Deserialize<'de> for IpAddr {
         }
         let access = from.deserialize_enum(alloc, "IpAddr", &["V4", "V6"])?;
         let (tag, variant) = access.variant::<CowStr<'de>>(alloc)?;
-        match tag.as_str() {
-            "V4" => match variant.newtype_variant(alloc) {
-                Ok(address) => Ok(IpAddr::V4(address)),
-                Err(error) => Err(error.at_name(alloc, "V4")),
-            },
-            "V6" => match variant.newtype_variant(alloc) {
-                Ok(address) => Ok(IpAddr::V6(address)),
-                Err(error) => Err(error.at_name(alloc, "V6")),
-            },
-            other => Err(unknown_variant(alloc, other, &["V4", "V6"])),
+        read_version(alloc, tag.as_str(), variant)
+    }
+}
+
+/// The address that the variant of this name holds.
+fn read_version<'de, 'n: 'de>(
+    alloc: Global,
+    version: &str,
+    variant: VariantAccess<'de, 'n>,
+) -> Result<IpAddr>
+    ensures { Reads (version_refusal version.now (variant_view variant.entry))
+        (λ address. IsVersion version.now (variant_view variant.entry) address) result }
+{
+    match version {
+        "V4" => match variant.newtype_variant(alloc) {
+            Ok(address) => Ok(IpAddr::V4(address)),
+            Err(error) => Err(error.at_name(alloc, "V4")),
+        },
+        "V6" => match variant.newtype_variant(alloc) {
+            Ok(address) => Ok(IpAddr::V6(address)),
+            Err(error) => Err(error.at_name(alloc, "V6")),
+        },
+        other => {
+            drop(variant);
+            Err(unknown_variant(alloc, other, &["V4", "V6"]))
         }
     }
 }

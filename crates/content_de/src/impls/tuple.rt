@@ -7,7 +7,7 @@ ghost use Rattle.content_de.specs.Reads.Tuples.{MemorylessThen, MayEnd};
 
 use crate::deserialize::Deserialize;
 use crate::deserializer::Deserializer;
-use crate::parts::{finish_parts, next_part, two_parts};
+use crate::parts::{finish_parts, last_three, next_part, two_parts};
 use content_tree::Result;
 use std::alloc::Global;
 
@@ -61,12 +61,7 @@ impl<'de, A: Deserialize<'de>, B: Deserialize<'de>, C: Deserialize<'de>> Deseria
         (MemorylessThen C.memoryless (MayEnd 3)))) };
 
     fn deserialize<'n: 'de>(alloc: Global, from: Deserializer<'de, 'n>) -> Result<(A, B, C)> {
-        let mut parts = from.deserialize_tuple(alloc, 3)?;
-        let first = next_part(alloc, &mut parts, 3, 0)?;
-        let second = next_part(alloc, &mut parts, 3, 1)?;
-        let third = next_part(alloc, &mut parts, 3, 2)?;
-        finish_parts(alloc, parts, 3)?;
-        Ok((first, second, third))
+        last_three(alloc, from.deserialize_tuple(alloc, 3)?, 3)
     }
 }
 
@@ -93,10 +88,7 @@ impl<
     fn deserialize<'n: 'de>(alloc: Global, from: Deserializer<'de, 'n>) -> Result<(A, B, C, D)> {
         let mut parts = from.deserialize_tuple(alloc, 4)?;
         let first = next_part(alloc, &mut parts, 4, 0)?;
-        let second = next_part(alloc, &mut parts, 4, 1)?;
-        let third = next_part(alloc, &mut parts, 4, 2)?;
-        let fourth = next_part(alloc, &mut parts, 4, 3)?;
-        finish_parts(alloc, parts, 4)?;
+        let (second, third, fourth) = last_three(alloc, parts, 4)?;
         Ok((first, second, third, fourth))
     }
 }

@@ -6,7 +6,8 @@ ghost use Rattle.content_ser.specs.Scripts.Standard.{map_script};
 ghost use Rattle.content_ser.specs.Laws.StandardScripts.{map_lawful};
 
 use crate::aside::{Sent, answered};
-use crate::send::calls::{end, serialize_entry, serialize_map};
+use crate::call::Call;
+use crate::send::calls::{announce, end, serialize_map};
 use crate::serialize::Serialize;
 use crate::serializer::Serializer;
 use content_tree::{Error, Result};
@@ -31,8 +32,7 @@ impl<K: Serialize + Eq + Hash, V: Serialize> Serialize for HashMap<K, V> {
     ) -> Sent {
         serialize_map(self.len(), serializer, error)?;
         for (key, value) in self {
-            serialize_entry(serializer, error)?;
-            key.serialize_aside(alloc, serializer, error)?;
+            announce(Call::Entry, key, alloc, serializer, error)?;
             value.serialize_aside(alloc, serializer, error)?;
         }
         end(serializer, error)

@@ -6,7 +6,8 @@ ghost use Rattle.content_ser.specs.Scripts.Standard.{seq_script};
 ghost use Rattle.content_ser.specs.Laws.StandardScripts.{seq_lawful};
 
 use crate::aside::{Sent, answered};
-use crate::send::calls::{end, serialize_element, serialize_seq};
+use crate::call::Call;
+use crate::send::calls::{announce, end, serialize_seq};
 use crate::serialize::Serialize;
 use crate::serializer::Serializer;
 use content_tree::{Error, Result};
@@ -31,8 +32,7 @@ impl<T: Serialize + Eq + Hash> Serialize for HashSet<T> {
     ) -> Sent {
         serialize_seq(self.len(), serializer, error)?;
         for item in self {
-            serialize_element(serializer, error)?;
-            item.serialize_aside(alloc, serializer, error)?;
+            announce(Call::Element, item, alloc, serializer, error)?;
         }
         end(serializer, error)
     }

@@ -261,18 +261,7 @@ impl Serialize for Number {
     ghost lawful = { λ x readable. leaf_lawful refl };
 
     fn serialize<S: Serializer>(&self, _alloc: Global, serializer: &mut S) -> Result<()> {
-        match *self {
-            Number::I8(n) => serializer.serialize_i8(n),
-            Number::U8(n) => serializer.serialize_u8(n),
-            Number::I16(n) => serializer.serialize_i16(n),
-            Number::U16(n) => serializer.serialize_u16(n),
-            Number::I32(n) => serializer.serialize_i32(n),
-            Number::U32(n) => serializer.serialize_u32(n),
-            Number::I64(n) => serializer.serialize_i64(n),
-            Number::U64(n) => serializer.serialize_u64(n),
-            Number::I128(n) => serializer.serialize_i128(n),
-            Number::U128(n) => serializer.serialize_u128(n),
-        }
+        serializer.call(Call::Number(*self))
     }
 
     #[inline(always)]

@@ -7,7 +7,8 @@ ghost use Rattle.content_ser.specs.Scripts.Standard.{element_first, only, tuple_
 ghost use Rattle.content_ser.specs.Laws.StandardScripts.{element_fits, end_fits, tuple_lawful};
 
 use crate::aside::{Sent, answered};
-use crate::send::calls::{end, serialize_element, serialize_tuple};
+use crate::call::Call;
+use crate::send::calls::{announce, end, serialize_tuple};
 use crate::serialize::Serialize;
 use crate::serializer::Serializer;
 use content_tree::{Error, Result};
@@ -29,8 +30,7 @@ impl<A: Serialize> Serialize for (A,) {
         error: &mut Error,
     ) -> Sent {
         serialize_tuple(1, serializer, error)?;
-        serialize_element(serializer, error)?;
-        self.0.serialize_aside(alloc, serializer, error)?;
+        announce(Call::Element, &self.0, alloc, serializer, error)?;
         end(serializer, error)
     }
 }
@@ -53,10 +53,8 @@ impl<A: Serialize, B: Serialize> Serialize for (A, B) {
         error: &mut Error,
     ) -> Sent {
         serialize_tuple(2, serializer, error)?;
-        serialize_element(serializer, error)?;
-        self.0.serialize_aside(alloc, serializer, error)?;
-        serialize_element(serializer, error)?;
-        self.1.serialize_aside(alloc, serializer, error)?;
+        announce(Call::Element, &self.0, alloc, serializer, error)?;
+        announce(Call::Element, &self.1, alloc, serializer, error)?;
         end(serializer, error)
     }
 }
@@ -80,12 +78,9 @@ impl<A: Serialize, B: Serialize, C: Serialize> Serialize for (A, B, C) {
         error: &mut Error,
     ) -> Sent {
         serialize_tuple(3, serializer, error)?;
-        serialize_element(serializer, error)?;
-        self.0.serialize_aside(alloc, serializer, error)?;
-        serialize_element(serializer, error)?;
-        self.1.serialize_aside(alloc, serializer, error)?;
-        serialize_element(serializer, error)?;
-        self.2.serialize_aside(alloc, serializer, error)?;
+        announce(Call::Element, &self.0, alloc, serializer, error)?;
+        announce(Call::Element, &self.1, alloc, serializer, error)?;
+        announce(Call::Element, &self.2, alloc, serializer, error)?;
         end(serializer, error)
     }
 }
@@ -111,14 +106,10 @@ impl<A: Serialize, B: Serialize, C: Serialize, D: Serialize> Serialize for (A, B
         error: &mut Error,
     ) -> Sent {
         serialize_tuple(4, serializer, error)?;
-        serialize_element(serializer, error)?;
-        self.0.serialize_aside(alloc, serializer, error)?;
-        serialize_element(serializer, error)?;
-        self.1.serialize_aside(alloc, serializer, error)?;
-        serialize_element(serializer, error)?;
-        self.2.serialize_aside(alloc, serializer, error)?;
-        serialize_element(serializer, error)?;
-        self.3.serialize_aside(alloc, serializer, error)?;
+        announce(Call::Element, &self.0, alloc, serializer, error)?;
+        announce(Call::Element, &self.1, alloc, serializer, error)?;
+        announce(Call::Element, &self.2, alloc, serializer, error)?;
+        announce(Call::Element, &self.3, alloc, serializer, error)?;
         end(serializer, error)
     }
 }

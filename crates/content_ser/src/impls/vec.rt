@@ -6,7 +6,6 @@ ghost use Rattle.content_ser.specs.Scripts.Standard.{seq_script};
 ghost use Rattle.content_ser.specs.Laws.StandardScripts.{seq_lawful};
 
 use crate::aside::{Sent, answered};
-use crate::send::calls::{end, serialize_element, serialize_seq};
 use crate::serialize::Serialize;
 use crate::serializer::Serializer;
 use content_tree::{Error, Result};
@@ -27,11 +26,6 @@ impl<T: Serialize> Serialize for Vec<T> {
         serializer: &mut S,
         error: &mut Error,
     ) -> Sent {
-        serialize_seq(self.len(), serializer, error)?;
-        for item in self {
-            serialize_element(serializer, error)?;
-            item.serialize_aside(alloc, serializer, error)?;
-        }
-        end(serializer, error)
+        self.as_slice().serialize_aside(alloc, serializer, error)
     }
 }

@@ -10,11 +10,12 @@
 ghost use Rattle.std.specs.Prelude.{map as each, IfErr, IfOk, Some};
 ghost use Rattle.content_tree.specs.Errors.Kind.{IsOutOfMemory};
 ghost use Rattle.content_tree.specs.Values.Text.{text_of};
+ghost use Rattle.content_ser.specs.Calls.Call.{event_of};
 ghost use Rattle.content_ser.specs.Calls.Event.{boolean, character, text, octets, unit, none};
 ghost use Rattle.content_ser.specs.Calls.Event.{some, seq, map, tuple, element, entry};
 ghost use Rattle.content_ser.specs.Calls.Event.{tuple_field, number, end as end_};
 ghost use Rattle.content_ser.specs.Scripts.Sends.{Sends};
-ghost use Rattle.content_ser.specs.Scripts.Standard.{only};
+ghost use Rattle.content_ser.specs.Scripts.Standard.{call_first, only};
 ghost use Rattle.content_ser.specs.Sending.Aside.{answer_of};
 ghost use Rattle.content_ser.specs.Sending.Loose.{sorted};
 ghost use Rattle.content_ser.specs.Sending.Places.{keyed_tree_of, StandsFor};
@@ -154,6 +155,23 @@ pub fn end<S: Serializer>(serializer: &mut S, error: &mut Error) -> Sent
         (answer_of result error.new) (S.seen serializer.new) }
 {
     serializer.call_aside(Call::End, error)
+}
+
+/// A call that announces an item, and then the item's own calls.
+#[inline(always)]
+pub fn announce<T: Serialize, S: Serializer>(
+    item_call: Call<'_>,
+    item: &T,
+    alloc: Global,
+    serializer: &mut S,
+    error: &mut Error,
+) -> Sent
+    ensures { Sends S.step S.refuses (S.seen serializer.old)
+        (call_first (event_of item_call.entry) (T.script item.now))
+        (answer_of result error.new) (S.seen serializer.new) }
+{
+    serializer.call_aside(item_call, error)?;
+    item.serialize_aside(alloc, serializer, error)
 }
 
 /// A number, by a function of its kind.

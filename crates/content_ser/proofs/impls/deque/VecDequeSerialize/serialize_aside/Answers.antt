@@ -14,21 +14,15 @@ returns-in_err-serialize_seq g c =
 pub loop-item-init : goal.loop-item-init
 loop-item-init g c = λ r new rest. rw (← c.into_iter-item-iterator.ensures.into_iter_gives.0) rest
 
-pub returns-in_err-serialize_element : goal.returns-in_err-serialize_element
-returns-in_err-serialize_element g c =
+pub returns-in_err-announce : goal.returns-in_err-announce
+returns-in_err-announce g c =
     let n : c.len.result ≡ length c.args.self.now.items = search rules in
-    at_exit_aside _ _ c.from_residual-in_err-serialize_element.ensures.1 (told_then (λ n. event.seq (Some n)) n c.in_ok-serialize_seq.ensures
-    (c.loop-item.invariant _ _ (rw c.in-Some.ensures.steps (takes_err c.in_err-serialize_element.ensures))))
-
-pub returns-in_err-serialize_aside : goal.returns-in_err-serialize_aside
-returns-in_err-serialize_aside g c =
-    let n : c.len.result ≡ length c.args.self.now.items = search rules in
-    at_exit_aside _ _ c.from_residual-in_err-serialize_aside.ensures.1 (told_then (λ n. event.seq (Some n)) n c.in_ok-serialize_seq.ensures
-    (c.loop-item.invariant _ _ (rw c.in-Some.ensures.steps (takes_then c.in_ok-serialize_element.ensures (sends_err _ c.in_err-serialize_aside.ensures)))))
+    at_exit_aside _ _ c.from_residual-in_err-announce.ensures.1 (told_then (λ n. event.seq (Some n)) n c.in_ok-serialize_seq.ensures
+    (c.loop-item.invariant _ _ (rw c.in-Some.ensures.steps (sends_err _ c.in_err-announce.ensures))))
 
 pub loop-item-preserved : goal.loop-item-preserved
 loop-item-preserved g c = λ r new rest.
-    c.loop-item.invariant r new (rw c.in-Some.ensures.steps (takes_then c.in_ok-serialize_element.ensures (sends_then c.in_ok-serialize_aside.ensures rest)))
+    c.loop-item.invariant r new (rw c.in-Some.ensures.steps (sends_then c.in_ok-announce.ensures rest))
 
 pub returns : goal.returns
 returns g c =

@@ -12,27 +12,21 @@ returns-in_err-serialize_map g c =
 pub loop-key-init : goal.loop-key-init
 loop-key-init g c = λ r new rest. rw (← c.into_iter-key-iterator.ensures.into_iter_gives.0) rest
 
-pub returns-in_err-serialize_entry : goal.returns-in_err-serialize_entry
-returns-in_err-serialize_entry g c =
+pub returns-in_err-announce : goal.returns-in_err-announce
+returns-in_err-announce g c =
     let n : c.len.result ≡ length c.args.self.now.entries = search rules in
-    at_exit_aside _ _ c.from_residual-in_err-serialize_entry.ensures.1 (told_then (λ n. event.map (Some n)) n c.in_ok-serialize_map.ensures
-    (c.loop-key.invariant _ _ (rw c.in-Some.ensures.steps (takes_err c.in_err-serialize_entry.ensures))))
+    at_exit_aside _ _ c.from_residual-in_err-announce.ensures.1 (told_then (λ n. event.map (Some n)) n c.in_ok-serialize_map.ensures
+    (c.loop-key.invariant _ _ (rw c.in-Some.ensures.steps (sends_err _ c.in_err-announce.ensures))))
 
 pub returns-in_err-serialize_aside : goal.returns-in_err-serialize_aside
 returns-in_err-serialize_aside g c =
     let n : c.len.result ≡ length c.args.self.now.entries = search rules in
     at_exit_aside _ _ c.from_residual-in_err-serialize_aside.ensures.1 (told_then (λ n. event.map (Some n)) n c.in_ok-serialize_map.ensures
-    (c.loop-key.invariant _ _ (rw c.in-Some.ensures.steps (takes_then c.in_ok-serialize_entry.ensures (sends_err _ c.in_err-serialize_aside.ensures)))))
-
-pub returns-in_err-serialize_aside-2 : goal.returns-in_err-serialize_aside-2
-returns-in_err-serialize_aside-2 g c =
-    let n : c.len.result ≡ length c.args.self.now.entries = search rules in
-    at_exit_aside _ _ c.from_residual-in_err-serialize_aside-2.ensures.1 (told_then (λ n. event.map (Some n)) n c.in_ok-serialize_map.ensures
-    (c.loop-key.invariant _ _ (rw c.in-Some.ensures.steps (takes_then c.in_ok-serialize_entry.ensures (sends_then c.in_ok-serialize_aside.ensures (sends_err _ c.in_err-serialize_aside-2.ensures))))))
+    (c.loop-key.invariant _ _ (rw c.in-Some.ensures.steps (sends_then c.in_ok-announce.ensures (sends_err _ c.in_err-serialize_aside.ensures)))))
 
 pub loop-key-preserved : goal.loop-key-preserved
 loop-key-preserved g c = λ r new rest.
-    c.loop-key.invariant r new (rw c.in-Some.ensures.steps (takes_then c.in_ok-serialize_entry.ensures (sends_then c.in_ok-serialize_aside.ensures (sends_then c.in_ok-serialize_aside-2.ensures rest))))
+    c.loop-key.invariant r new (rw c.in-Some.ensures.steps (sends_then c.in_ok-announce.ensures (sends_then c.in_ok-serialize_aside.ensures rest)))
 
 pub returns : goal.returns
 returns g c =

@@ -10,22 +10,16 @@ pub returns-in_err-serialize_seq : goal.returns-in_err-serialize_seq
 returns-in_err-serialize_seq g c =
     at_exit_aside _ _ c.from_residual.ensures.1 (told_err (λ n. event.seq (Some n)) refl c.in_err-serialize_seq.ensures)
 
-pub returns-in_err-serialize_element : goal.returns-in_err-serialize_element
-returns-in_err-serialize_element g c =
+pub returns-in_err-announce : goal.returns-in_err-announce
+returns-in_err-announce g c =
     let e = drop_here c.args.self.now.now c.loop-item.item-index c.item-item.result c.loop-item-test.true c.item-item.is in
-    at_exit_aside _ _ c.from_residual-in_err-serialize_element.ensures.1 (told_then (λ n. event.seq (Some n)) refl c.in_ok-serialize_seq.ensures
-    (c.loop-item.invariant _ _ (rw e (takes_err c.in_err-serialize_element.ensures))))
-
-pub returns-in_err-serialize_aside : goal.returns-in_err-serialize_aside
-returns-in_err-serialize_aside g c =
-    let e = drop_here c.args.self.now.now c.loop-item.item-index c.item-item.result c.loop-item-test.true c.item-item.is in
-    at_exit_aside _ _ c.from_residual-in_err-serialize_aside.ensures.1 (told_then (λ n. event.seq (Some n)) refl c.in_ok-serialize_seq.ensures
-    (c.loop-item.invariant _ _ (rw e (takes_then c.in_ok-serialize_element.ensures (sends_err _ c.in_err-serialize_aside.ensures)))))
+    at_exit_aside _ _ c.from_residual-in_err-announce.ensures.1 (told_then (λ n. event.seq (Some n)) refl c.in_ok-serialize_seq.ensures
+    (c.loop-item.invariant _ _ (rw e (sends_err _ c.in_err-announce.ensures))))
 
 pub loop-item-preserved : goal.loop-item-preserved
 loop-item-preserved g c = λ r new rest.
     let e = drop_here c.args.self.now.now c.loop-item.item-index c.item-item.result c.loop-item-test.true c.item-item.is in
-    c.loop-item.invariant r new (rw e (takes_then c.in_ok-serialize_element.ensures (sends_then c.in_ok-serialize_aside.ensures rest)))
+    c.loop-item.invariant r new (rw e (sends_then c.in_ok-announce.ensures rest))
 
 pub returns : goal.returns
 returns g c =
