@@ -278,8 +278,11 @@ class EnumWriter:
     def dispatch(self, tag: str) -> List[str]:
         """The statements that read the variant that a tag names."""
         arms = [arm(f"Some({i})", self.arm_lines(v, holder)) for i, (v, holder) in enumerate(self.readable())]
-        return [f"match variant_index({tag}, &{self.list}) {{", *arms,
-                f"_ => Err(no_such_variant(alloc, {tag}, &{self.list})),", "}"]
+        return [f"match variant_index({tag}, &{self.list}) {{", *arms, self.other_arm(tag), "}"]
+
+    def other_arm(self, tag: str) -> str:
+        """The arm of a tag that names no variant. What is read is dropped by a call, which is proved sooner than at the end."""
+        return arm("_", [f"drop({self.source});", f"Err(no_such_variant(alloc, {tag}, &{self.list}))"])
 
     def variants_ghosts(self) -> List[str]:
         """What contracts see of the variants."""
@@ -302,6 +305,7 @@ class EnumWriter:
         return f"{ROWS_OPENED}\n" * any(v.signed() and any(f.missing for f in holder.reading.fields) for v, holder in self.readable())
 
     variants_trait = "Variants<'de>"
+    source = "variant"
 
     def member(self, word: str) -> str:
         """A ghost member of that impl."""

@@ -356,7 +356,7 @@ class NestedEnumWriter(NestedWriter, EnumWriter):
         arms = [arm(f"Some({i})", self.arm_within(v, holder)) for i, (v, holder) in enumerate(self.readable())]
         read = function(f"fn read_variant<'n: 'de>(levels: &{BELOW}, alloc: Global, tag: &str, {source}<'de, 'n>)"
                         f" -> Result<{self.whole}>", f"match variant_index(tag, &{self.list}) {{", *arms,
-                        f"_ => Err(no_such_variant(alloc, tag, &{self.list})),", "}")
+                        self.other_arm("tag"), "}")
         members = [*ghosts, *self.name_members(), self.looking() + read]
         return (f"impl<'de, Below> {trait}<'de, {BELOW}> for {self.whole}\n{self.bounds()}{{\n"
                 + "\n\n".join(members) + "\n}\n")

@@ -129,6 +129,7 @@ class TaggedWriter(EnumWriter):
         return row_entries(holder, self.leaves(v), self.sent(v))
 
     variants_trait = "TaggedVariants<'de>"
+    source = "fields"
 
     def variants_impl(self) -> List[str]:
         read = (f"fn read_variant<'n: 'de>(alloc: Global, tag: &str, fields: FieldsByName<'de, 'n>)"

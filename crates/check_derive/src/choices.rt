@@ -260,7 +260,10 @@ impl<'de> TaggedVariants<'de> for Command {
                 let (x, y) = read_command_move(alloc, fields)?;
                 Ok(make_command_move(x, y))
             }
-            _ => Err(no_such_variant(alloc, tag, &NamesOfCommand)),
+            _ => {
+                drop(fields);
+                Err(no_such_variant(alloc, tag, &NamesOfCommand))
+            }
         }
     }
 }

@@ -526,7 +526,10 @@ impl<'de> TaggedVariants<'de> for Change {
                 let x1 = read_change_add(alloc, fields)?;
                 Ok(Change::Add(x1))
             }
-            _ => Err(no_such_variant(alloc, tag, &NamesOfChange)),
+            _ => {
+                drop(fields);
+                Err(no_such_variant(alloc, tag, &NamesOfChange))
+            }
         }
     }
 }

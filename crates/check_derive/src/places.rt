@@ -585,7 +585,10 @@ impl<'de> Variants<'de> for Load {
                 let (lines, seal) = read_load_many(alloc, fields)?;
                 Ok(Load::Many { lines, seal })
             }
-            _ => Err(no_such_variant(alloc, tag, &NamesOfLoad)),
+            _ => {
+                drop(variant);
+                Err(no_such_variant(alloc, tag, &NamesOfLoad))
+            }
         }
     }
 }
@@ -732,7 +735,10 @@ impl<'de> TaggedVariants<'de> for Job {
                 let (to, by) = read_job_drive(alloc, fields)?;
                 Ok(Job::Drive { to, by })
             }
-            _ => Err(no_such_variant(alloc, tag, &NamesOfJob)),
+            _ => {
+                drop(fields);
+                Err(no_such_variant(alloc, tag, &NamesOfJob))
+            }
         }
     }
 }
@@ -872,7 +878,10 @@ impl<'de> TaggedVariants<'de> for Event {
                 let x1 = read_event_steps(alloc, fields)?;
                 Ok(Event::Steps(x1))
             }
-            _ => Err(no_such_variant(alloc, tag, &NamesOfEvent)),
+            _ => {
+                drop(fields);
+                Err(no_such_variant(alloc, tag, &NamesOfEvent))
+            }
         }
     }
 }

@@ -500,7 +500,10 @@ impl<'de> TaggedVariants<'de> for Message {
                 let x1 = read_message_text(alloc, fields)?;
                 Ok(Message::Text(x1))
             }
-            _ => Err(no_such_variant(alloc, tag, &NamesOfMessage)),
+            _ => {
+                drop(fields);
+                Err(no_such_variant(alloc, tag, &NamesOfMessage))
+            }
         }
     }
 }

@@ -209,7 +209,10 @@ impl<'de> Variants<'de> for Mark {
                 variant.unit_variant(alloc)?;
                 Ok(Mark::O)
             }
-            _ => Err(no_such_variant(alloc, tag, &NamesOfMark)),
+            _ => {
+                drop(variant);
+                Err(no_such_variant(alloc, tag, &NamesOfMark))
+            }
         }
     }
 }

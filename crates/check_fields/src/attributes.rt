@@ -281,7 +281,10 @@ impl<'de> Variants<'de> for Grade {
                 variant.unit_variant(alloc)?;
                 Ok(Grade::Other)
             }
-            _ => Err(no_such_variant(alloc, tag, &NamesOfGrade)),
+            _ => {
+                drop(variant);
+                Err(no_such_variant(alloc, tag, &NamesOfGrade))
+            }
         }
     }
 }
@@ -1339,7 +1342,10 @@ impl<'de> Variants<'de> for Way {
                 Ok(Way::Up)
             }
             Some(1) => Ok(Way::Down(variant.newtype_variant(alloc)?)),
-            _ => Err(no_such_variant(alloc, tag, &NamesOfWay)),
+            _ => {
+                drop(variant);
+                Err(no_such_variant(alloc, tag, &NamesOfWay))
+            }
         }
     }
 }
@@ -1578,7 +1584,10 @@ impl<'de> TaggedVariants<'de> for Request {
                 let _: OthersSkipped<FieldsOfRequestUnknown> = ReadFields::read(alloc, fields)?;
                 Ok(Request::Unknown)
             }
-            _ => Err(no_such_variant(alloc, tag, &NamesOfRequest)),
+            _ => {
+                drop(fields);
+                Err(no_such_variant(alloc, tag, &NamesOfRequest))
+            }
         }
     }
 }

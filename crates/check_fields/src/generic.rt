@@ -745,7 +745,10 @@ impl<'de, T: Deserialize<'de>> Variants<'de> for Event<T> {
                     Self,
                 >(alloc, variant, 2)
             }
-            _ => Err(no_such_variant(alloc, tag, &NamesOfEvent)),
+            _ => {
+                drop(variant);
+                Err(no_such_variant(alloc, tag, &NamesOfEvent))
+            }
         }
     }
 }
@@ -957,7 +960,10 @@ impl<'de, T: Deserialize<'de>> TaggedVariants<'de> for Notice<T> {
                 let _: OthersSkipped<FieldsOfNoticePing> = ReadFields::read(alloc, fields)?;
                 Ok(Notice::Ping)
             }
-            _ => Err(no_such_variant(alloc, tag, &NamesOfNotice)),
+            _ => {
+                drop(fields);
+                Err(no_such_variant(alloc, tag, &NamesOfNotice))
+            }
         }
     }
 }

@@ -327,7 +327,10 @@ impl<'de> TaggedVariants<'de> for Algorithm {
                 let x1 = read_algorithm_curve(alloc, fields)?;
                 Ok(Algorithm::Curve(x1))
             }
-            _ => Err(no_such_variant(alloc, tag, &NamesOfAlgorithm)),
+            _ => {
+                drop(fields);
+                Err(no_such_variant(alloc, tag, &NamesOfAlgorithm))
+            }
         }
     }
 }

@@ -409,7 +409,10 @@ where
                 let (x1, x2) = read_expr_call(levels, alloc, fields)?;
                 Ok(Expr::Call { name: x1, with: x2 })
             }
-            _ => Err(no_such_variant(alloc, tag, &NamesOfExpr)),
+            _ => {
+                drop(variant);
+                Err(no_such_variant(alloc, tag, &NamesOfExpr))
+            }
         }
     }
 }

@@ -288,7 +288,10 @@ impl<'de> Variants<'de> for Deeper {
                 Ok(Deeper::A)
             }
             Some(1) => Ok(Deeper::B(variant.newtype_variant(alloc)?)),
-            _ => Err(no_such_variant(alloc, tag, &NamesOfDeeper)),
+            _ => {
+                drop(variant);
+                Err(no_such_variant(alloc, tag, &NamesOfDeeper))
+            }
         }
     }
 }
@@ -2336,7 +2339,10 @@ impl<'de> TaggedVariants<'de> for AdjacentMixed4 {
                 )?;
                 Ok(make_adjacent_mixed4_v3(f0, f1, f2))
             }
-            _ => Err(no_such_variant(alloc, tag, &NamesOfAdjacentMixed4)),
+            _ => {
+                drop(fields);
+                Err(no_such_variant(alloc, tag, &NamesOfAdjacentMixed4))
+            }
         }
     }
 }
@@ -2967,7 +2973,10 @@ impl<'de> Variants<'de> for SkippedInVariant2 {
                 Ok(SkippedInVariant2::A { f0, f1 })
             }
             Some(1) => Ok(SkippedInVariant2::B(variant.newtype_variant(alloc)?)),
-            _ => Err(no_such_variant(alloc, tag, &NamesOfSkippedInVariant2)),
+            _ => {
+                drop(variant);
+                Err(no_such_variant(alloc, tag, &NamesOfSkippedInVariant2))
+            }
         }
     }
 }
@@ -3287,7 +3296,10 @@ impl<'de> TaggedVariants<'de> for SkippedBesideTag2 {
                 let _: OthersSkipped<FieldsOfSkippedBesideTag2B> = ReadFields::read(alloc, fields)?;
                 Ok(SkippedBesideTag2::B)
             }
-            _ => Err(no_such_variant(alloc, tag, &NamesOfSkippedBesideTag2)),
+            _ => {
+                drop(fields);
+                Err(no_such_variant(alloc, tag, &NamesOfSkippedBesideTag2))
+            }
         }
     }
 }
@@ -3606,7 +3618,10 @@ impl<'de> Variants<'de> for Level {
                 Ok(Level::Low)
             }
             Some(1) => Ok(Level::High(variant.newtype_variant(alloc)?)),
-            _ => Err(no_such_variant(alloc, tag, &NamesOfLevel)),
+            _ => {
+                drop(variant);
+                Err(no_such_variant(alloc, tag, &NamesOfLevel))
+            }
         }
     }
 }
@@ -4473,7 +4488,10 @@ impl<'de> Variants<'de> for NamesOfVariants40 {
                 )?;
                 Ok(make_names_of_variants40_daabcdefghijklmnopqrstuvwxyzabcdefghijkl(x, y, z))
             }
-            _ => Err(no_such_variant(alloc, tag, &NamesOfNamesOfVariants40)),
+            _ => {
+                drop(variant);
+                Err(no_such_variant(alloc, tag, &NamesOfNamesOfVariants40))
+            }
         }
     }
 }
@@ -4823,7 +4841,10 @@ impl<'de> TaggedVariants<'de> for NameOfTag20 {
                 let (f0, f1, f2) = read_name_of_tag20_b(alloc, fields)?;
                 Ok(make_name_of_tag20_b(f0, f1, f2))
             }
-            _ => Err(no_such_variant(alloc, tag, &NamesOfNameOfTag20)),
+            _ => {
+                drop(fields);
+                Err(no_such_variant(alloc, tag, &NamesOfNameOfTag20))
+            }
         }
     }
 }
@@ -5171,7 +5192,10 @@ impl<'de> Variants<'de> for WordInVariantRecord {
                 Ok(make_word_in_variant_record_a(record_field, other))
             }
             Some(1) => Ok(WordInVariantRecord::B(variant.newtype_variant(alloc)?)),
-            _ => Err(no_such_variant(alloc, tag, &NamesOfWordInVariantRecord)),
+            _ => {
+                drop(variant);
+                Err(no_such_variant(alloc, tag, &NamesOfWordInVariantRecord))
+            }
         }
     }
 }

@@ -390,7 +390,10 @@ impl<'de> Variants<'de> for Step {
                 let (with, place) = read_step_left(alloc, fields)?;
                 Ok(Step::Left { with, place })
             }
-            _ => Err(no_such_variant(alloc, tag, &NamesOfStep)),
+            _ => {
+                drop(variant);
+                Err(no_such_variant(alloc, tag, &NamesOfStep))
+            }
         }
     }
 }
