@@ -232,5 +232,7 @@ pub fn write_enum(
             Err(error) => write_told(out, flags, from, name, error.kind(), inner.as_ref()),
             Ok(()) => out.fail(Failure::NoRow),
         }
+        drop(inner);
+        drop(refusal);
     }
 }

@@ -21,14 +21,12 @@ use std::rc::Rc;
 /// The value of a type, as it comes back.
 pub fn round_trip(out: &mut Answer, pieces: &mut Pieces<'_>) {
     let flags = read_flags(pieces);
-    let typ = take_word(pieces);
-    let alloc = out.alloc();
-    match typ {
-        "Point" => write_point(out, sent_back(alloc, &read_point(pieces), flags)),
-        "Shape" => write_shape(out, sent_back(alloc, &read_shape(pieces), flags)),
+    match take_word(pieces) {
+        "Point" => write_point_back(out, pieces, flags),
+        "Shape" => write_shape_back(out, pieces, flags),
         "BTreeMap<char, bool>" => write_map_as::<char, bool>(out, pieces, flags),
         "BTreeMap<u8, u8>" => write_map_as::<u8, u8>(out, pieces, flags),
-        _ => with_type!(typ, write_as(out, pieces, flags), [
+        typ => with_type!(typ, write_as(out, pieces, flags), [
             (), bool, i8, u8, i16, u16, i32, u32, i64, u64, i128, u128, char, String, Option<()>,
             Option<String>, Vec<bool>, Vec<i16>, (bool,), (u8,), (bool, bool), (bool, usize),
             (bool, char, String), (String, char, bool, Number), (Vec<Option<u8>>, isize),
@@ -36,6 +34,16 @@ pub fn round_trip(out: &mut Answer, pieces: &mut Pieces<'_>) {
             (BTreeSet<char>, HashMap<PathBuf, VecDeque<u8>>, Rc<BoxedStr>),
         ], out.fail(Failure::NoRow)),
     }
+}
+
+/// Adds a point as it comes back.
+fn write_point_back(out: &mut Answer, pieces: &mut Pieces<'_>, flags: Flags) {
+    write_point(out, sent_back(out.alloc(), &read_point(pieces), flags));
+}
+
+/// Adds a shape as it comes back.
+fn write_shape_back(out: &mut Answer, pieces: &mut Pieces<'_>, flags: Flags) {
+    write_shape(out, sent_back(out.alloc(), &read_shape(pieces), flags));
 }
 
 /// What comes back of a value, by its tree and then by `round_trip`. It is equal to the value, by

@@ -150,13 +150,15 @@ fn write_sent_as<'de, 'n: 'de, T: Deserialize<'de> + Serialize>(
 /// The calls of what a tree holds, as the named type.
 fn write_sent_held(out: &mut Answer, named: &str, tree: Value<'_>) {
     match (named, tree) {
-        ("tuple", Value::Tuple(items)) => write_sent_tuple(out, items),
         ("BTreeMap", Value::Map(pairs)) => write_sent_map(out, pairs),
-        (_, value) => write_sent_part(out, named, &value),
+        (_, value) => {
+            write_sent_part(out, named, &value);
+            drop(value);
+        }
     }
 }
 
-/// Of what a tree holds, but for a tuple or a map.
+/// Of what a tree holds, but for a map.
 fn write_sent_part(out: &mut Answer, named: &str, value: &Value<'_>) {
     match (named, value) {
         ("unit", Value::Unit) => write_sent(out, &()),
@@ -169,6 +171,7 @@ fn write_sent_part(out: &mut Answer, named: &str, value: &Value<'_>) {
         ("Box", Value::Struct(node)) => write_sent(out, node),
         ("Box", Value::Enum(node)) => write_sent(out, node),
         ("Vec", Value::Seq(items)) => write_sent(out, items),
+        ("tuple", Value::Tuple(items)) => write_sent_tuple(out, items.as_slice()),
         _ => out.fail(Failure::NoRow),
     }
 }
@@ -185,20 +188,13 @@ fn write_sent_number(out: &mut Answer, named: &str, number: Number) {
 }
 
 /// Of one to four trees, as a tuple.
-fn write_sent_tuple(out: &mut Answer, items: Vec<Value<'_>>) {
-    let mut items = items.into_iter();
-    let Some(first) = items.next() else {
-        return out.fail(Failure::NoRow);
-    };
-    let Some(second) = items.next() else {
-        return write_sent(out, &(first,));
-    };
-    let Some(third) = items.next() else {
-        return write_sent(out, &(first, second));
-    };
-    match items.next() {
-        None => write_sent(out, &(first, second, third)),
-        Some(fourth) => write_sent(out, &(first, second, third, fourth)),
+fn write_sent_tuple(out: &mut Answer, items: &[Value<'_>]) {
+    match items {
+        [first] => write_sent(out, &(first,)),
+        [first, second] => write_sent(out, &(first, second)),
+        [first, second, third] => write_sent(out, &(first, second, third)),
+        [first, second, third, fourth] => write_sent(out, &(first, second, third, fourth)),
+        _ => out.fail(Failure::NoRow),
     }
 }
 
