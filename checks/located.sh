@@ -1,12 +1,12 @@
 #!/usr/bin/env bash
-# checks/located.sh [--write]: compares the paths at which the cases of crates/check_located/src/tests/located.rt are refused,
-# and those that Serde's derives and serde_path_to_error give, with the table checks/located/paths.tsv, or writes them there. It
-# stands outside the gate, proves and runs nothing of ours (the tests do), and takes half a minute. It needs cargo, python3 and
+# checks/located.sh [--write]: compares the paths at which rows of crates/check_typed/stdin are refused, and those that Serde's
+# derives and serde_path_to_error give, with the table checks/located/paths.tsv, or writes them there. It stands outside the
+# gate, proves and runs nothing of ours (the gate runs the rows), and takes half a minute. It needs cargo, python3, rsync and
 # Debian's librust-serde-dev, librust-serde-derive-dev, librust-serde-json-dev and librust-serde-path-to-error-dev.
 set -euo pipefail
 top=$(cd "$(dirname "$0")/.." && pwd)
 parts=$top/checks/located
-cases=$top/crates/check_located/src/tests/located.rt
+cases=$top/crates/check_typed/stdin
 room=$(mktemp -d)
 trap 'rm -rf "$room"' EXIT
 

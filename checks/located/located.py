@@ -1,20 +1,18 @@
-"""Takes the cases out of crates/check_located/src/tests/located.rt, and compares their paths with Serde's.
+"""Takes the cases out of crates/check_typed/stdin, and compares their paths with Serde's.
 
-  located.py cases CASES.rt                  prints each case as a line: the type, a tab, JSON
-  located.py table CASES.rt SERDE VERSION    prints the table, with Serde's path of each case out of the file SERDE
+  located.py cases ROWS                    prints each case as a line: the type, a tab, JSON
+  located.py table ROWS SERDE VERSION      prints the table, with Serde's path of each case out of the file SERDE
+
+A case is a row that is refused: a row `with` below the depot, or a row `read` of a type that beside/ reads.
 """
 import json
 import re
 import sys
+from itertools import groupby
 from pathlib import Path
 
-TEXT = r'"((?:[^"\\]|\\(?:.|\n))*)"'
-DOCUMENT = re.compile(rf"const DEPOT: &str = {TEXT};")
-CASE = re.compile(rf"\(\s*{TEXT},\s*{TEXT},\s*{TEXT},\s*{TEXT},?\s*\)")
-PART = re.compile(r"(?P<what>(?:/// .*\n)+)const [A-Z]+: \[Case; (?P<count>\d+)\] = \[\n(?P<cases>(?:.|\n)*?)\n\];")
-WHOLE = re.compile(
-    rf"check::<(?P<type>.+)>\(\s*&rt,\s*alloc,\s*value_of\(alloc, {TEXT}\)\?,\s*{TEXT},\s*text,?\s*\)"
-)
+REFUSED = re.compile(r'refused at "(?P<path>.*?)": ')
+OTHER_TYPES = ("Change", "Depot", "Grade", "Setting", "Task", "u8", "(u8, bool)", "Vec<Option<Box<u8>>>")
 
 HEAD = """\
 # Paths of errors, here and in Serde: what checks/located.sh compares, or with --write stores. A line has four parts, with
@@ -25,12 +23,6 @@ HEAD = """\
 # an enum that a field tells. It has `?` for a number that is a key, and leads to an unknown field, a refused key and an
 # unknown tag, not to what contains them.
 """
-
-
-def unescaped(text: str) -> str:
-    """What a literal says: of the escapes it has those of JSON, and the one that joins lines."""
-    joined = re.sub(r"\\\n\s*", "", text)
-    return json.loads(f'"{joined}"')
 
 
 def tokens(text: str):
@@ -60,13 +52,43 @@ def written(words) -> str:
     return " ".join(parts)
 
 
-def cases_of(source: str):
-    """Each part of the cases: what it says of them, and of each the token, the others, the path and the text."""
-    for part in PART.finditer(source):
-        cases = [tuple(map(unescaped, case)) for case in CASE.findall(part["cases"])]
-        if len(cases) != int(part["count"]):
-            sys.exit(f"located: of {part['count']} cases {len(cases)} were found, before {cases[-1]}")
-        yield " ".join(line.removeprefix("/// ") for line in part["what"].splitlines()), cases
+def rows_of(source: str):
+    """Each row: the comment above it, and its four columns."""
+    what = ""
+    for line in source.splitlines():
+        if line.startswith("#"):
+            what = line.removeprefix("# ")
+        elif line:
+            yield what, line.split("\t")
+
+
+def path_of(answer: str):
+    """The path at which this answer says that a value was refused, if it says so."""
+    refused = REFUSED.match(answer)
+    return refused and refused["path"]
+
+
+def depot_of(source: str):
+    return tokens(next(text for _, (operation, typ, text, _) in rows_of(source) if (operation, typ) == ("read", "Depot")))
+
+
+def changes_of(source: str):
+    """Each part of the changes to the depot: what is said of them, and of each the token, the others and the path."""
+    base, changes = None, []
+    for what, (operation, second, others, wanted) in rows_of(source):
+        if operation != "with":
+            base = second
+        elif base == "Depot" and path_of(wanted) is not None:
+            changes.append((what, (second, others, path_of(wanted))))
+    for what, part in groupby(changes, lambda change: change[0]):
+        yield what, [change for _, change in part]
+
+
+def others_of(source: str):
+    """The type, the text and the path of each other case."""
+    for _, (operation, typ, text, wanted) in rows_of(source):
+        if operation == "read" and typ in OTHER_TYPES and path_of(wanted) is not None:
+            yield typ, text, path_of(wanted)
 
 
 def changed(document, token: str, others: str):
@@ -77,13 +99,13 @@ def changed(document, token: str, others: str):
 
 
 def lines_of(source: str):
-    document = tokens(unescaped(DOCUMENT.search(source)[1]))
-    yield f"Depot\t{written(document)}"
-    for _, cases in cases_of(source):
-        for token, others, _, _ in cases:
-            yield f"Depot\t{written(changed(document, token, others))}"
-    for match in WHOLE.finditer(source):
-        yield f"{match['type']}\t{written(tokens(unescaped(match[2])))}"
+    depot = depot_of(source)
+    yield f"Depot\t{written(depot)}"
+    for _, changes in changes_of(source):
+        for token, others, _ in changes:
+            yield f"Depot\t{written(changed(depot, token, others))}"
+    for typ, text, _ in others_of(source):
+        yield f"{typ}\t{written(tokens(text))}"
 
 
 def table(source: str, serde, version: str):
@@ -91,15 +113,14 @@ def table(source: str, serde, version: str):
     if next(paths) != "none":
         sys.exit("located: Serde refuses the depot")
     yield HEAD.format(version=version)
-    for what, cases in cases_of(source):
+    for what, changes in changes_of(source):
         yield f"# {what}"
-        for token, others, path, _ in cases:
+        for token, others, path in changes:
             yield "\t".join((token, others, path, told(path, next(paths))))
         yield ""
     yield "# Other types"
-    for match in WHOLE.finditer(source):
-        value, path = unescaped(match[2]), unescaped(match[3])
-        yield "\t".join((match["type"], value, path, told(path, next(paths))))
+    for typ, text, path in others_of(source):
+        yield "\t".join((typ, text, path, told(path, next(paths))))
 
 
 def told(path: str, serde: str) -> str:

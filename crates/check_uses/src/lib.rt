@@ -1,5 +1,5 @@
-//! Tests of CBOR, of records and of merging that need more than a row, with expected values written
-//! by hand.
+//! Tests of CBOR, of records, of merging and of types that `tools/derive` wrote that need more than a
+//! row, with expected values written by hand.
 #![tactic(auto)]
 
 #[cfg(test)]

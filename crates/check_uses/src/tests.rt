@@ -2,6 +2,9 @@
 
 mod answers;
 mod cbor;
-mod merges;
+mod located;
+mod nested;
+mod spread;
 mod uses;
+mod values;
 mod written;

@@ -11,7 +11,6 @@ use content_cbor::{
 use serde_content::{Error, Result as Answer, Value};
 use std::alloc::Global;
 use std::collections::BTreeMap;
-use std::net::{IpAddr, Ipv4Addr, Ipv6Addr};
 use std::test::Fail;
 
 /// A map of a number and a list, as lines of calls.
@@ -132,28 +131,6 @@ fn typed_data_come_back(rt: HostRuntime) -> Result<(), Fail> {
     let bytes = to_bytes(alloc, &(Some(7u8), -1i64))?;
     let back: (Option<u8>, i64) = read_back(alloc, &bytes, 2)?;
     assert!(rt; back == (Some(7), -1));
-    Ok(())
-}
-
-#[test]
-fn arrays_come_back(rt: HostRuntime) -> Result<(), Fail> {
-    let alloc = rt.alloc();
-    let bytes = to_bytes(alloc, &[[Some(1u8), None], [None, Some(2)]])?;
-    let back: [[Option<u8>; 2]; 2] = read_back(alloc, &bytes, 3)?;
-    assert!(rt; back == [[Some(1), None], [None, Some(2)]]);
-    Ok(())
-}
-
-#[test]
-fn addresses_come_back(rt: HostRuntime) -> Result<(), Fail> {
-    let alloc = rt.alloc();
-    let both = (
-        Some(IpAddr::V4(Ipv4Addr::LOCALHOST)),
-        IpAddr::V6(Ipv6Addr::LOCALHOST),
-    );
-    let bytes = to_bytes(alloc, &both)?;
-    let back: (Option<IpAddr>, IpAddr) = read_back(alloc, &bytes, 4)?;
-    assert!(rt; back == both);
     Ok(())
 }
 

@@ -1,9 +1,9 @@
 //! Flattened values that are not inlined, as `tools/derive` wrote how they are sent. The texts are
 //! what Serde's derive sends, printed here.
 
+use super::answers::prints;
 use check_fields::spread::{Page, Record, Seen, Seer, Sight, Sky};
-use check_written::shown;
-use serde_content::Result as Answer;
+use serde_content::{Result as Answer, Serializer};
 use std::alloc::Global;
 use std::collections::{BTreeMap, HashMap};
 use std::process::Abort;
@@ -30,8 +30,10 @@ fn page(alloc: Global, seen: Option<Seen>, sight: Sight, seer: Seer) -> Answer<P
 
 /// A page must be sent as what prints so.
 fn check(rt: &impl Abort, alloc: Global, sent: &Page, wanted: &str) -> Result<(), Fail> {
-    let text = shown(alloc, sent)?;
-    assert!(rt; text.as_str() == wanted, "{text}, not {wanted}");
+    let value = Serializer::new().serialize(alloc, sent)?;
+    let is_wanted = prints(alloc, &value.display(), wanted);
+    drop(value);
+    assert!(rt; is_wanted, "not {wanted}");
     Ok(())
 }
 
