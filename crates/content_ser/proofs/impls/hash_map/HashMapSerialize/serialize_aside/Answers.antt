@@ -1,6 +1,6 @@
 use Rattle.std.proofs.Common.{◌≡◌, [], length, Some, rules}
 use Rattle.content_ser.specs.Calls.Event as event
-use Rattle.content_ser.proofs.Sending.{takes_only, takes_then, takes_err, sends_then, sends_err}
+use Rattle.content_ser.proofs.Sending.{takes_only, sends_then, sends_err}
 use Rattle.content_ser.proofs.Sending.{at_exit_aside, told_then, told_err}
 use Rattle.content_ser.proofs.impls.hash_map.HashMapSerialize.serialize_aside.Goals as goal
 

@@ -1,7 +1,7 @@
 use Rattle.std.proofs.Common.{◌≡◌, [], refl, drop, Some, arith}
 use Rattle.std.proofs.lemmas.List.{drop_all}
 use Rattle.content_ser.specs.Calls.Event as event
-use Rattle.content_ser.proofs.Sending.{takes_only, takes_then, takes_err, sends_then, sends_err}
+use Rattle.content_ser.proofs.Sending.{takes_only, sends_then, sends_err}
 use Rattle.content_ser.proofs.Sending.{at_exit_aside, told_then, told_err}
 use Rattle.content_ser.proofs.Lists.{drop_here}
 use Rattle.content_ser.proofs.impls.slice.RefSliceSerialize.serialize_aside.Goals as goal
