@@ -3,32 +3,42 @@
 use crate::answer::{refusal, shown};
 use check_derive::places::Depot;
 use check_fields::left_over::{Algorithm, Chat, Key, Lock, Package, Post};
+use serde_content::de::Deserialize;
 use serde_content::{Deserializer, Result};
 use std::alloc::Global;
 
-/// Of a depot its name.
-pub fn depot<'de, 'n: 'de>(alloc: Global, from: Deserializer<'de, 'n>) -> Result<String> {
-    let read = from.deserialize::<Depot>(alloc);
+/// A type of which parts are told.
+pub trait Parts: Drop {
+    /// The parts, as they print when they are sent.
+    fn parts(&self, alloc: Global) -> Result<String>;
+}
+
+/// The answer about a type of which parts are told.
+pub fn tell<'de, 'n: 'de, T: Parts + Deserialize<'de>>(
+    alloc: Global,
+    from: Deserializer<'de, 'n>,
+) -> Result<String> {
+    let read = from.deserialize::<T>(alloc);
     let text = match &read {
-        Ok(depot) => shown(alloc, &depot.name),
+        Ok(value) => value.parts(alloc),
         Err(error) => refusal(alloc, error),
     };
     drop(read);
     text
 }
 
-/// Of a package its name, the other keys and the year.
-pub fn package<'de, 'n: 'de>(alloc: Global, from: Deserializer<'de, 'n>) -> Result<String> {
-    let read = from.deserialize::<Package>(alloc);
-    let text = match &read {
-        Ok(package) => shown(
-            alloc,
-            &(&package.name, &package.other_keys, package.first_year),
-        ),
-        Err(error) => refusal(alloc, error),
-    };
-    drop(read);
-    text
+/// The name.
+impl Parts for Depot {
+    fn parts(&self, alloc: Global) -> Result<String> {
+        shown(alloc, &self.name)
+    }
+}
+
+/// The name, the other keys and the year.
+impl Parts for Package {
+    fn parts(&self, alloc: Global) -> Result<String> {
+        shown(alloc, &(&self.name, &self.other_keys, self.first_year))
+    }
 }
 
 /// How many bits a key has, if it isn't a curve.
@@ -39,42 +49,30 @@ fn bits(algorithm: &Algorithm) -> Option<u32> {
     }
 }
 
-/// Of a key its number, its usage and its bits.
-pub fn key<'de, 'n: 'de>(alloc: Global, from: Deserializer<'de, 'n>) -> Result<String> {
-    let read = from.deserialize::<Key>(alloc);
-    let text = match &read {
-        Ok(key) => shown(
+/// The number, the usage and the bits.
+impl Parts for Key {
+    fn parts(&self, alloc: Global) -> Result<String> {
+        shown(
             alloc,
-            &(key.common.id, &key.common.usage, bits(&key.algorithm)),
-        ),
-        Err(error) => refusal(alloc, error),
-    };
-    drop(read);
-    text
+            &(self.common.id, &self.common.usage, bits(&self.algorithm)),
+        )
+    }
 }
 
-/// Of a lock its number, and the bits of its algorithm, if it has one.
-pub fn lock<'de, 'n: 'de>(alloc: Global, from: Deserializer<'de, 'n>) -> Result<String> {
-    let read = from.deserialize::<Lock>(alloc);
-    let text = match &read {
-        Ok(lock) => shown(alloc, &(lock.id, lock.algorithm.as_ref().map(bits))),
-        Err(error) => refusal(alloc, error),
-    };
-    drop(read);
-    text
+/// The number, and the bits of the algorithm, if there is one.
+impl Parts for Lock {
+    fn parts(&self, alloc: Global) -> Result<String> {
+        shown(alloc, &(self.id, self.algorithm.as_ref().map(bits)))
+    }
 }
 
-/// Of a post its number, and the variant of its chat with what that holds.
-pub fn post<'de, 'n: 'de>(alloc: Global, from: Deserializer<'de, 'n>) -> Result<String> {
-    let read = from.deserialize::<Post>(alloc);
-    let text = match &read {
-        Ok(post) => match &post.chat {
-            Chat::Public { title } => shown(alloc, &(post.id, "Public", title)),
-            Chat::Private(curve) => shown(alloc, &(post.id, "Private", &curve.crv)),
-            Chat::Other(entries) => shown(alloc, &(post.id, "Other", entries)),
-        },
-        Err(error) => refusal(alloc, error),
-    };
-    drop(read);
-    text
+/// The number, and the variant of the chat with what that holds.
+impl Parts for Post {
+    fn parts(&self, alloc: Global) -> Result<String> {
+        match &self.chat {
+            Chat::Public { title } => shown(alloc, &(self.id, "Public", title)),
+            Chat::Private(curve) => shown(alloc, &(self.id, "Private", &curve.crv)),
+            Chat::Other(entries) => shown(alloc, &(self.id, "Other", entries)),
+        }
+    }
 }

@@ -1,13 +1,15 @@
 //! The types of rows, by their names.
 
 use crate::answer::{come_back, no_row, send};
-use crate::parts::{depot, key, lock, package, post};
+use crate::parts::tell;
 use check_derive::choices::{Color, Command, Setting};
 use check_derive::inlined::{Change, Line};
+use check_derive::places::Depot;
 use check_derive::sorts::{Code, Ledger, Message, Stop};
 use check_derive::types::{Order, Step};
 use check_fields::attributes::{Grade, Task};
 use check_fields::generic::{Event, Hits, Notice, Row};
+use check_fields::left_over::{Key, Lock, Package, Post};
 use check_fields::nested::Expr;
 use serde_content::samples::{Point, Shape};
 use serde_content::{Deserializer, Result};
@@ -49,13 +51,8 @@ fn answer_without<'de, 'n: 'de>(
 ) -> Result<String> {
     with_type!(typ, send(alloc, operation, from), [
         Event<u8>, Expr, Grade, Hits<u8>, Notice<u64>, Row<i16>, Task, Vec<Shape>,
-    ], match (operation, typ) {
-        ("back" | "cbor", _) => no_row(from),
-        (_, "Depot") => depot(alloc, from),
-        (_, "Key") => key(alloc, from),
-        (_, "Lock") => lock(alloc, from),
-        (_, "Package") => package(alloc, from),
-        (_, "Post") => post(alloc, from),
-        _ => no_row(from),
+    ], match operation {
+        "back" | "cbor" => no_row(from),
+        _ => with_type!(typ, tell(alloc, from), [Depot, Key, Lock, Package, Post], no_row(from)),
     })
 }
