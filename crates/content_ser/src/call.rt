@@ -121,7 +121,7 @@ impl<'a> Call<'a> {
         }
     }
 
-    /// The same call, but that a text or bytes are empty here.
+    /// The same call, with an empty text or empty bytes in the place of its own.
     #[inline(always)]
     fn bare<'b>(&self) -> Call<'b>
         ensures { text_part self.now ≡ None → result ≡ self.now }

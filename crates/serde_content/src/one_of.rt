@@ -68,7 +68,7 @@ pub fn first_of_two<'de, 'n: 'de, A: Deserialize<'de>, B: Deserialize<'de>>(
     answer
 }
 
-/// The same of what is lent.
+/// The same, from a borrowed deserializer.
 fn two_of<'de, 'n: 'de, A: Deserialize<'de>, B: Deserialize<'de>>(
     alloc: Global,
     from: &Deserializer<'de, 'n>,
@@ -112,7 +112,7 @@ pub fn first_of_three<'de, 'n: 'de, A: Deserialize<'de>, B: Deserialize<'de>, C:
     answer
 }
 
-/// The same of what is lent.
+/// The same, from a borrowed deserializer.
 fn three_of<'de, 'n: 'de, A: Deserialize<'de>, B: Deserialize<'de>, C: Deserialize<'de>>(
     alloc: Global,
     from: &Deserializer<'de, 'n>,
@@ -162,7 +162,7 @@ pub fn first_of_four<
     answer
 }
 
-/// The same of what is lent.
+/// The same, from a borrowed deserializer.
 fn four_of<
     'de,
     'n: 'de,
