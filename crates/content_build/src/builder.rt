@@ -70,7 +70,7 @@ impl<'v> Builder<'v> {
     /// assert!(rt; builder.serialize_element().is_err());
     /// ```
     pub fn with_limit(alloc: Global, human_readable: bool, limit: usize) -> Builder<'v>
-        requires { 1 ≤ limit }
+        requires positive { 1 ≤ limit }
         ensures value { seen_of result ≡ record {
           state = fresh_within (Some limit);
           failed = false;

@@ -93,7 +93,7 @@ pub fn from_calls_within<'v>(
     calls: &[Call<'_>],
     limit: usize,
 ) -> Result<Value<'v>, CallsError>
-    requires { 1 ≤ limit }
+    requires positive { 1 ≤ limit }
     // a tree that the calls spell within the limit, or a refusal at the right place for the right
     // cause
     ensures answer { IsAnswerWithin (Some limit) (events_of calls.now) result }

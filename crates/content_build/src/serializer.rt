@@ -59,7 +59,7 @@ impl Serializer {
     /// assert!(rt; Serializer::new().depth_limit(1).serialize(alloc, &Some(7u8)).is_err());
     /// ```
     pub fn depth_limit(self, limit: usize) -> Serializer
-        requires { 1 ≤ limit }
+        requires positive { 1 ≤ limit }
         ensures readable { is_readable result ≡ is_readable self }
         ensures limit { limit_of result ≡ Some limit }
     {

@@ -7,10 +7,10 @@ use Rattle.std.proofs.lemmas.Bool.Decides.{eqb_tells}
 use Rattle.std.proofs.lemmas.Bool.{cases_lt, lt-ltb, le-ltb}
 use Rattle.content_tree.specs.Values.Text.{static_name}
 use Rattle.content_tree.specs.Values.Tree as tree
-use Rattle.content_tree.specs.Values.Tree.{Tree, TreeData, Trees, Pairs, Fields}
+use Rattle.content_tree.specs.Values.Tree.{Tree, TreeData, Trees, Pairs, Fields, count}
 use Rattle.content_tree.specs.Values.Value.{trees_of, pairs_of}
 use Rattle.content_tree.specs.Values.Ranges.{number_value}
-use Rattle.content_ser.specs.Sending.TreeScript.{count, count_pairs, count_fields}
+use Rattle.content_ser.specs.Sending.TreeScript.{count_pairs, count_fields}
 use Rattle.content_cbor.specs.Heads.{first_byte, head}
 use Rattle.content_cbor.specs.Item.{boolean_item, bytes_item, null_item, number_item, shortest, without_zeros, item, each_item, pair_items, field_items, data_item, variant_item, text_item}
 use Rattle.content_cbor.specs.Codes as size

@@ -1,9 +1,9 @@
 -- Forms are their own, and have the items of their trees.
 use Rattle.std.proofs.Common.{◌≡◌, ℕ, suc, List, ◌++◌, refl, sym, ap, ◌∙◌, append_assoc, append-nil}
 use Rattle.content_tree.specs.Values.Tree as tree
-use Rattle.content_tree.specs.Values.Tree.{Tree, TreeData, Trees, Pairs, Fields}
+use Rattle.content_tree.specs.Values.Tree.{Tree, TreeData, Trees, Pairs, Fields, count}
 use Rattle.content_tree.specs.Values.Ranges.{number_value}
-use Rattle.content_ser.specs.Sending.TreeScript.{count, count_pairs, count_fields}
+use Rattle.content_ser.specs.Sending.TreeScript.{count_pairs, count_fields}
 use Rattle.content_cbor.specs.Codes.{number_of}
 use Rattle.content_cbor.specs.Form.{form, each_form, pair_forms, field_forms, data_form, variant_form, text_form, entry_form}
 use Rattle.content_cbor.specs.Heads.{head}

@@ -4,14 +4,14 @@ use Rattle.std.specs.Str.{is_utf8}
 use Rattle.std.proofs.lemmas.Str.{IsUtf8-from_is_utf8}
 use Rattle.std.proofs.lemmas.Bool.{and_parts, ltb-true}
 use Rattle.content_tree.specs.Values.Tree as tree
-use Rattle.content_tree.specs.Values.Tree.{Tree, TreeData, Trees, Pairs, Fields}
+use Rattle.content_tree.specs.Values.Tree.{Tree, TreeData, Trees, Pairs, Fields, count}
 use Rattle.content_ser.specs.Calls.Event.{Event}
 use Rattle.content_ser.specs.Calls.Head.{Head, of_struct, of_variant, headed}
 use Rattle.content_ser.specs.Grammar.Token as token
 use Rattle.content_ser.specs.Grammar.Token.{Token, tokens, token_of, Wrap, wrapped, Series, series_tree, record_tree, ItemCall}
 use Rattle.content_ser.specs.Grammar.Spells.{Spells, SpellsElements, SpellsMapItems, SpellsFields, MapItem, pairs, value_among, spells_leaf, spells_wrap, spells_series, spells_map, spells_record, elements_end, elements_more, items_end, items_key, items_value, items_entry, fields_end, fields_more}
 use Rattle.content_ser.specs.Serializers.Step.{run}
-use Rattle.content_ser.specs.Sending.TreeScript.{count, count_pairs, count_fields}
+use Rattle.content_ser.specs.Sending.TreeScript.{count_pairs, count_fields}
 use Rattle.content_cbor.specs.Heads.{head}
 use Rattle.content_cbor.specs.Item.{item, each_item, pair_items, field_items, text_item}
 use Rattle.content_ser.specs.Scripts.Script.{Script, IsLawful, calls_of, stop_of}

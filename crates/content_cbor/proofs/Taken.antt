@@ -3,7 +3,7 @@ use Rattle.std.proofs.Common.{◌≡◌, ℕ, suc, ◌^◌, Bool, true, false, L
 use Rattle.std.specs.Prelude.{encode_utf8}
 use Rattle.std.proofs.lemmas.Bool.{lt-ltb}
 use Rattle.content_tree.specs.Values.Tree as tree
-use Rattle.content_tree.specs.Values.Tree.{Tree, TreeData, Trees, Pairs, Fields}
+use Rattle.content_tree.specs.Values.Tree.{Tree, TreeData, Trees, Pairs, Fields, count}
 use Rattle.content_ser.specs.Calls.Event as event
 use Rattle.content_ser.specs.Calls.Event.{Event}
 use Rattle.content_ser.specs.Calls.Head.{Head, of_struct, of_variant, headed}
@@ -11,7 +11,7 @@ use Rattle.content_ser.specs.Grammar.Token as token
 use Rattle.content_ser.specs.Grammar.Token.{ItemCall, token_of}
 use Rattle.content_ser.specs.Laws.ScriptsInTurn.{no_stop_first, no_stop_second}
 use Rattle.content_ser.specs.Scripts.Script.{Script, done, stop_with, call_then, and_then, calls_of, stop_of}
-use Rattle.content_ser.specs.Sending.TreeScript.{count, count_fields, count_pairs, owned_key_text, script_of, script_of_data, script_of_each, script_of_fields, script_of_pairs}
+use Rattle.content_ser.specs.Sending.TreeScript.{count_fields, count_pairs, owned_key_text, script_of, script_of_data, script_of_each, script_of_fields, script_of_pairs}
 use Rattle.content_ser.specs.Serializers.Step.{run}
 use Rattle.serde_content.proofs.Scripts.{and_then-assoc}
 use Rattle.content_cbor.specs.Encoder.{Written, begun, begun_under, head_bytes, is_head, is_length, is_text, nothing, step, with_bytes, wrapping, writes, length_said}

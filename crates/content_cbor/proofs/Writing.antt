@@ -5,7 +5,8 @@ use Rattle.std.proofs.lemmas.List.{drop_all}
 use Rattle.content_tree.specs.Values.Value.{trees_view, pairs_view, fields_view}
 use Rattle.content_tree.specs.declared.cow.CowStr.{CowStr}
 use Rattle.content_tree.specs.declared.value.NamedValue.{NamedValue}
-use Rattle.content_ser.specs.Sending.TreeScript.{count, count_pairs, count_fields}
+use Rattle.content_tree.specs.Values.Tree.{count}
+use Rattle.content_ser.specs.Sending.TreeScript.{count_pairs, count_fields}
 
 -- at the end nothing is left
 pub ended : {A : Type 0} (f : List A → List ℕ) (xs : List A) (i : ℕ) (out whole : List ℕ) → f [] ≡ []

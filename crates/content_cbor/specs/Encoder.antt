@@ -159,11 +159,11 @@ pub record TakenInPlace (e : Encoding) (c : Event) : Type 0 where
   pub silent : writes_nothing c ≡ true
   pub in_place : IsSome (step e.written c)
 
--- with which error a call is refused; what was written stays, and where memory ran out more may follow it
+-- with which error a call is refused; what was written stays
 abbrev pub refuses : Refusal → Written → Error → Written → Type 0
 refuses after_failure old e new = (kind_of e ≡ Failed) × (new ≡ old)
 refuses out_of_place old e new = (kind_of e ≡ Misplaced) × (new ≡ old)
-refuses no_memory old e new = IsOutOfMemory e × StartsWith new.bytes old.bytes
+refuses no_memory old e new = IsOutOfMemory e × (new.bytes ≡ old.bytes)
 
 -- a call was written; or it is out of place, and nothing was; or an allocation failed, and a part may be written
 abbrev pub Wrote : Option Written → Written → Result Bool AllocError → Written → Type 0

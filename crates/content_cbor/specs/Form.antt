@@ -3,12 +3,12 @@ use Rattle.std.specs.Prelude.{◌≡◌, ℕ, suc, ◌^◌, ◌<◌, ◌≤◌, 
 use Rattle.std.specs.Str.{IsUtf8}
 use Rattle.content_tree.specs.Values.Text.{static_name}
 use Rattle.content_tree.specs.Values.Tree as tree
-use Rattle.content_tree.specs.Values.Tree.{Tree, TreeData, Trees, Pairs, Fields}
+use Rattle.content_tree.specs.Values.Tree.{Tree, TreeData, Trees, Pairs, Fields, count}
 use Rattle.content_tree.specs.Values.Ranges.{number_value, in_range}
 use Rattle.content_tree.specs.Values.Ranges as kind
 use Rattle.content_tree.specs.declared.number.Number.{Number}
 use Rattle.content_tree.specs.declared.number.Number.TheVariants as n
-use Rattle.content_ser.specs.Sending.TreeScript.{count, count_pairs, count_fields}
+use Rattle.content_ser.specs.Sending.TreeScript.{count_pairs, count_fields}
 use Rattle.content_cbor.specs.Codes.{Codes, number_of}
 
 -- a text that is borrowed

@@ -3,10 +3,10 @@ use Rattle.std.specs.Prelude.{ℕ, ◌^◌, ℤ, pos, negsuc, Bool, List, [], �
 use Rattle.std.specs.Prelude.{nat_lt, nat_eq, if◌then◌else◌, encode_utf8}
 use Rattle.std.specs.Int.{to_be_bytes, w128}
 use Rattle.content_tree.specs.Values.Tree as tree
-use Rattle.content_tree.specs.Values.Tree.{Tree, TreeData, Trees, Pairs, Fields}
+use Rattle.content_tree.specs.Values.Tree.{Tree, TreeData, Trees, Pairs, Fields, count}
 use Rattle.content_tree.specs.Values.Ranges.{number_value}
 use Rattle.content_cbor.specs.Heads.{head}
-use Rattle.content_ser.specs.Sending.TreeScript.{count, count_pairs, count_fields}
+use Rattle.content_ser.specs.Sending.TreeScript.{count_pairs, count_fields}
 use Rattle.content_cbor.specs.declared.heads.Major.TheVariants as major
 
 -- a list of bytes

@@ -1,8 +1,9 @@
 //! A serialiser that writes bytes.
 
 ghost use Rattle.std.specs.Prelude.{◌≡◌, ◌++◌, Ok, Some, None, true, false, length};
-ghost use Rattle.std.specs.Prelude.{IsOk, IsErr, if◌then◌else◌};
+ghost use Rattle.std.specs.Prelude.{IsOk, IsErr, if◌then◌else◌, take};
 ghost use Rattle.content_tree.specs.Errors.Kind.{kind_of};
+ghost use Rattle.content_tree.specs.declared.error.ErrorKind.TheVariants.{OutOfMemory};
 ghost use Rattle.content_tree.specs.Values.Tree as tree;
 ghost use Rattle.content_ser.specs.Calls.Call.{event_of};
 ghost use Rattle.content_ser.specs.Grammar.Token as token;
@@ -261,13 +262,14 @@ impl Encoder {
         }
     }
 
-    /// The bytes, moved out; after a refusal those that were written before, and where memory ran
-    /// out perhaps more after them. Of the calls of one whole tree, all taken, they are its data
-    /// item: the law [`whole_trees_are_encoded`](crate::laws::whole_trees_are_encoded) says so.
+    /// The bytes, moved out; after a refusal those that were written before. Of the calls of one
+    /// whole tree, all taken, they are its data item: the law
+    /// [`whole_trees_are_encoded`](crate::laws::whole_trees_are_encoded) says so.
     pub fn into_bytes(self) -> Vec<u8>
         ensures { result.items ≡ self.written.bytes }
     {
-        self.output.bytes
+        let Encoder { output, failed: _ } = self;
+        output.bytes
     }
 
     /// Marks it as failed, and answers an error of this cause. It is seldom called, so it isn't inlined.
@@ -281,6 +283,20 @@ impl Encoder {
         self.failed = true;
         *error = Error::from(cause);
         Err(Aside)
+    }
+
+    /// Takes back what a call wrote before memory ran out for it, and answers that error. So many
+    /// bytes were there before the call.
+    #[cold]
+    #[inline(never)]
+    fn take_back(&mut self, before: usize, error: &mut Error) -> Sent
+        ensures bytes { self.new.written.bytes ≡ take before self.old.written.bytes }
+        ensures failed { self.new.failed ≡ true }
+        ensures value { IsErr result }
+        ensures cause { kind_of error.new ≡ OutOfMemory }
+    {
+        self.output.bytes.truncate(before);
+        self.fail(ErrorKind::OutOfMemory, error)
     }
 }
 
@@ -320,10 +336,11 @@ impl Serializer for Encoder {
         if self.failed {
             return self.fail(ErrorKind::Failed, error);
         }
+        let before = self.output.bytes.len();
         match self.output.write(&call) {
             Ok(true) => Ok(()),
             Ok(false) => self.fail(ErrorKind::Misplaced, error),
-            Err(AllocError) => self.fail(ErrorKind::OutOfMemory, error),
+            Err(AllocError) => self.take_back(before, error),
         }
     }
 

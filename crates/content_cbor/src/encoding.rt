@@ -15,7 +15,8 @@ ghost use Rattle.content_cbor.specs.Form.{FieldsFit, IsLength, IsText};
 ghost use Rattle.content_cbor.specs.Heads.{head};
 ghost use Rattle.content_cbor.specs.Item.{item, text_item, data_item, each_item, pair_items};
 ghost use Rattle.content_cbor.specs.Item.{field_items};
-ghost use Rattle.content_ser.specs.Sending.TreeScript.{count, count_pairs, count_fields};
+ghost use Rattle.content_tree.specs.Values.Tree.{count};
+ghost use Rattle.content_ser.specs.Sending.TreeScript.{count_pairs, count_fields};
 
 use crate::encoder::Encoder;
 use crate::heads::{Major, write_head};

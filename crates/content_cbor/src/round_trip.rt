@@ -1,7 +1,8 @@
 //! Typed data that come back from CBOR.
 
-ghost use Rattle.std.specs.Prelude.{◌≡◌, true, false, IfOk, IfErr, IsErrAnd};
+ghost use Rattle.std.specs.Prelude.{◌≡◌, [], Some, true, false, IfOk, IfErr, IsErrAnd};
 ghost use Rattle.content_tree.specs.Errors.Kind.{IsOutOfMemory};
+ghost use Rattle.content_tree.specs.Errors.Where.{places};
 ghost use Rattle.content_tree.specs.Values.Tree.{Tree};
 ghost use Rattle.content_de.specs.Reads.Read.{Reads};
 ghost use Rattle.content_cbor.specs.Codes.{Codes};
@@ -67,6 +68,8 @@ pub fn read_back<'de, T: CborRoundTrip<'de>>(
         → Reads (T.refusal (as_read t)) (T.gives (as_read t)) result }
     ensures fault { ((t : Tree) → Codes depth_limit t bytes.now → ⊥)
         → IsErrAnd result (λ e. IsFaultOf depth_limit bytes.now e) }
+    ensures path { ((t : Tree) → Codes depth_limit t bytes.now → ⊥)
+        → IfErr result (λ e. places e ≡ Some []) }
 {
     from_bytes(alloc, bytes, depth_limit)
 }

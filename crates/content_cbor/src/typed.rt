@@ -1,6 +1,7 @@
 //! Typed data from bytes.
 
-ghost use Rattle.std.specs.Prelude.{IsErrAnd};
+ghost use Rattle.std.specs.Prelude.{◌≡◌, [], Some, IfErr, IsErrAnd};
+ghost use Rattle.content_tree.specs.Errors.Where.{places};
 ghost use Rattle.content_tree.specs.Values.Tree.{Tree};
 ghost use Rattle.content_de.specs.Reads.Read.{Reads};
 ghost use Rattle.content_cbor.specs.Codes.{Codes};
@@ -42,6 +43,8 @@ pub fn from_bytes<'de, T: Deserialize<'de>>(
         → Reads (T.refusal (as_read t)) (T.gives (as_read t)) result }
     ensures fault { ((t : Tree) → Codes depth_limit t bytes.now → ⊥)
         → IsErrAnd result (λ e. IsFaultOf depth_limit bytes.now e) }
+    ensures path { ((t : Tree) → Codes depth_limit t bytes.now → ⊥)
+        → IfErr result (λ e. places e ≡ Some []) }
 {
     match decode(alloc, bytes, depth_limit) {
         Ok(value) => Deserializer::new(value).coerce_numbers().deserialize(alloc),

@@ -72,7 +72,7 @@ fn after_refusal<'v>(refusal: CallsError, place: usize, lines: &[u8]) -> Verdict
 /// What the lines of calls come to within the limit. Each line is read once and its call made at
 /// once; after a refusal lines are only read. No call is kept.
 pub fn read_calls<'v>(alloc: Global, body: &[u8], limit: Option<usize>) -> Verdict<'v>
-    requires { IsLimit limit }
+    requires positive { IsLimit limit }
     ensures { IsVerdict limit body.now result }
 {
     let mut builder = start(alloc, limit);

@@ -1,12 +1,11 @@
 -- How many items and entries are left.
 use Rattle.std.proofs.Common.{◌≡◌, ℕ, List, [], ◌∷◌, length, suc, refl, arith}
-use Rattle.content_tree.specs.Values.Tree.{Tree}
+use Rattle.content_tree.specs.Values.Tree.{Tree, count}
 use Rattle.content_tree.specs.Values.Value.{trees_view, pairs_view, fields_view}
 use Rattle.content_tree.specs.declared.cow.CowStr.{CowStr}
 use Rattle.content_tree.specs.declared.value.NamedValue.{NamedValue}
 use Rattle.content_de.specs.Sources.Origin.{Origin}
 use Rattle.content_de.specs.Requests.Compounds.{entries_of_pairs, entries_of_fields}
-use Rattle.content_de.specs.Accesses.Seq.{count}
 use Rattle.content_de.specs.Accesses.Map.{without_key}
 
 -- as many as there are values

@@ -3,6 +3,7 @@ pub mod Singles
 pub mod Fields
 pub mod Values
 pub mod Ends
+pub mod Places
 pub mod Ties
 pub mod Plains
 pub mod PlainLaws

@@ -1,5 +1,6 @@
 -- What a type reads: which refusal comes first in reading order, and which values may be given.
 pub mod Read
+pub mod Paths
 pub mod Access
 pub mod Standard
 pub mod Tuples

@@ -66,7 +66,7 @@ pub fn attempt_fitting<'de, 'n: 'de, T: Deserialize<'de>>(
     from: &Deserializer<'de, 'n>,
     expected: &Expected,
 ) -> Result<Option<T>>
-    requires { IsSome (refusal_by expected.now (in_buffer (subject from.now)))
+    requires refused { IsSome (refusal_by expected.now (in_buffer (subject from.now)))
         → IsSome (T.refusal (in_buffer (subject from.now))) }
     ensures value { Tries (T.refusal (in_buffer (subject from.now)))
         (T.gives (in_buffer (subject from.now))) result }

@@ -16,7 +16,7 @@
 //! | read what fields leave over | [`keep_unknown_fields`], [`attempt_last`] |
 //! | read enums with a tag field, or untagged | [`tag_field`], [`internal_tag`], [`attempt`] |
 //! | read a value in plain form | [`ValueVisitor`] |
-//! | add a part to the path of a refusal | [`Deserializer::deserialize_item`], [`Deserializer::deserialize_field`] |
+//! | add a part to the path of a refusal | [`Deserializer::deserialize_item`], [`Deserializer::deserialize_field`], [`refused_value`] |
 //! | prove something of these | [`laws`] |
 
 #![tactic(auto)]
@@ -65,3 +65,4 @@ pub use plain::ValueVisitor;
 pub use seq::Seq;
 pub use unknown_names::unknown_variant;
 pub use variant_access::VariantAccess;
+pub use within::refused_value;

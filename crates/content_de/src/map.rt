@@ -1,6 +1,6 @@
 //! The entries of a map, one after another.
 
-ghost use Rattle.std.specs.Prelude.{◌≡◌, Some, option_map, length, MatchResult, IsTrue};
+ghost use Rattle.std.specs.Prelude.{◌≡◌, Some, IfErr, option_map, length, MatchResult, IsTrue};
 ghost use Rattle.content_tree.specs.Values.Value.{pairs_view, fields_view};
 ghost use Rattle.content_de.specs.Outcomes.{Answers};
 ghost use Rattle.content_de.specs.Sources.Deserializer.{flags_of, subject};
@@ -8,6 +8,7 @@ ghost use Rattle.content_de.specs.Requests.Compounds.{entries_of_pairs, entries_
 ghost use Rattle.content_de.specs.Accesses.Map.{map_view, entries_under, first_key, first_value};
 ghost use Rattle.content_de.specs.Accesses.Map.{first_entry, after_key, after_entry, ArePairs};
 ghost use Rattle.content_de.specs.Reads.Own.{IsNamed};
+ghost use Rattle.content_de.specs.Reads.Paths.{IsWhole};
 
 use crate::deserializer::Deserializer;
 use crate::left_fields::Fields;
@@ -200,6 +201,7 @@ impl<'de, 'n> Map<'de, 'n> {
     /// At the end: `Custom` with the text `[BUG] value is missing`; out of memory in its place.
     pub fn next_value_deserializer(&mut self, alloc: Global) -> Result<Deserializer<'de, 'n>>
         ensures value { Answers subject (first_value (map_view self.old)) result }
+        ensures path { IfErr result (λ e. IsWhole e) }
         ensures rest { map_view self.new ≡ after_entry (map_view self.old) }
     {
         match self.take_value() {

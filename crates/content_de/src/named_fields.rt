@@ -1,13 +1,15 @@
 //! Fields read by name, in any order, and the end of fields.
 
-ghost use Rattle.std.specs.Prelude.{◌≡◌, ◌≢◌, Some, None, IsOk, ⊤, map};
+ghost use Rattle.std.specs.Prelude.{◌≡◌, ◌≢◌, Some, None, IfErr, IsOk, ⊤, map};
 ghost use Rattle.content_tree.specs.Errors.Cause.{out_of_memory};
+ghost use Rattle.content_tree.specs.Errors.Where.{under};
 ghost use Rattle.content_tree.specs.Values.Text.{text_of};
 ghost use Rattle.content_de.specs.Outcomes.{Answers, cause};
 ghost use Rattle.content_de.specs.Sources.Deserializer.{subject};
 ghost use Rattle.content_de.specs.Reads.Tagged.{tag_at};
 ghost use Rattle.content_de.specs.Accesses.ByName.{field_named, fields_left, without_field};
 ghost use Rattle.content_de.specs.Accesses.ByName.{buffered_fields, left_over, ArePairsLeft};
+ghost use Rattle.content_de.specs.Reads.Paths.{BeginsWith, IsFoundAt, IsWhole};
 ghost use Rattle.content_de.specs.Reads.Read.{Reads};
 ghost use Rattle.content_de.specs.Reads.ByName.{found_refusal, FoundGives, FoundMemoryless};
 ghost use Rattle.content_de.specs.Reads.ByName.{missing_field};
@@ -38,6 +40,8 @@ pub fn named_field<'de, 'n: 'de, T: Deserialize<'de>>(
         (FoundGives (λ a. ⊥) T.gives (field_named name.now (fields_left from.old))) result }
     ensures succeeds { FoundMemoryless ⊥ T.memoryless (field_named name.now (fields_left from.old))
         → IsOk result }
+    ensures path { IfErr result (λ e. IsFoundAt (under name.now)
+        (field_named name.now (fields_left from.old)) e) }
     ensures rest { fields_left from.new ≡ without_field name.now (fields_left from.old) }
     ensures pairs { ArePairsLeft from.old → ArePairsLeft from.new }
 {
@@ -65,6 +69,7 @@ pub fn field_or<'de, 'n: 'de, T: Deserialize<'de>>(
         (field_named name.now (fields_left from.old))) result }
     ensures succeeds { FoundMemoryless ⊤ T.memoryless (field_named name.now (fields_left from.old))
         → IsOk result }
+    ensures path { IfErr result (λ e. BeginsWith (under name.now) e) }
     ensures rest { fields_left from.new ≡ without_field name.now (fields_left from.old) }
     ensures pairs { ArePairsLeft from.old → ArePairsLeft from.new }
 {
@@ -87,6 +92,8 @@ pub fn tag_field<'de, 'n: 'de>(
     name: &str,
 ) -> Result<CowStr<'de>>
     ensures value { Answers text_of (tag_at name.now (fields_left from.old)) result }
+    ensures path { IfErr result (λ e. IsFoundAt (under name.now)
+        (field_named name.now (fields_left from.old)) e) }
     ensures rest { fields_left from.new ≡ without_field name.now (fields_left from.old) }
     ensures pairs { ArePairsLeft from.old → ArePairsLeft from.new }
 {
@@ -111,6 +118,8 @@ pub fn internal_tag<'de, 'n: 'de>(
     name: &str,
 ) -> Result<CowStr<'de>>
     ensures value { Answers text_of (tag_at name.now (fields_left from.old)) result }
+    ensures path { IfErr result (λ e. IsFoundAt (under name.now)
+        (field_named name.now (fields_left from.old)) e) }
     ensures rest { fields_left from.new
         ≡ buffered_fields (without_field name.now (fields_left from.old)) }
     ensures pairs { ArePairsLeft from.old → ArePairsLeft from.new }
@@ -215,7 +224,8 @@ pub fn deny_unknown_fields(alloc: Global, from: FieldsByName<'_, '_>, known: &[&
 #[cold]
 #[inline(never)]
 fn missing_field(alloc: Global, name: &str) -> Error
-    ensures { cause result ≢ out_of_memory → cause result ≡ missing_field name.now }
+    ensures cause { cause result ≢ out_of_memory → cause result ≡ missing_field name.now }
+    ensures path { IsWhole result }
 {
     match format!(in alloc; "missing field `{name}`") {
         Ok(text) => Error::from(ErrorKind::Custom(text)),

@@ -1,10 +1,12 @@
 //! The parts of what a type reads: of a tuple by place, of a struct by name.
 
-ghost use Rattle.std.specs.Prelude.{◌≡◌, ◌≢◌, ◌≤◌, ◌-◌, None, IsOk, ⊤};
+ghost use Rattle.std.specs.Prelude.{◌≡◌, ◌≢◌, ◌≤◌, ◌-◌, None, IfErr, IsOk, ⊤};
 ghost use Rattle.content_tree.specs.Errors.Cause.{out_of_memory};
+ghost use Rattle.content_tree.specs.Errors.Where.{item};
 ghost use Rattle.content_de.specs.Outcomes.{cause};
 ghost use Rattle.content_de.specs.Accesses.Seq.{seq_view, first_item, after_item};
 ghost use Rattle.content_de.specs.Accesses.Map.{map_view, first_entry, after_entry};
+ghost use Rattle.content_de.specs.Reads.Paths.{IsFoundAt, IsWhole};
 ghost use Rattle.content_de.specs.Reads.Read.{Reads};
 ghost use Rattle.content_de.specs.Reads.Tuples.{too_few, too_many, part_refusal, PartGives};
 ghost use Rattle.content_de.specs.Reads.Tuples.{part_then, end_of_parts, PartThen, NoPart};
@@ -36,6 +38,7 @@ pub fn next_part<'de, 'n: 'de, T: Deserialize<'de>>(
         (PartGives T.gives (first_item (seq_view from.old))) result }
     ensures succeeds { PartMemoryless T.memoryless (first_item (seq_view from.old))
         → IsOk result }
+    ensures path { IfErr result (λ e. IsFoundAt (item found) (first_item (seq_view from.old)) e) }
     ensures rest { seq_view from.new ≡ after_item (seq_view from.old) }
 {
     match from.next_deserializer() {
@@ -211,7 +214,8 @@ fn too_many(alloc: Global, expected: usize) -> Error
 #[cold]
 #[inline(never)]
 fn too_few(alloc: Global, expected: usize, found: usize) -> Error
-    ensures { cause result ≢ out_of_memory → cause result ≡ too_few expected found }
+    ensures cause { cause result ≢ out_of_memory → cause result ≡ too_few expected found }
+    ensures path { IsWhole result }
 {
     match format!(in alloc; "too few elements: expected {expected}, found {found}") {
         Ok(text) => Error::from(ErrorKind::Custom(text)),

@@ -1,6 +1,7 @@
 //! Typed data out of values and their parts.
 
-ghost use Rattle.std.specs.Prelude.{◌≡◌, IsOk};
+ghost use Rattle.std.specs.Prelude.{◌≡◌, ℕ, IfErr, IfSome, IsOk, List, Option};
+ghost use Rattle.content_tree.specs.Errors.Where.{item, Place};
 ghost use Rattle.content_de.specs.Outcomes.{IsTaken};
 ghost use Rattle.content_de.specs.Sources.Deserializer.{subject};
 ghost use Rattle.content_de.specs.Accesses.Seq.{seq_view, first_item, after_item};
@@ -8,6 +9,7 @@ ghost use Rattle.content_de.specs.Accesses.Map.{map_view, first_key, first_value
 ghost use Rattle.content_de.specs.Accesses.Map.{after_key, after_entry};
 ghost use Rattle.content_de.specs.Accesses.Enum.{enum_view, variant_view, tag_of};
 ghost use Rattle.content_de.specs.Accesses.Enum.{newtype_variant_of};
+ghost use Rattle.content_de.specs.Reads.Paths.{BeginsWith, IsAtEntry, IsWhole};
 ghost use Rattle.content_de.specs.Reads.Read.{Reads};
 ghost use Rattle.content_de.specs.Reads.Access.{ReadsNext, ReadsInside, entry_refusal, EntryGives};
 ghost use Rattle.content_de.specs.Reads.Access.{NextMemoryless, EntryMemoryless, TagMemoryless};
@@ -52,6 +54,7 @@ impl<'de, 'n> Seq<'de, 'n> {
         ensures value { ReadsNext T.refusal T.gives (first_item (seq_view self.old)) result }
         ensures succeeds { NextMemoryless T.memoryless (first_item (seq_view self.old))
             → IsOk result }
+        ensures path { IfErr result (λ e. (index : ℕ) × BeginsWith (item index) e) }
         ensures rest { seq_view self.new ≡ after_item (seq_view self.old) }
     {
         let index = self.taken();
@@ -75,6 +78,7 @@ impl<'de, 'n> Map<'de, 'n> {
         ensures value { ReadsNext K.refusal K.gives (first_key (map_view self.old)) result }
         ensures succeeds { NextMemoryless K.memoryless (first_key (map_view self.old))
             → IsOk result }
+        ensures path { IfErr result (λ e. IsWhole e) }
         ensures rest { map_view self.new ≡ after_key (map_view self.old) }
     {
         match self.take_key() {
@@ -96,6 +100,7 @@ impl<'de, 'n> Map<'de, 'n> {
         'n: 'de,
         ensures value { ReadsInside V.refusal V.gives (first_value (map_view self.old)) result }
         ensures succeeds { IsTaken (first_value (map_view self.old)) V.memoryless → IsOk result }
+        ensures path { IfErr result (λ e. IsWhole e) }
         ensures rest { map_view self.new ≡ after_entry (map_view self.old) }
     {
         let value = self.next_value_deserializer(alloc)?;
@@ -121,6 +126,8 @@ impl<'de, 'n> Map<'de, 'n> {
             (first_entry (map_view self.old)) result }
         ensures succeeds { NextMemoryless (EntryMemoryless K.memoryless V.memoryless)
             (first_entry (map_view self.old)) → IsOk result }
+        ensures path { IfErr result (λ e. IfSome (first_entry (map_view self.old))
+            (λ entry. (inner : Option (List Place)) × IsAtEntry K.refusal entry.0 inner e)) }
         ensures rest { map_view self.new ≡ after_entry (map_view self.old) }
     {
         let Some((key, value)) = self.take_entry() else {

@@ -5,6 +5,7 @@ ghost use Rattle.content_tree.specs.Errors.Kind.{IsOutOfMemory, kind_of};
 ghost use Rattle.content_tree.specs.Errors.Cause.{custom, expectation_of, out_of_memory};
 ghost use Rattle.content_tree.specs.declared.error.ErrorKind.TheVariants as kind;
 ghost use Rattle.content_de.specs.Outcomes.{cause};
+ghost use Rattle.content_de.specs.Reads.Paths.{IsWhole};
 ghost use Rattle.content_de.specs.Requests.Names.{a_struct, an_enum, a_variant};
 
 use content_tree::{DataType, Error, Expected, Found, Result};
@@ -60,7 +61,8 @@ pub(crate) fn a_variant(alloc: Global, name: &str, typ: DataType) -> Result<Expe
 
 /// The error of a text, or out of memory.
 pub(crate) fn custom(alloc: Global, text: &str) -> Error
-    ensures { cause result ≢ out_of_memory → cause result ≡ custom text.now }
+    ensures cause { cause result ≢ out_of_memory → cause result ≡ custom text.now }
+    ensures path { IsWhole result }
 {
     Error::custom(alloc, text)
 }

@@ -4,7 +4,7 @@ ghost use Rattle.std.specs.Prelude.{◌≡◌, Some, option_map};
 ghost use Rattle.content_tree.specs.Values.Value.{trees_view};
 ghost use Rattle.content_de.specs.Sources.Deserializer.{flags_of, subject};
 ghost use Rattle.content_de.specs.Accesses.Seq.{seq_view, items_under, first_item, after_item};
-ghost use Rattle.content_de.specs.Accesses.Seq.{count};
+ghost use Rattle.content_tree.specs.Values.Tree.{count};
 
 use crate::deserializer::Deserializer;
 use crate::source::Flags;

@@ -3,6 +3,7 @@
 ghost use Rattle.std.specs.Prelude.{◌≡◌, ◌≢◌, ◌++◌, IfOk, map, string_bytes};
 ghost use Rattle.content_tree.specs.Errors.Cause.{out_of_memory};
 ghost use Rattle.content_de.specs.Outcomes.{cause};
+ghost use Rattle.content_de.specs.Reads.Paths.{IsWhole};
 ghost use Rattle.content_de.specs.Reads.Names.{joined, opening, quoted, separator, unknown_text};
 ghost use Rattle.content_de.specs.Reads.Own.{unknown_variant};
 
@@ -14,8 +15,9 @@ use std::alloc::{AllocError, Global};
 #[cold]
 #[inline(never)]
 pub fn unknown_variant(alloc: Global, name: &str, known: &[&str]) -> Error
-    ensures { cause result ≢ out_of_memory
+    ensures cause { cause result ≢ out_of_memory
         → cause result ≡ unknown_variant name.now (map (λ name. name.now) known.now) }
+    ensures path { IsWhole result }
 {
     match unknown_text(alloc, "variant", "there are no variants", name, known) {
         Ok(text) => Error::from(ErrorKind::Custom(text)),

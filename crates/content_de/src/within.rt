@@ -1,10 +1,14 @@
 //! Reads what something contains, and adds its place to the path of a refusal.
 
-ghost use Rattle.std.specs.Prelude.{◌≡◌, ◌≢◌, Some, IsErrAnd, IsOk};
+ghost use Rattle.std.specs.Prelude.{◌≡◌, ◌≢◌, List, None, Option, Some, IfErr, IfOk, IsErrAnd, IsOk, MatchResult, string_bytes};
+ghost use Rattle.std.specs.Fmt.{signed_decimal};
+ghost use Rattle.content_tree.specs.Errors.Where.{places, IsInside, item, under, Place};
+ghost use Rattle.content_tree.specs.Values.Ranges.{number_value};
 ghost use Rattle.content_tree.specs.Errors.Cause.{out_of_memory};
 ghost use Rattle.content_de.specs.Outcomes.{cause};
 ghost use Rattle.content_de.specs.Sources.Deserializer.{subject};
 ghost use Rattle.content_de.specs.Reads.Access.{entry_refusal, EntryGives, EntryMemoryless};
+ghost use Rattle.content_de.specs.Reads.Paths.{BeginsWith, IsAtEntry, IsUnderKey, IsWhole};
 ghost use Rattle.content_de.specs.Reads.Read.{Reads, first_of};
 
 use crate::deserialize::Deserialize;
@@ -28,6 +32,7 @@ impl<'de, 'n> Deserializer<'de, 'n> {
         ensures value { Reads (T.refusal (subject self.entry)) (T.gives (subject self.entry))
             result }
         ensures succeeds { T.memoryless (subject self.entry) → IsOk result }
+        ensures path { IfErr result (λ e. BeginsWith (item index) e) }
     {
         match T::deserialize(alloc, self) {
             Ok(value) => Ok(value),
@@ -49,6 +54,7 @@ impl<'de, 'n> Deserializer<'de, 'n> {
         ensures value { Reads (T.refusal (subject self.entry)) (T.gives (subject self.entry))
             result }
         ensures succeeds { T.memoryless (subject self.entry) → IsOk result }
+        ensures path { IfErr result (λ e. BeginsWith (under name.now) e) }
     {
         match T::deserialize(alloc, self) {
             Ok(value) => Ok(value),
@@ -56,15 +62,20 @@ impl<'de, 'n> Deserializer<'de, 'n> {
         }
     }
 
-    /// Reads a part of this type that a path can't name: the path of a refusal is that of what
-    /// contains it.
+    /// Reads a value of this type that a path can't name, such as a key: the path of a refusal is
+    /// that of what contains the value. Only the type takes memory.
+    ///
+    /// # Errors
+    ///
+    /// That of the type's first refusal, in reading order; out of memory in its place.
     #[inline(always)]
-    pub(crate) fn deserialize_unplaced<K: Deserialize<'de>>(self, alloc: Global) -> Result<K>
+    pub fn deserialize_unplaced<K: Deserialize<'de>>(self, alloc: Global) -> Result<K>
     where
         'n: 'de,
         ensures value { Reads (K.refusal (subject self.entry)) (K.gives (subject self.entry))
             result }
         ensures succeeds { K.memoryless (subject self.entry) → IsOk result }
+        ensures path { IfErr result (λ e. IsWhole e) }
     {
         match K::deserialize(alloc, self) {
             Ok(key) => Ok(key),
@@ -74,7 +85,8 @@ impl<'de, 'n> Deserializer<'de, 'n> {
 
     /// The error of the value of this key, with the key put before its path.
     fn error_under(&self, alloc: Global, error: Error) -> Error
-        ensures { cause result ≡ cause error }
+        ensures cause { cause result ≡ cause error }
+        ensures path { IsUnderKey (subject self.now).origin (places error) (places result) }
     {
         match &self.source {
             Source::Identifier { name, index: _ } => error.at_name(alloc, name.as_str()),
@@ -97,7 +109,8 @@ impl<'de, 'n> Deserializer<'de, 'n> {
 #[cold]
 #[inline(never)]
 pub(crate) fn refused_at<R>(alloc: Global, error: Error, index: usize) -> Result<R>
-    ensures { IsErrAnd result (λ e. cause e ≡ cause error) }
+    ensures cause { IsErrAnd result (λ e. cause e ≡ cause error) }
+    ensures path { IsErrAnd result (λ e. IsInside (item index) (places error) (places e)) }
 {
     Err(error.at_index(alloc, index))
 }
@@ -106,7 +119,8 @@ pub(crate) fn refused_at<R>(alloc: Global, error: Error, index: usize) -> Result
 #[cold]
 #[inline(never)]
 fn refused_under<R>(alloc: Global, error: Error, name: &str) -> Result<R>
-    ensures { IsErrAnd result (λ e. cause e ≡ cause error) }
+    ensures cause { IsErrAnd result (λ e. cause e ≡ cause error) }
+    ensures path { IsErrAnd result (λ e. IsInside (under name.now) (places error) (places e)) }
 {
     Err(error.at_name(alloc, name))
 }
@@ -124,6 +138,8 @@ pub(crate) fn read_entry<'de, 'n: 'de, K: Deserialize<'de>, V: Deserialize<'de>>
         (EntryGives K.gives V.gives (subject key.entry, subject value.entry)) result }
     ensures succeeds { EntryMemoryless K.memoryless V.memoryless
         (subject key.entry, subject value.entry) → IsOk result }
+    ensures path { IfErr result (λ e. (inner : Option (List Place))
+        × IsAtEntry K.refusal (subject key.entry) inner e) }
 {
     match V::deserialize(alloc, value) {
         Ok(value) => {
@@ -134,17 +150,21 @@ pub(crate) fn read_entry<'de, 'n: 'de, K: Deserialize<'de>, V: Deserialize<'de>>
     }
 }
 
-/// The error of an entry whose value was refused with this one: that of its key, if that is refused
-/// too.
+/// The error of an entry whose value was refused with this one, for a type of your own that reads
+/// entries one by one. Where the key is refused too, it is that error, which goes first, and its
+/// path is that of the map. Else the path begins with the key, if that is a text, a character, a
+/// number or a name, and is that of the map if the key is anything else. The key's type and the
+/// path take memory.
 #[cold]
 #[inline(never)]
-pub(crate) fn refused_value<'de, 'n: 'de, K: Deserialize<'de>>(
+pub fn refused_value<'de, 'n: 'de, K: Deserialize<'de>>(
     alloc: Global,
     key: Deserializer<'de, 'n>,
     error: Error,
 ) -> Error
-    ensures { cause result ≢ out_of_memory
+    ensures cause { cause result ≢ out_of_memory
         → first_of (K.refusal (subject key.entry)) (Some (cause error)) ≡ Some (cause result) }
+    ensures path { IsAtEntry K.refusal (subject key.entry) (places error) result }
 {
     let error = key.error_under(alloc, error);
     match key.deserialize_unplaced::<K>(alloc) {
@@ -155,7 +175,10 @@ pub(crate) fn refused_value<'de, 'n: 'de, K: Deserialize<'de>>(
 
 /// The error with this name put before its path; without a path if the name got no memory.
 fn at_text(alloc: Global, error: Error, name: std::result::Result<String, AllocError>) -> Error
-    ensures { cause result ≡ cause error }
+    ensures cause { cause result ≡ cause error }
+    ensures path { MatchResult name
+        (λ text. IsInside (under (string_bytes text)) (places error) (places result))
+        (λ _. places result ≡ None) }
 {
     match name {
         Ok(name) => error.at_name(alloc, name.as_str()),
@@ -164,7 +187,9 @@ fn at_text(alloc: Global, error: Error, name: std::result::Result<String, AllocE
 }
 
 /// A number in decimal.
-fn decimal(alloc: Global, number: Number) -> std::result::Result<String, AllocError> {
+fn decimal(alloc: Global, number: Number) -> std::result::Result<String, AllocError>
+    ensures { IfOk result (λ text. string_bytes text ≡ signed_decimal (number_value number)) }
+{
     match number.as_i128() {
         Some(small) => format!(in alloc; "{small}"),
         None => format!(in alloc; "{}", number.as_u128().unwrap_or(u128::MAX)),

@@ -37,7 +37,7 @@ fn write_out<W: Output>(writer: &mut W, bytes: &[u8]) -> Result<(), Fault>
 /// let status = tell_text(&mut output, "ok ()\n", 0);
 /// ```
 pub fn tell_text<W: Output>(writer: &mut W, text: &str, status: u8) -> u8
-    requires { W.has_failed writer.old ≡ false }
+    requires writer_works { W.has_failed writer.old ≡ false }
     ensures failed { W.has_failed writer.new ≡ true → result ≡ 5 }
     ensures told { W.has_failed writer.new ≡ false → (result ≡ status) × Appends
         (W.written writer.old) (W.written writer.new) text.now }
@@ -57,7 +57,7 @@ pub fn tell_text<W: Output>(writer: &mut W, text: &str, status: u8) -> u8
 /// tell(writer, answer)
 /// ```
 pub fn tell<W: Output>(writer: &mut W, answer: Result<Answer, Failure>) -> u8
-    requires { W.has_failed writer.old ≡ false }
+    requires writer_works { W.has_failed writer.old ≡ false }
     ensures told { W.has_failed writer.new ≡ false → Tells answer result (W.written writer.old)
         (W.written writer.new) }
     ensures failed { W.has_failed writer.new ≡ true → result ≡ 5 }

@@ -1,11 +1,13 @@
 //! Fields that are read by name, some of them level by level. Their rows are those of
 //! [`ReadFields`]; the fields that are read level by level have rows of their own.
 
-ghost use Rattle.std.specs.Prelude.{◌≡◌, ◌≢◌, [], Option, None, Some, slice_index_or};
+ghost use Rattle.std.specs.Prelude.{◌≡◌, ◌≢◌, [], IfErr, Option, None, Some, slice_index_or};
 ghost use Rattle.content_tree.specs.Errors.Cause.{Cause, out_of_memory};
+ghost use Rattle.content_tree.specs.Errors.Where.{under};
 ghost use Rattle.content_de.specs.Outcomes.{cause};
 ghost use Rattle.content_de.specs.Accesses.ByName.{FieldsLeft, field_named, fields_left};
 ghost use Rattle.content_de.specs.Accesses.ByName.{without_field};
+ghost use Rattle.content_de.specs.Reads.Paths.{BeginsWith, IsFoundAt, IsWhole};
 ghost use Rattle.content_de.specs.Reads.Read.{Reads};
 ghost use Rattle.content_de.specs.Reads.ByName.{found_refusal, FoundGives, missing_field};
 ghost use Rattle.serde_content.specs.Literals.{row_or_then, row_then, RowOrThen, RowThen};
@@ -51,7 +53,8 @@ pub(crate) fn name_at<K: Names>(index: usize) -> &'static str
 #[cold]
 #[inline(never)]
 fn missing_field(alloc: Global, name: &str) -> Error
-    ensures { cause result ≢ out_of_memory → cause result ≡ missing_field name.now }
+    ensures cause { cause result ≢ out_of_memory → cause result ≡ missing_field name.now }
+    ensures path { IsWhole result }
 {
     match format!(in alloc; "missing field `{name}`") {
         Ok(text) => Error::from(ErrorKind::Custom(text)),
@@ -109,6 +112,8 @@ fn nested_at<'de, 'n: 'de, K: Names, T: Drop, L: ReadWithin<'de, T>>(
         (field_named (slice_index_or K.names index []) (fields_left fields.old)))
         (FoundGives (λ a. ⊥) (L.gives levels.now)
         (field_named (slice_index_or K.names index []) (fields_left fields.old))) result }
+    ensures path { IfErr result (λ e. IsFoundAt (under (slice_index_or K.names index []))
+        (field_named (slice_index_or K.names index []) (fields_left fields.old)) e) }
     ensures rest { fields_left fields.new
         ≡ without_field (slice_index_or K.names index []) (fields_left fields.old) }
 {
@@ -134,6 +139,7 @@ fn nested_at_or<'de, 'n: 'de, K: Names, T: Drop + Absent, L: ReadWithin<'de, T>>
         (field_named (slice_index_or K.names index []) (fields_left fields.old)))
         (FoundGives T.is_absent (L.gives levels.now)
         (field_named (slice_index_or K.names index []) (fields_left fields.old))) result }
+    ensures path { IfErr result (λ e. BeginsWith (under (slice_index_or K.names index [])) e) }
     ensures rest { fields_left fields.new
         ≡ without_field (slice_index_or K.names index []) (fields_left fields.old) }
 {

@@ -1,8 +1,10 @@
 //! Boxes, optional values and vectors of values that are read level by level.
 
+ghost use Rattle.std.specs.Prelude.{IfErr};
 ghost use Rattle.content_de.specs.Outcomes.{refusal_then, IsTaken};
 ghost use Rattle.content_de.specs.Requests.Leaves.{held_by};
 ghost use Rattle.content_de.specs.Accesses.Seq.{seq_view, seq_at};
+ghost use Rattle.content_de.specs.Reads.Paths.{IsItemRefusal};
 ghost use Rattle.content_de.specs.Reads.Read.{Reads};
 ghost use Rattle.content_de.specs.Reads.Standard.{held_refusal, HeldGives};
 ghost use Rattle.content_de.specs.Reads.Standard.{seq_refusal, SeqGives};
@@ -83,8 +85,9 @@ fn read_items<'de, 'n: 'de, T: Drop, L: ReadWithin<'de, T>>(
     alloc: Global,
     mut from: Seq<'de, 'n>,
 ) -> Result<Vec<T>>
-    ensures { Reads (seq_refusal (L.refusal levels.now) (seq_view from.entry))
+    ensures value { Reads (seq_refusal (L.refusal levels.now) (seq_view from.entry))
         (λ v. SeqGives (L.gives levels.now) (seq_view from.entry) v.items) result }
+    ensures path { IfErr result (λ e. IsItemRefusal (L.refusal levels.now) (seq_view from.entry) e) }
 {
     let mut items = Vec::with_capacity(alloc, from.size_hint().unwrap_or(0))?;
     while let Some(item) = from.next_deserializer() {

@@ -1,10 +1,12 @@
 //! Values that are read by place, some of them level by level. Their rows are those of
 //! [`ReadParts`]; the values that are read level by level have rows of their own.
 
-ghost use Rattle.std.specs.Prelude.{◌≡◌, ◌≢◌, Option};
+ghost use Rattle.std.specs.Prelude.{◌≡◌, ◌≢◌, IfErr, Option};
 ghost use Rattle.content_tree.specs.Errors.Cause.{Cause, out_of_memory};
+ghost use Rattle.content_tree.specs.Errors.Where.{item};
 ghost use Rattle.content_de.specs.Outcomes.{cause};
 ghost use Rattle.content_de.specs.Accesses.Seq.{SeqLeft, seq_view, first_item, after_item};
+ghost use Rattle.content_de.specs.Reads.Paths.{IsFoundAt, IsWhole};
 ghost use Rattle.content_de.specs.Reads.Read.{Reads};
 ghost use Rattle.content_de.specs.Reads.Tuples.{part_refusal, PartGives, part_then, PartThen};
 ghost use Rattle.content_de.specs.Reads.Tuples.{too_few};
@@ -41,6 +43,7 @@ fn nested_part<'de, 'n: 'de, T: Drop, L: ReadWithin<'de, T>>(
         (part_refusal expected found (L.refusal levels.now)
         (first_item (seq_view from.old)))
         (PartGives (L.gives levels.now) (first_item (seq_view from.old))) result }
+    ensures path { IfErr result (λ e. IsFoundAt (item found) (first_item (seq_view from.old)) e) }
     ensures rest { seq_view from.new ≡ after_item (seq_view from.old) }
 {
     match from.next_deserializer() {
@@ -56,7 +59,8 @@ fn nested_part<'de, 'n: 'de, T: Drop, L: ReadWithin<'de, T>>(
 #[cold]
 #[inline(never)]
 fn too_few(alloc: Global, expected: usize, found: usize) -> Error
-    ensures { cause result ≢ out_of_memory → cause result ≡ too_few expected found }
+    ensures cause { cause result ≢ out_of_memory → cause result ≡ too_few expected found }
+    ensures path { IsWhole result }
 {
     match format!(in alloc; "too few elements: expected {expected}, found {found}") {
         Ok(text) => Error::from(ErrorKind::Custom(text)),

@@ -2,7 +2,7 @@
 use Rattle.std.proofs.Common.{◌≡◌, ℕ, true, ◌&&◌, refl, sym, ap, subst, ◌∙◌, cond}
 use Rattle.content_tree.specs.Values.Text.{Text, to_owned}
 use Rattle.content_tree.specs.Values.Tree as tree
-use Rattle.content_tree.specs.Values.Tree.{Tree, TreeData, Trees, Pairs, Fields, owned, owned_data}
+use Rattle.content_tree.specs.Values.Tree.{Tree, TreeData, Trees, Pairs, Fields, owned, owned_data, count}
 use Rattle.content_tree.specs.Values.Tree.{unmarked, at_texts, at_texts_each, at_texts_pairs}
 use Rattle.content_tree.specs.Values.Tree.{at_texts_fields, at_texts_data}
 use Rattle.content_ser.specs.Calls.Event as event
@@ -17,7 +17,7 @@ use Rattle.content_ser.specs.Sending.StaticNames.{EachPairName, EachFieldName, H
 use Rattle.content_ser.specs.Sending.StaticNames.{HasStaticKeys}
 use Rattle.content_ser.specs.Sending.TreeScript.{script_of, script_of_data, script_of_each}
 use Rattle.content_ser.specs.Sending.TreeScript.{script_of_pairs, script_of_fields}
-use Rattle.content_ser.specs.Sending.TreeScript.{count, count_pairs, count_fields}
+use Rattle.content_ser.specs.Sending.TreeScript.{count_pairs, count_fields}
 use Rattle.content_ser.proofs.Naming.{loose_names, built_owned}
 use Rattle.content_ser.proofs.Twice.{twice}
 

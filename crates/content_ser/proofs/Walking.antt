@@ -13,7 +13,8 @@ use Rattle.content_ser.specs.Scripts.Sends.{Sends}
 use Rattle.content_ser.specs.Sending.Loose.{KeyedTree, loose_each, loose_pairs, loose_fields}
 use Rattle.content_ser.specs.Sending.Loose.{loose_field_pairs, keyed, text_pairs}
 use Rattle.content_ser.specs.Sending.Places.{keyed_tree_of, StandsFor}
-use Rattle.content_ser.specs.Sending.TreeScript.{count, count_pairs, count_fields, script_of}
+use Rattle.content_tree.specs.Values.Tree.{count}
+use Rattle.content_ser.specs.Sending.TreeScript.{count_pairs, count_fields, script_of}
 use Rattle.content_ser.specs.Sending.TreeScript.{script_of_pairs, loose_script}
 
 pub count_each : (vs : List NamedValue) → length vs ≡ count (loose_each (trees_view vs))

@@ -14,11 +14,11 @@ use Rattle.content_tree.specs.Laws.PathEdits.{SetGivesFound, PutIsFound, SetIsFo
 use Rattle.content_tree.specs.Values.Edits.{item_added, pair_added, pair_removed}
 use Rattle.content_tree.specs.Values.Lookups.{is_text, last_value, or_else}
 use Rattle.content_tree.specs.Values.PathEdits.{Edited, around, at_parts, last_apart, at_last, replaced, item_removed}
-use Rattle.content_tree.specs.Values.PathEdits.{part_removed, part_added, names_end, count, removed_at, set_at}
+use Rattle.content_tree.specs.Values.PathEdits.{part_removed, part_added, names_end, removed_at, set_at}
 use Rattle.content_tree.specs.Values.Paths.{index_of, parts_of}
 use Rattle.content_tree.specs.Values.Pointers.{Place, at, item_of, part_of, follow, value_at, pointer}
 use Rattle.content_tree.specs.Values.Text.{owned_text}
-use Rattle.content_tree.specs.Values.Tree.{Tree, text, seq, map, Trees, no_trees, tree_then, Pairs}
+use Rattle.content_tree.specs.Values.Tree.{Tree, text, seq, map, Trees, no_trees, tree_then, Pairs, count}
 
 -- the value that a path leads to by its parts
 pointer_by : (path : List ℕ) (parts : List (List ℕ)) (t : Tree) → parts_of path ≡ Some parts → pointer path t ≡ found parts (at t)

@@ -19,15 +19,15 @@ use Rattle.content_tree.proofs.Views.{tree_of-Seq, tree_of-Map, tree_of-String}
 use Rattle.content_tree.specs.Values.Edits.{IsLastKey, IsRefused, pair_removed, item_added, pair_added}
 use Rattle.content_tree.specs.Values.Lookups.{is_text, last_value, or_else}
 use Rattle.content_tree.specs.Values.PathEdits.{Edited, around, at_parts, at_last, replaced, item_removed, part_removed}
-use Rattle.content_tree.specs.Values.PathEdits.{part_added, names_end, count, removed_at, set_at, IsTakenOut}
+use Rattle.content_tree.specs.Values.PathEdits.{part_added, names_end, removed_at, set_at, IsTakenOut}
 use Rattle.content_tree.specs.Values.Paths.{escape, unescape, parts_of, index_of}
 use Rattle.content_tree.specs.Values.Places.{is_key}
 use Rattle.content_tree.specs.Values.Pointers.{pointer, at, follow, value_at}
 use Rattle.content_tree.specs.Values.Trades.{IsTraded, traded, IsAdded, HasNoSlash, piece_removed, piece_added, added_at}
-use Rattle.content_tree.specs.Values.Tree.{Tree, seq, map, tree_then}
+use Rattle.content_tree.specs.Values.Tree.{Tree, seq, map, tree_then, count}
 use Rattle.content_tree.specs.Values.Value.{tree_of, trees_view, pairs_view}
 use Rattle.content_tree.specs.declared.edits.InsertError.{InsertError}
-use Rattle.content_tree.specs.declared.edits.InsertError.TheVariants.{WrongKind, OutOfMemory}
+use Rattle.content_tree.specs.declared.edits.InsertError.TheVariants.{NoPlace, OutOfMemory}
 use Rattle.content_tree.specs.declared.cow.CowStr.TheVariants as cow
 use Rattle.content_tree.specs.declared.value.NamedValue as value
 use Rattle.content_tree.specs.declared.value.NamedValue.{NamedValue}
@@ -283,7 +283,7 @@ added_back path front last old mid new x parent changed v (Err f) r e slash out 
     )
 
 pub not_added : (T : Type 0) (path front last : List ℕ) (old mid : Tree) (x own v : NamedValue) → path ≡ front ++ 47 ∷ last → HasNoSlash last
-    → IsTraded (traded front (tree_of x) old) old x mid (Err own) → IsAdded {T = T} (added_at path (tree_of v) old) old v mid (Err (WrongKind v))
+    → IsTraded (traded front (tree_of x) old) old x mid (Err own) → IsAdded {T = T} (added_at path (tree_of v) old) old v mid (Err (NoPlace v))
 not_added T path front last old mid x own v e slash h = (
   h.1,
   (

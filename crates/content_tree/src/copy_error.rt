@@ -1,6 +1,6 @@
 //! Copies of expectations and errors.
 
-ghost use Rattle.std.specs.Prelude.{◌≡◌, None, IsTrue, IsOk, IfOk, IfErr};
+ghost use Rattle.std.specs.Prelude.{◌≡◌, [], None, Some, IsTrue, IsOk, IfOk, IfErr};
 ghost use Rattle.content_tree.specs.Errors.Cause.{expectation_of, cause_of, name_view};
 ghost use Rattle.content_tree.specs.Errors.Kind.{kind_of, IsOutOfMemory};
 ghost use Rattle.content_tree.specs.Errors.Where.{places, IsKept};
@@ -100,6 +100,7 @@ impl Error {
         ensures value { IfOk result
             (λ copy. cause_of (kind_of copy) ≡ cause_of (kind_of self.now)) }
         ensures path { IfOk result (λ copy. IsKept (places self.now) (places copy)) }
+        ensures whole { places self.now ≡ Some [] → IfOk result (λ copy. places copy ≡ Some []) }
         ensures succeeds { IsTrue (is_free_cause (cause_of (kind_of self.now))) → IsOk result }
         ensures memory { IfErr result (λ e. IsOutOfMemory e) }
     {

@@ -27,8 +27,8 @@ use std::{fmt, mem};
 /// Why something wasn't put into a value, with what was to be put: none of it is lost.
 #[derive(Debug, Drop)]
 pub enum InsertError<T> {
-    /// The value is of a kind that takes none.
-    WrongKind(T),
+    /// The value has no place for it: its kind takes none, or the path leads nowhere.
+    NoPlace(T),
     /// An allocation failed.
     OutOfMemory(T),
 }
@@ -39,7 +39,7 @@ impl<T> InsertError<T> {
         ensures { result ≡ refused_item self }
     {
         match self {
-            InsertError::WrongKind(item) => item,
+            InsertError::NoPlace(item) => item,
             InsertError::OutOfMemory(item) => item,
         }
     }
@@ -59,7 +59,7 @@ impl<T> fmt::Display for InsertError<T> {
 
     fn fmt<W: fmt::Write>(&self, f: &mut fmt::Formatter<W>) -> fmt::Result {
         f.write_str(match self {
-            InsertError::WrongKind(_) => "a value of another kind",
+            InsertError::NoPlace(_) => "no place for it in the value",
             InsertError::OutOfMemory(_) => "out of memory",
         })
     }
@@ -100,7 +100,7 @@ impl<'a, 'n> NamedValue<'a, 'n> {
             }
             other => {
                 *self = other;
-                Err(InsertError::WrongKind(item))
+                Err(InsertError::NoPlace(item))
             }
         }
     }
@@ -137,7 +137,7 @@ impl<'a, 'n> NamedValue<'a, 'n> {
             }
             other => {
                 *self = other;
-                Err(InsertError::WrongKind((key, value)))
+                Err(InsertError::NoPlace((key, value)))
             }
         }
     }

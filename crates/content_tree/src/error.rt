@@ -2,9 +2,10 @@
 
 #![tactic(auto, using(crate::proofs::Printing::two_writes, crate::proofs::Printing::three_writes, crate::proofs::Printing::four_writes))]
 
-ghost use Rattle.std.specs.Prelude.{◌≡◌, Some};
-ghost use Rattle.content_tree.specs.Errors.Kind.{kind_of, IsOutOfMemory, IsCustomOrMemory};
-ghost use Rattle.content_tree.specs.declared.error.ErrorKind.TheVariants.{Unexpected};
+ghost use Rattle.std.specs.Prelude.{◌≡◌, [], Some};
+ghost use Rattle.content_tree.specs.Errors.Kind.{kind_of, IsCustomOrMemory};
+ghost use Rattle.content_tree.specs.Errors.Where.{places, IsNew};
+ghost use Rattle.content_tree.specs.declared.error.ErrorKind.TheVariants.{Unexpected, OutOfMemory};
 ghost use Rattle.content_tree.specs.Printed.Errors.{kind_text, error_text};
 
 use crate::expected::Expected;
@@ -60,7 +61,7 @@ pub struct Error {
 }
 
 impl From<ErrorKind> for Error {
-    ghost from_gives = { λ kind e. kind_of e ≡ kind };
+    ghost from_gives = { λ kind e. IsNew kind e };
 
     fn from(kind: ErrorKind) -> Error {
         Error {
@@ -71,7 +72,7 @@ impl From<ErrorKind> for Error {
 }
 
 impl From<AllocError> for Error {
-    ghost from_gives = { λ _ e. IsOutOfMemory e };
+    ghost from_gives = { λ _ e. IsNew OutOfMemory e };
 
     fn from(_refused: AllocError) -> Error {
         Error::from(ErrorKind::OutOfMemory)
@@ -79,7 +80,7 @@ impl From<AllocError> for Error {
 }
 
 impl<T: Drop> From<AllocFailed<T>> for Error {
-    ghost from_gives = { λ _ e. IsOutOfMemory e };
+    ghost from_gives = { λ _ e. IsNew OutOfMemory e };
 
     fn from(_refused: AllocFailed<T>) -> Error {
         Error {
@@ -93,7 +94,7 @@ impl Error {
     /// Makes the error that something else was found than expected, of kind
     /// [`ErrorKind::Unexpected`]. It takes no memory.
     pub fn unexpected(found: Found, expected: Expected) -> Error
-        ensures { kind_of result ≡ Unexpected found expected }
+        ensures { IsNew (Unexpected found expected) result }
     {
         Error::from(ErrorKind::Unexpected { found, expected })
     }
@@ -101,7 +102,8 @@ impl Error {
     /// Makes an error of a text: of kind [`ErrorKind::Custom`] with a copy of the text, or of kind
     /// [`ErrorKind::OutOfMemory`] where the allocation failed.
     pub fn custom(alloc: Global, text: &str) -> Error
-        ensures { IsCustomOrMemory text.now (kind_of result) }
+        ensures kind { IsCustomOrMemory text.now (kind_of result) }
+        ensures path { places result ≡ Some [] }
     {
         match String::from_str(alloc, text) {
             Ok(text) => Error::from(ErrorKind::Custom(text)),

@@ -146,9 +146,9 @@ fn add_at<'a, 'n>(
                 let _unit = trade(place, parents, parent);
                 added
             }
-            Err(_unit) => Err(InsertError::WrongKind(value)),
+            Err(_unit) => Err(InsertError::NoPlace(value)),
         },
-        None => Err(InsertError::WrongKind(value)),
+        None => Err(InsertError::NoPlace(value)),
     }
 }
 
@@ -176,7 +176,7 @@ fn add_part<'a, 'n>(
         }
         other => {
             *parent = other;
-            Err(InsertError::WrongKind(value))
+            Err(InsertError::NoPlace(value))
         }
     }
 }
@@ -192,7 +192,7 @@ fn add_item<'a, 'n>(
         (seq (trees_view items.new.items)) result }
 {
     if !names_end(items, piece) {
-        return Err(InsertError::WrongKind(value));
+        return Err(InsertError::NoPlace(value));
     }
     match items.push(value) {
         Ok(()) => Ok(()),
@@ -237,7 +237,7 @@ fn add_entry<'a, 'n>(
                 }
             }
         }
-        Ok(None) => Err(InsertError::WrongKind(value)),
+        Ok(None) => Err(InsertError::NoPlace(value)),
         Err(_failed) => Err(InsertError::OutOfMemory(value)),
     }
 }

@@ -86,10 +86,12 @@ impl Trail {
 
     /// A copy, or unknown if memory ran out.
     pub(crate) fn try_clone(&self, alloc: Global) -> Trail
-        ensures { IsKept (trail_places self.now) (trail_places result) }
+        ensures path { IsKept (trail_places self.now) (trail_places result) }
+        ensures whole { trail_places self.now ≡ Some [] → trail_places result ≡ Some [] }
     {
         match self {
             Trail::Here => Trail::Here,
+            Trail::Steps(steps) if steps.is_empty() => Trail::Here,
             Trail::Steps(steps) => clone_trail(alloc, steps).unwrap_or(Trail::Unknown),
             Trail::Unknown => Trail::Unknown,
         }

@@ -1,10 +1,11 @@
 //! Errors of finding something else than what was expected.
 
-ghost use Rattle.std.specs.Prelude.{Bool, true, false, ◌≡◌, MatchResult};
+ghost use Rattle.std.specs.Prelude.{Bool, true, false, ◌≡◌, [], Some, MatchResult};
 ghost use Rattle.content_tree.specs.declared.error.ErrorKind.TheVariants as kind;
 ghost use Rattle.content_tree.specs.Values.Value.{tree_of, struct_tree, enum_tree};
 ghost use Rattle.content_tree.specs.Images.Image.{Image, image, number};
-ghost use Rattle.content_tree.specs.Errors.Kind.{kind_of, IsOutOfMemory};
+ghost use Rattle.content_tree.specs.Errors.Kind.{kind_of};
+ghost use Rattle.content_tree.specs.Errors.Where.{places, IsNew};
 ghost use Rattle.content_tree.specs.Errors.Unexpected.{IsUnexpected};
 
 use crate::error::Error;
@@ -27,7 +28,8 @@ pub trait Unexpected {
     /// [`ErrorKind::Unexpected`](crate::ErrorKind) with the image of this, or of kind `OutOfMemory`
     /// where an allocation failed.
     fn unexpected(self, alloc: Global, expected: Expected) -> Error
-        ensures { IsUnexpected (seen self) takes_memory expected (kind_of result) };
+        ensures kind { IsUnexpected (seen self) takes_memory expected (kind_of result) }
+        ensures path { places result ≡ Some [] };
 }
 
 /// It takes no memory.
@@ -76,8 +78,8 @@ impl<'a, 'n> Unexpected for Box<NamedEnum<'a, 'n>> {
 
 /// The error of an image; where there was no memory for the image, that of kind `OutOfMemory`.
 fn refusal(found: Result<Found, AllocError>, expected: Expected) -> Error
-    ensures { MatchResult found (λ f. kind_of result ≡ kind.Unexpected f expected)
-        (λ _. IsOutOfMemory result) }
+    ensures { MatchResult found (λ f. IsNew (kind.Unexpected f expected) result)
+        (λ _. IsNew kind.OutOfMemory result) }
 {
     match found {
         Ok(found) => Error::unexpected(found, expected),

@@ -3,7 +3,7 @@ use Rattle.std.specs.Prelude.{◌≡◌, ◌⊎◌, ℕ, List, [], ◌∷◌, �
 use Rattle.std.specs.Prelude.{map}
 use Rattle.serde_content.specs.Names.Words.{IsCustomOrMemory, IsOutOfMemory}
 use Rattle.serde_content.specs.Names.Words.{Tree, tree_of, Script, calls_of, stop_of, SpellsWhole}
-use Rattle.serde_content.specs.Names.Words.{Error, kind_of}
+use Rattle.serde_content.specs.Names.Words.{Error, kind_of, places}
 use Rattle.content_uses.specs.declared.store.Store.{Store}
 
 -- the trees of the records
@@ -29,6 +29,6 @@ IsLast script old new = IsPut script old new (length old)
 abbrev pub MayBeLast : Script → (old new : List Tree) → Type 0
 MayBeLast script old new = (new ≡ old) ⊎ IsLast script old new
 
--- no record has this number: an error that says so, or memory ran out
+-- no record has this number: an error of the whole that says so, or memory ran out
 abbrev pub IsUnknown : {A : Type 0} → Result A Error → Type 0
-IsUnknown r = IsErrAnd r (λ e. IsCustomOrMemory (codes "no such record") (kind_of e))
+IsUnknown r = IsErrAnd r (λ e. IsCustomOrMemory (codes "no such record") (kind_of e) × (places e ≡ Some []))

@@ -3,7 +3,8 @@
 ghost use Rattle.std.specs.Prelude.{◌≡◌, ◌<◌, Some, false, refl, IfOk, IfErr, IsOk, length};
 ghost use Rattle.content_tree.specs.Values.Cases.{struct_name};
 ghost use Rattle.content_tree.specs.Values.Value.{struct_tree};
-ghost use Rattle.serde_content.specs.Names.Words.{IsOutOfMemory, Tree, tree_of, text_of, tree_cmp};
+ghost use Rattle.serde_content.specs.Names.Words.{IsNew, Tree, tree_of, text_of, tree_cmp};
+ghost use Rattle.serde_content.specs.Names.ErrorKind.{OutOfMemory};
 ghost use Rattle.serde_content.specs.Names.Words.{pairs_view, fields_view};
 ghost use Rattle.serde_content.specs.Names.Tree as tree;
 ghost use Rattle.content_uses.specs.Merged.{parts, same_sort, merged, merged_pairs};
@@ -67,7 +68,7 @@ pub fn merge<'a, 'n>(
 ) -> Result<NamedValue<'a, 'n>>
     ensures value { IfOk result (λ whole. tree_of whole ≡ merged (tree_of over.entry)
         (tree_of base.entry)) }
-    ensures memory { IfErr result (λ e. IsOutOfMemory e) }
+    ensures memory { IfErr result (λ e. IsNew OutOfMemory e) }
     // what is of another sort wins whole, and never lacks memory
     ensures other { same_sort (tree_of over.entry) (tree_of base.entry) ≡ false → IsOk result }
 {

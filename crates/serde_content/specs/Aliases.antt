@@ -21,6 +21,16 @@ abbrev pub found_by : List (List ℕ) → FieldsLeft → Option Subject
 found_by [] f = None
 found_by (name ∷ names) f = found_or (field_named name f) (found_by names (without_field name f))
 
+-- this name, where something was found, and else the other
+abbrev pub name_or : Option Subject → List ℕ → Option (List ℕ) → Option (List ℕ)
+name_or None name other = other
+name_or (Some s) name other = Some name
+
+-- the first of these names that a field has
+abbrev pub name_by : List (List ℕ) → FieldsLeft → Option (List ℕ)
+name_by [] f = None
+name_by (name ∷ names) f = name_or (field_named name f) name (name_by names (without_field name f))
+
 -- the others
 abbrev pub left_by : List (List ℕ) → FieldsLeft → FieldsLeft
 left_by [] f = f

@@ -1,15 +1,17 @@
 //! Fields that are read by several names, for what `tools/derive` writes.
 
 ghost use Rattle.std.specs.Prelude.{◌≡◌, ◌≢◌, ◌∷◌, ⊤, ℕ, List, [], Some, None};
-ghost use Rattle.std.specs.Prelude.{option_map, slice_index_or};
+ghost use Rattle.std.specs.Prelude.{option_map, slice_index_or, IfErr, IfSome, MatchOption};
 ghost use Rattle.content_tree.specs.Errors.Cause.{out_of_memory};
+ghost use Rattle.content_tree.specs.Errors.Where.{under};
 ghost use Rattle.content_de.specs.Outcomes.{cause};
 ghost use Rattle.content_de.specs.Sources.Deserializer.{subject};
 ghost use Rattle.content_de.specs.Accesses.ByName.{fields_left};
+ghost use Rattle.content_de.specs.Reads.Paths.{BeginsWith, IsWhole};
 ghost use Rattle.content_de.specs.Reads.Read.{Reads};
 ghost use Rattle.content_de.specs.Reads.ByName.{duplicate_field, found_refusal, FoundGives};
 ghost use Rattle.content_de.specs.Reads.ByName.{missing_field};
-ghost use Rattle.serde_content.specs.Aliases.{aliased_then, AliasedThen, found_by, left_by};
+ghost use Rattle.serde_content.specs.Aliases.{aliased_then, AliasedThen, found_by, left_by, name_by};
 
 use crate::absent::Absent;
 use crate::fields_read::ReadFields;
@@ -31,6 +33,8 @@ pub trait FieldNames {
     ) -> Option<(Deserializer<'de, 'n>, &'static str)>
         ensures value { option_map (λ found. subject found.0) result
             ≡ found_by names (fields_left fields.old) }
+        ensures name { option_map (λ found. found.1.now) result
+            ≡ name_by names (fields_left fields.old) }
         ensures rest { fields_left fields.new ≡ left_by names (fields_left fields.old) };
 }
 
@@ -82,7 +86,8 @@ impl<T: Absent> DefaultOf<T> for OfType {
 #[cold]
 #[inline(never)]
 fn missing(alloc: Global, name: &str) -> Error
-    ensures { cause result ≢ out_of_memory → cause result ≡ missing_field name.now }
+    ensures cause { cause result ≢ out_of_memory → cause result ≡ missing_field name.now }
+    ensures path { IsWhole result }
 {
     match format!(in alloc; "missing field `{name}`") {
         Ok(text) => Error::from(ErrorKind::Custom(text)),
@@ -112,6 +117,8 @@ fn found<'de, 'n: 'de, N: FieldNames, T: Deserialize<'de>>(
         (found_refusal (Some (missing_field name.now)) T.refusal
         (found_by N.names (fields_left fields.old)))
         (FoundGives (λ a. ⊥) T.gives (found_by N.names (fields_left fields.old))) result }
+    ensures path { IfErr result (λ e. MatchOption (name_by N.names (fields_left fields.old))
+        (IsWhole e) (λ own. BeginsWith (under own) e)) }
     ensures rest { fields_left fields.new ≡ left_by N.names (fields_left fields.old) }
 {
     match N::take(fields) {
@@ -128,6 +135,8 @@ fn found_or_made<'de, 'n: 'de, N: FieldNames, D: DefaultOf<T>, T: Deserialize<'d
     ensures value { Reads
         (found_refusal None T.refusal (found_by N.names (fields_left fields.old)))
         (FoundGives D.is_default T.gives (found_by N.names (fields_left fields.old))) result }
+    ensures path { IfErr result (λ e. IfSome (name_by N.names (fields_left fields.old))
+        (λ own. BeginsWith (under own) e)) }
     ensures rest { fields_left fields.new ≡ left_by N.names (fields_left fields.old) }
 {
     match N::take(fields) {

@@ -4,5 +4,5 @@ pub use content_de::{
     Deserialize, EnumAccess, FieldsByName, IntoDeserializer, Map, Node, Seq, VariantAccess,
     attempt, attempt_fitting, attempt_last, deny_unknown_fields, end_parts, field_or, finish_parts,
     ignore_unknown_fields, internal_tag, keep_unknown_fields, named_field, next_field, next_part,
-    tag_field, two_parts, unknown_variant,
+    refused_value, tag_field, two_parts, unknown_variant,
 };

@@ -25,7 +25,7 @@ pub use content_tree::laws::{
     equal_bytes, equal_data, equal_enums, equal_errors, equal_expected, equal_found_data,
     equal_images, equal_kinds, equal_numbers, equal_structs, equal_texts, equal_types,
     equal_values, inserted_is_got, inserted_then_removed, joined_paths, named_index,
-    removed_is_gone, spelled_parts, taken_twice,
+    removed_is_found, removed_is_gone, set_is_found, spelled_parts, taken_twice,
 };
 
 /// No whole list of calls is a proper beginning of another: a stream of trees can be cut in one

@@ -84,6 +84,6 @@ pub fn read_enum_by<'de, 'n: 'de, N: Tags, T: Variants<'de>>(
     let name = N::meant(tag.as_str());
     match T::read_variant(alloc, name, variant) {
         Ok(value) => Ok(value),
-        Err(error) => Err(in_variant::<T>(alloc, name, tag.as_str(), error)),
+        Err(error) => Err(in_variant(alloc, name, tag.as_str(), T::names(), error)),
     }
 }

@@ -1,8 +1,10 @@
 //! The variants of an enum, for what `tools/derive` writes: an enum tells how it reads the variant
 //! that a tag names, and what is around that is read here.
 
-ghost use Rattle.std.specs.Prelude.{◌≡◌, ℕ, List, Option};
+ghost use Rattle.std.specs.Prelude.{◌≡◌, ℕ, List, MatchOption, Option, position};
+ghost use Rattle.std.specs.Str.{bytes_eq};
 ghost use Rattle.content_tree.specs.Errors.Cause.{Cause};
+ghost use Rattle.content_tree.specs.Errors.Where.{places, IsInside, under};
 ghost use Rattle.content_de.specs.Outcomes.{cause};
 ghost use Rattle.content_de.specs.Sources.Deserializer.{subject};
 ghost use Rattle.content_de.specs.Accesses.ByName.{FieldsLeft, fields_left};
@@ -96,22 +98,29 @@ pub fn read_enum<'de, 'n: 'de, T: Variants<'de>>(
     let (tag, variant) = access.variant::<CowStr<'de>>(alloc)?;
     match T::read_variant(alloc, tag.as_str(), variant) {
         Ok(value) => Ok(value),
-        Err(error) => Err(in_variant::<T>(alloc, tag.as_str(), tag.as_str(), error)),
+        Err(error) => {
+            let tag = tag.as_str();
+            Err(in_variant(alloc, tag, tag, T::names(), error))
+        }
     }
 }
 
 /// The error with the tag added to its path, if this name is that of a variant.
 #[cold]
 #[inline(never)]
-pub(crate) fn in_variant<'de, T: Variants<'de>>(
+pub(crate) fn in_variant(
     alloc: Global,
     name: &str,
     tag: &str,
+    names: &[&str],
     error: Error,
 ) -> Error
-    ensures { cause result ≡ cause error }
+    ensures cause { cause result ≡ cause error }
+    ensures path { MatchOption (position (λ own. bytes_eq name.now own.now) names.now)
+        (places result ≡ places error)
+        (λ _. IsInside (under tag.now) (places error) (places result)) }
 {
-    match position_of(name, T::names()) {
+    match position_of(name, names) {
         Some(_) => error.at_name(alloc, tag),
         None => error,
     }

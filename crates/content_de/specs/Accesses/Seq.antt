@@ -1,5 +1,5 @@
 -- What a sequence has left.
-use Rattle.std.specs.Prelude.{ℕ, ◌+◌, List, Option, Some, None}
+use Rattle.std.specs.Prelude.{ℕ, List, Option, Some, None}
 use Rattle.content_tree.specs.Values.Tree.{Trees, no_trees, tree_then}
 use Rattle.content_tree.specs.Values.Value.{trees_view}
 use Rattle.content_de.specs.Sources.Origin.{Flags, Subject, tree_under}
@@ -33,11 +33,6 @@ later (tree_then t ts) = ts
 -- without the first item
 abbrev pub after_item : SeqLeft → SeqLeft
 after_item s = items_under s.flags (later s.items)
-
--- how many there are
-abbrev pub count : Trees → ℕ
-count no_trees = 0
-count (tree_then t ts) = count ts + 1
 
 -- a sequence
 abbrev pub seq_at : Subject → Outcome SeqLeft

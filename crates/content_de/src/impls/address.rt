@@ -1,10 +1,13 @@
 //! IP addresses: out of texts where they are human readable, and else out of their octets.
 
+ghost use Rattle.std.specs.Prelude.{◌⊎◌, IfErr};
+ghost use Rattle.content_tree.specs.Errors.Where.{under};
 ghost use Rattle.std.specs.Net.Grammar.{IsIpText, IsIpv4Text, IsIpv6Text};
 ghost use Rattle.content_de.specs.Reads.Addresses.{ip_refusal, ip_text_refusal, IpGives};
 ghost use Rattle.content_de.specs.Reads.Addresses.{ipv4_refusal, ipv4_text_refusal, Ipv4Gives};
 ghost use Rattle.content_de.specs.Reads.Addresses.{ipv6_refusal, ipv6_text_refusal, Ipv6Gives};
 ghost use Rattle.content_de.specs.Reads.Addresses.{version_refusal, IsVersion};
+ghost use Rattle.content_de.specs.Reads.Paths.{BeginsWith, IsWhole};
 ghost use Rattle.content_de.specs.Reads.Read.{Reads};
 ghost use Rattle.content_de.specs.Accesses.Enum.{variant_view};
 
@@ -70,8 +73,9 @@ fn read_version<'de, 'n: 'de>(
     version: &str,
     variant: VariantAccess<'de, 'n>,
 ) -> Result<IpAddr>
-    ensures { Reads (version_refusal version.now (variant_view variant.entry))
+    ensures value { Reads (version_refusal version.now (variant_view variant.entry))
         (λ address. IsVersion version.now (variant_view variant.entry) address) result }
+    ensures path { IfErr result (λ e. IsWhole e ⊎ BeginsWith (under version.now) e) }
 {
     match version {
         "V4" => match variant.newtype_variant(alloc) {

@@ -1,8 +1,10 @@
 //! Options, boxes and vectors.
 
+ghost use Rattle.std.specs.Prelude.{IfErr};
 ghost use Rattle.content_de.specs.Outcomes.{refusal_then, IsTaken};
 ghost use Rattle.content_de.specs.Requests.Leaves.{held_by};
 ghost use Rattle.content_de.specs.Accesses.Seq.{seq_view, seq_at};
+ghost use Rattle.content_de.specs.Reads.Paths.{IsItemRefusal};
 ghost use Rattle.content_de.specs.Reads.Read.{Reads};
 ghost use Rattle.content_de.specs.Reads.Standard.{held_refusal, HeldGives, HeldMemoryless};
 ghost use Rattle.content_de.specs.Reads.Standard.{seq_refusal, SeqGives};
@@ -57,8 +59,9 @@ fn read_items<'de, 'n: 'de, T: Deserialize<'de>>(
     alloc: Global,
     mut from: Seq<'de, 'n>,
 ) -> Result<Vec<T>>
-    ensures { Reads (seq_refusal T.refusal (seq_view from.entry))
+    ensures value { Reads (seq_refusal T.refusal (seq_view from.entry))
         (λ v. SeqGives T.gives (seq_view from.entry) v.items) result }
+    ensures path { IfErr result (λ e. IsItemRefusal T.refusal (seq_view from.entry) e) }
 {
     let mut items = Vec::with_capacity(alloc, from.size_hint().unwrap_or(0))?;
     while let Some(item) = from.next_deserializer() {

@@ -2,7 +2,7 @@
 use Rattle.std.specs.Prelude.{ℕ, suc, Bool, List, ◌++◌, codes, Some, if◌then◌else◌}
 use Rattle.content_tree.specs.Values.Text.{Text}
 use Rattle.content_tree.specs.Values.Tree as tree
-use Rattle.content_tree.specs.Values.Tree.{Tree, TreeData, Trees, Pairs, Fields}
+use Rattle.content_tree.specs.Values.Tree.{Tree, TreeData, Trees, Pairs, Fields, count}
 use Rattle.content_tree.specs.Printed.Images.{quoted}
 use Rattle.content_ser.specs.Calls.Event as event
 use Rattle.content_ser.specs.Calls.Event.{Event}
@@ -43,11 +43,6 @@ tuple_call (of_variant n i v) len = event.tuple_variant n i v len
 abbrev pub struct_call : Head → ℕ → Event
 struct_call (of_struct n) len = event.structure n len
 struct_call (of_variant n i v) len = event.struct_variant n i v len
-
--- how many trees there are
-abbrev pub count : Trees → ℕ
-count tree.no_trees = 0
-count (tree.tree_then t ts) = suc (count ts)
 
 -- how many pairs there are
 abbrev pub count_pairs : Pairs → ℕ

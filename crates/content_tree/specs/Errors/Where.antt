@@ -1,6 +1,8 @@
 -- Where in a value something was refused.
 use Rattle.std.specs.Prelude.{ℕ, List, [], ◌∷◌, ◌≡◌, map, reverse, Option, Some, None, IfSome, option_map, unwrap_or, string_bytes}
+use Rattle.content_tree.specs.Errors.Kind.{kind_of}
 use Rattle.content_tree.specs.declared.error.Error.{Error}
+use Rattle.content_tree.specs.declared.error.ErrorKind.{ErrorKind}
 use Rattle.content_tree.specs.declared.path.Located.{Located}
 use Rattle.content_tree.specs.declared.path.Path.{Path}
 use Rattle.content_tree.specs.declared.trail.Step as own
@@ -31,6 +33,10 @@ trail_places Unknown = None
 -- the places that lead to what was refused, from the whole value on: none where memory ran out as they were kept
 abbrev pub places : Error → Option (List Place)
 places e = trail_places e.trail
+
+-- a new error of this kind: the whole value was refused
+abbrev pub IsNew : ErrorKind → Error → Type 0
+IsNew kind e = (kind_of e ≡ kind) × (places e ≡ Some [])
 
 -- the place comes first now, unless memory ran out
 abbrev pub IsInside : Place → Option (List Place) → Option (List Place) → Type 0

@@ -8,7 +8,7 @@ use Rattle.content_tree.specs.Values.Tree.{Tree, seq, map, Trees, no_trees, tree
 use Rattle.content_tree.specs.Values.Tree.{Pairs, no_pairs, pair_then}
 use Rattle.content_tree.specs.Values.Value.{tree_of, pairs_view}
 use Rattle.content_tree.specs.declared.edits.InsertError.{InsertError}
-use Rattle.content_tree.specs.declared.edits.InsertError.TheVariants.{WrongKind, OutOfMemory}
+use Rattle.content_tree.specs.declared.edits.InsertError.TheVariants.{NoPlace, OutOfMemory}
 use Rattle.content_tree.specs.declared.value.NamedValue.{NamedValue}
 
 -- a sequence
@@ -79,15 +79,15 @@ IsTaken test ps given rest = (option_map tree_of given ≡ last_value test (pair
 
 -- what was to be put
 abbrev pub refused_item : {T : Type 0} → InsertError T → T
-refused_item (WrongKind item) = item
+refused_item (NoPlace item) = item
 refused_item (OutOfMemory item) = item
 
--- the item, which was refused for its kind exactly where the value takes none of it
+-- the item, which has no place exactly where the value takes none of it
 abbrev pub IsRefused : {T : Type 0} → Bool → T → InsertError T → Type 0
-IsRefused takes item (WrongKind own) = (own ≡ item) × (takes ≡ false)
+IsRefused takes item (NoPlace own) = (own ≡ item) × (takes ≡ false)
 IsRefused takes item (OutOfMemory own) = (own ≡ item) × (takes ≡ true)
 
 -- what the error prints
 abbrev pub insert_text : {T : Type 0} → InsertError T → List ℕ
-insert_text (WrongKind item) = codes "a value of another kind"
+insert_text (NoPlace item) = codes "no place for it in the value"
 insert_text (OutOfMemory item) = codes "out of memory"

@@ -7,7 +7,7 @@ use Rattle.content_tree.specs.Values.Lookups.{is_text, last_field, last_value, o
 use Rattle.content_tree.specs.Values.Paths.{index_of, parts_of}
 use Rattle.content_tree.specs.Values.Text.{owned_text}
 use Rattle.content_tree.specs.Values.Tree.{Tree, text, seq, map, structure, enumeration, tuple}
-use Rattle.content_tree.specs.Values.Tree.{TreeData, one, many, named, Trees, no_trees, tree_then}
+use Rattle.content_tree.specs.Values.Tree.{TreeData, one, many, named, Trees, no_trees, tree_then, count}
 use Rattle.content_tree.specs.Values.Tree.{Pairs, no_pairs, pair_then, Fields, no_fields, field_then}
 use Rattle.content_tree.specs.Values.Value.{tree_of}
 use Rattle.content_tree.specs.declared.value.NamedValue.{NamedValue}
@@ -100,11 +100,6 @@ abbrev pub part_removed : List ℕ → Tree → Edited Tree
 part_removed part (seq ts) = around seq (option_and_then (λ n. item_removed n ts) (index_of part))
 part_removed part (map ps) = option_map (λ rest. (last_value (is_text part) ps, map rest)) (pair_removed (is_text part) ps)
 part_removed part t = None
-
--- how many items there are
-abbrev pub count : Trees → ℕ
-count no_trees = 0
-count (tree_then t ts) = suc (count ts)
 
 -- the end of the items: `-`, or their number
 abbrev pub names_end : List ℕ → Trees → Bool

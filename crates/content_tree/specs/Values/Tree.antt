@@ -1,5 +1,5 @@
 -- Trees: what contracts see of a `Value`.
-use Rattle.std.specs.Prelude.{ℕ, Bool}
+use Rattle.std.specs.Prelude.{ℕ, suc, Bool}
 use Rattle.content_tree.specs.Values.Text.{Text, to_owned}
 use Rattle.content_tree.specs.declared.number.Number.{Number}
 
@@ -41,6 +41,11 @@ mutual
   pub data Fields : Type 0 where
     no_fields : Fields
     field_then : Text → Tree → Fields → Fields
+
+-- how many trees there are
+abbrev pub count : Trees → ℕ
+count no_trees = 0
+count (tree_then t ts) = suc (count ts)
 
 -- the tree with f at each text and byte value, and g at each name, variant and key
 abbrev mutual

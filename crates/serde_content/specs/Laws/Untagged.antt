@@ -1,17 +1,17 @@
 -- Untagged enums come back where what each variant takes tells it apart from the others: its class of trees, or how many values.
 use Rattle.std.specs.Prelude.{◌≡◌, ℕ, ◌+◌, false, List, Option, None, Some, IsSome, nat_eq, refl}
-use Rattle.std.proofs.Common.{subst, sym, ap, ◌∙◌}
+use Rattle.std.proofs.Common.{subst, sym, arith, ◌∙◌}
 use Rattle.std.proofs.lemmas.Cmp.{nat_eq_equiv}
 use Rattle.content_tree.specs.Values.Ranges.{NumberKind}
 use Rattle.content_tree.specs.Values.Tree as tree
-use Rattle.content_tree.specs.Values.Tree.{Tree, Trees}
+use Rattle.content_tree.specs.Values.Tree.{Tree, Trees, count}
 use Rattle.content_tree.specs.Errors.Cause.{Cause}
 use Rattle.content_ser.specs.Scripts.Script.{Script}
 use Rattle.content_de.specs.Sources.Origin.{of_tree, Flags, tree_under, buffering}
 use Rattle.content_de.specs.Outcomes.{refusal_of, refusal_then}
 use Rattle.content_de.specs.Requests.Leaves.{bool_from, char_from, unit_from, text_from}
 use Rattle.content_de.specs.Requests.Numbers.{number_from}
-use Rattle.content_de.specs.Accesses.Seq.{SeqLeft, seq_at, tuple_at, items_under, count}
+use Rattle.content_de.specs.Accesses.Seq.{SeqLeft, seq_at, tuple_at, items_under}
 use Rattle.content_de.specs.Accesses.Map.{MapLeft, map_at, struct_at}
 use Rattle.content_de.specs.Reads.Attempts.{or_next}
 use Rattle.content_de.specs.Reads.Read.{Refusal}
@@ -160,7 +160,7 @@ parts_end_counts n = record { of_items = none_left n }
 one_more : {others : SeqLeft → Option Cause} {n : ℕ} (refusal : Refusal) (expected found : ℕ) → PartsCount n others → (f : Flags) (ts : Trees)
     → part_then expected found refusal others (items_under (buffering f) ts) ≡ None → count ts ≡ n + 1
 one_more refusal expected found more f tree.no_trees free = absurd (cc free)
-one_more refusal expected found more f (tree.tree_then t ts) free = ap (λ k. k + 1) (more.of_items f ts (second_free _ _ free))
+one_more refusal expected found more f (tree.tree_then t ts) free = omega (arith, more.of_items f ts (second_free _ _ free))
 
 pub part_counts : {others : SeqLeft → Option Cause} {n : ℕ} (refusal : Refusal) (expected found : ℕ) → PartsCount n others → PartsCount (n + 1) (part_then expected found refusal others)
 part_counts refusal expected found more = record { of_items = one_more refusal expected found more }

@@ -19,6 +19,7 @@ pub use Rattle.content_build.specs.Builder.{seen_of, HasTaken, AnswersNext, Answ
 pub use Rattle.content_build.specs.declared.builder.Builder.{Builder}
 pub use Rattle.content_tree.specs.Errors.Kind.{IsOutOfMemory, IsCustomOrMemory}
 pub use Rattle.content_tree.specs.Errors.Cause.{Cause}
+pub use Rattle.content_tree.specs.Errors.Where.{places, IsInside, IsNew}
 pub use Rattle.content_tree.specs.Values.Value.{trees_view, pairs_view, fields_view}
 pub use Rattle.content_tree.specs.Values.Value.{trees_of, pairs_of}
 pub use Rattle.content_ser.specs.Scripts.Script.{Script, calls_of, stop_of}

@@ -67,5 +67,5 @@ returns c =
     let events = events_of calls in
     let state = (seen_of c.loop-at.builder).state in
     let ends : length events ≤ c.loop-at.at = rw length-events c.loop-at-test.false in
-    subst (IsCutRefusal events (length calls)) (sym c.into.ensures)
+    subst (IsCutRefusal events (length calls)) (sym c.into.ensures.0)
     (rw (← length-events calls) (never_cut events c.loop-at.at ends none (viable_from_run None tt (take c.loop-at.at events) state (rw events-take at run))))

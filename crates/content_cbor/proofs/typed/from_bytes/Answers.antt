@@ -15,5 +15,5 @@ returns-in_ok-text-in-Err-Refused-clause-fault g c = λ none.
       refused.fault,
       subst (λ e. StopsAt bs e (whole_at limit bs)) refused.field-0-is refused.ensures.fault,
       subst (IsPlaced limit bs) refused.field-0-is refused.ensures.place,
-      (text.text, c.from-in-Err-Refused.ensures, text.ensures.ok),
+      (text.text, c.from-in-Err-Refused.ensures.0, text.ensures.ok),
     )

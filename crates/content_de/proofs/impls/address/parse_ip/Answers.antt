@@ -6,4 +6,4 @@ pub returns-in-Ok : goal.returns-in-Ok
 returns-in-Ok c = let written = c.in-Ok.ensures.value in (rw (written_ip _ c.in-Ok.address written) refl, written)
 
 pub returns-in-Err : goal.returns-in-Err
-returns-in-Err c = λ other. rw (not_ip _ c.in-Err.ensures.value) (ap Some (sym (c.custom.ensures other)))
+returns-in-Err c = λ other. rw (not_ip _ c.in-Err.ensures.value) (ap Some (sym (c.custom.ensures.cause other)))

@@ -6,4 +6,4 @@ pub returns-in-Ok : goal.returns-in-Ok
 returns-in-Ok c = let written = c.in-Ok.ensures.value in (rw (written_ipv4 _ _ written) refl, written)
 
 pub returns-in-Err : goal.returns-in-Err
-returns-in-Err c = λ other. rw (not_ipv4 _ c.in-Err.ensures.value) (ap Some (sym (c.custom.ensures other)))
+returns-in-Err c = λ other. rw (not_ipv4 _ c.in-Err.ensures.value) (ap Some (sym (c.custom.ensures.cause other)))
