@@ -1,7 +1,6 @@
 #!/usr/bin/env bash
-# checks/edits.sh [--gate | CRATE .. | CRATE/EDIT ..]: of each group of wrong bodies, checks/edits/CRATE/EDIT.edit, or of
-# the gate's own, crates/CRATE/must-fail/EDIT.edit, compares the functions that the check refuses with the list next to it,
-# EDIT.md. The gate counts an edit that one function refuses; this says of each function of a list that it is refused for
+# checks/edits.sh [--gate | CRATE .. | CRATE/EDIT ..]: of each group of wrong bodies, checks/edits/CRATE/EDIT.edit, compares
+# the functions that the check refuses with the list next to it, EDIT.md: each function of a list must be refused for
 # itself, and not for one that it calls. With no argument it tries all, with names of crates those of these, JOBS (or else
 # 2) crates side by side: each function is proved from the contracts of others, so groups that change other bodies of a
 # crate are tried together, and what one may hide of another is tried again apart. With --gate it tries those of

@@ -45,9 +45,8 @@ class Edit:
     """A group of wrong bodies, and the functions that the check must refuse."""
 
     def __init__(self, name):
-        self.name, (self.crate, edit) = name, name.split("/")
-        places = f"{TOP}/checks/edits/{name}", f"{TOP}/crates/{self.crate}/must-fail/{edit}"
-        file = next((it for it in places if os.path.isfile(f"{it}.edit")), places[0])
+        self.name, self.crate = name, name.split("/")[0]
+        file = f"{TOP}/checks/edits/{name}"
         if not os.path.isfile(f"{file}.md"):
             sys.exit(f"{name}: no list of what it must refuse")
         self.listed = re.findall(r"^- `(.*)`$", read(f"{file}.md"), re.M)
@@ -201,8 +200,8 @@ def chosen():
         return read(f"{TOP}/checks/edits/gate").split()
     if not TOGETHER:
         return NAMES
-    found = [*glob.glob(f"{TOP}/checks/edits/*/*.edit"), *glob.glob(f"{TOP}/crates/*/must-fail/*.md")]
-    names = [re.sub(r".*/(\w+)/(?:must-fail/)?(\w+)\.\w+$", r"\1/\2", it) for it in sorted(found)]
+    found = sorted(glob.glob(f"{TOP}/checks/edits/*/*.edit"))
+    names = [re.sub(r".*/(\w+/\w+)\.edit$", r"\1", it) for it in found]
     if unknown := set(NAMES) - {it.split("/")[0] for it in names}:
         sys.exit(f"no edits of {', '.join(sorted(unknown))}")
     return [it for it in names if not NAMES or it.split("/")[0] in NAMES]
