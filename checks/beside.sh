@@ -3,18 +3,17 @@
 # accesses) and 25,000 copies, comparisons, printed images and trees sent to a serialiser, asks the Rust crate
 # serde-content 0.1.2, whose source is in the folder CRATE, and lets crates/check_rows compare its answers with ours.
 # It prints how many are the same, how many differ as a line of docs/DIFFERENCES.md says, for each line, and how many
-# differ otherwise: the first ten of these, and status 1. It works in the folder ROOM, which it makes and keeps. It
+# differ otherwise: the first ten of these, and status 1. Some 7,000 of the lists can't be made by Serde's traits: the
+# Rust crate has no answer to them, so it counts them apart. It works in the folder ROOM, which it makes and keeps. It
 # stands outside the gate, proves nothing, needs Debian's librust-serde-dev and librust-serde-derive-dev, rsync, cargo
 # and python3, and takes four minutes.
 set -euo pipefail
 top=$(cd "$(dirname "$0")/.." && pwd)
 parts=$top/checks/beside
-crate=$(cd "$1" && pwd)
-mkdir -p "$2"
-room=$(cd "$2" && pwd)
 
 # shellcheck source=bench/common.sh
 . "$top/bench/common.sh"
+take_original "$@"
 
 python3 "$parts/cases.py" "${3:-1}" 20000 50000 > "$room/cases"
 place_original "$crate" "$parts/driver"

@@ -7,15 +7,21 @@
 # Python says. It stands outside the gate, on what `rt ci` leaves in crates/cbor_cli/out, and takes seconds.
 set -eu
 top=$(cd "$(dirname "$0")/.." && pwd)
+program=$top/crates/cbor_cli/out/cbor_cli
 room=$(mktemp -d)
 trap 'rm -rf "$room"' EXIT
 
+# shellcheck source=bench/common.sh
+. "$top/bench/common.sh"
+[ -x "$program" ] || lacks "$program" "'rt ci' builds it"
+need python3-cbor2
+
 /usr/bin/python3 "$top/checks/cbor/values.py" make "${1:-1}" 10000 "$room"
-"$top/crates/cbor_cli/out/cbor_cli" < "$room/input" > "$room/answers"
+"$program" < "$room/input" > "$room/answers"
 /usr/bin/python3 "$top/checks/cbor/values.py" compare "$room"
 /usr/bin/python3 "$top/checks/cbor/values.py" make_trees "${1:-1}" 10000 "$room"
-"$top/crates/cbor_cli/out/cbor_cli" < "$room/calls" > "$room/written"
+"$program" < "$room/calls" > "$room/written"
 /usr/bin/python3 "$top/checks/cbor/values.py" compare_trees "$room"
 /usr/bin/python3 "$top/checks/cbor/places.py" make "${1:-1}" 20000 "$room"
-"$top/crates/cbor_cli/out/cbor_cli" < "$room/damaged" > "$room/refusals"
+"$program" < "$room/damaged" > "$room/refusals"
 /usr/bin/python3 "$top/checks/cbor/places.py" compare "$room"

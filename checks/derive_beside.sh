@@ -9,16 +9,14 @@
 set -euo pipefail
 top=$(cd "$(dirname "$0")/.." && pwd)
 parts=$top/checks/derive_beside
-crate=$(cd "$1" && pwd)
-mkdir -p "$2"
-room=$(cd "$2" && pwd)
+
+# shellcheck source=bench/common.sh
+. "$top/bench/common.sh"
+take_original "$@"
 # in Rust a HashMap has another order in each run: here it is a BTreeMap
 sed 's/HashMap/BTreeMap/g' "$top/crates/check_derive/types.rs" > "$room/types.rs"
 files=("$room/types.rs" "$top"/crates/check_derive/{choices,sorts,inlined}.rs "$top"/crates/check_fields/{arrays,attributes,by_functions,converted,nested}.rs "$top/checks/serde_texts/more.rs" "$parts/others.rs")
 cases=("$room" "${3:-1}" 20000 "${files[@]}")
-
-# shellcheck source=bench/common.sh
-. "$top/bench/common.sh"
 
 place_ours derive_beside "$parts/here" 'derive_beside: content_de content_nested content_ser content_tree serde_content'
 here=$room/ours/crates/derive_beside

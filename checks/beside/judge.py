@@ -1,6 +1,8 @@
 """judge.py rows PAGE ROOM: writes the rows that crates/check_rows is asked to agree with to ROOM/rows/, from the cases
 in ROOM/cases and the Rust crate's answers to them in ROOM/answers. Each answer goes through the rules below. A rule
 stands for one line of PAGE, docs/DIFFERENCES.md: it makes of the crate's answer the one that is ours by that line.
+Lists of calls that Serde's traits can't make are no comparisons, since the crate has no answer to them. Ours must be a
+refusal at the call with which the traits can't go on.
 judge.py count ROOM: counts the rows that agree, by line, and those that differ by ROOM/said, what check_rows said, and
 ends with status 1 where there are any."""
 import re
@@ -9,7 +11,7 @@ from pathlib import Path
 
 sys.dont_write_bytecode = True
 
-from verdicts import check_page, count, lines_of, write_rows  # noqa: E402
+from verdicts import NO_ANSWER, check_page, count, lines_of, write_rows  # noqa: E402
 
 SERDE_TEXTS = {
     r"invalid length (\d+), expected a tuple of size (\d+)": r"too few elements: expected \2, found \1",
@@ -32,14 +34,9 @@ def hint(case):
     return case.instead if case.answer == "panicked: capacity overflow" else None
 
 
-def impossible(case):
-    """Calls that Serde's traits can't make."""
-    return case.instead if case.answer == "impossible" else None
-
-
-def unseen(case):
-    """Calls out of place in a value that the crate doesn't look at."""
-    return case.instead if case.answer == "unseen" else None
+def has_no_answer(case):
+    """Calls that Serde's traits can't make, or can't make in a value that the crate doesn't look at."""
+    return case.operation == "calls" and case.answer.endswith(("impossible", "unseen"))
 
 
 def ignored(case):
@@ -61,7 +58,7 @@ def lent_bytes(case):
 
 
 def coercing_name(case):
-    """An identifier in what coerces."""
+    """The flags of an identifier that comes out of what coerces."""
     if case.operation in ("ask", "access") and "c" in case.arguments[0]:
         return re.sub(r"\bh:id\(", "hc:id(", case.answer)
     return None
@@ -101,20 +98,20 @@ def serde_text(case):
 # The start of a line of docs/DIFFERENCES.md, and what it makes of an answer.
 RULES = {
     "a length hint reserves memory, and can panic": hint,
-    "compound serialisers": impossible,
-    "a map value before its key is lost unseen": unseen,
-    "`serialize_field` of tuple structs and variants; of the wrong trait it ignores the value": ignored,
-    "`tuple_variant` and `struct_variant` of a text expect a newtype": variant_of_text,
-    "an identifier borrows its owned name's bytes": lent_bytes,
-    "an identifier never coerces": coercing_name,
+    "`serialize_field` of the wrong compound serialiser ignores the value": ignored,
+    "`tuple_variant` and `struct_variant` of a text say that a newtype was expected": variant_of_text,
+    "the bytes of an identifier with an owned name are borrowed": lent_bytes,
+    "an identifier has no flag `coerce_numbers`": coercing_name,
     "`ValueVisitor` refuses enums": variant_as_value,
-    "an image escapes some characters past ASCII": letters_past_ascii,
-    "Serde's texts": serde_text,
+    "an error escapes some characters outside ASCII": letters_past_ascii,
+    "errors of Serde's own have Serde's texts": serde_text,
 }
 
 
 def judged(case):
     """Our answer, and the lines by which it isn't the crate's."""
+    if has_no_answer(case):
+        return case.instead, [NO_ANSWER]
     starts = []
     for start, rule in RULES.items():
         answer = rule(case)

@@ -1,9 +1,8 @@
 """Types of every sort and size that `tools/derive` covers, as files of Rust declarations: one file a
 type, of which the last item is the one that is tried.
 
-  python3 checks/derive/matrix.py            prints the names of all types
-  python3 checks/derive/matrix.py NAME       prints the declarations of one
-  python3 checks/derive/matrix.py --sample   prints crates/check_sample/sample.rs: one file of some
+  python3 checks/derive/matrix.py        prints the names of all types
+  python3 checks/derive/matrix.py NAME   prints the declarations of one
 """
 import re
 import sys
@@ -28,9 +27,6 @@ COLLECTED = ["BTreeSet<String>", "BTreeSet<u8>", "BTreeSet<Key>", "HashMap<Strin
              "Option<BTreeSet<char>>", "HashMap<u64, HashMap<char, (u8, i8)>>", "Vec<HashSet<Key>>", "Box<str>"]
 OWN = (f"{ALL}\npub struct Own {{ pub a: u8, pub b: String }}\n\n{ALL}\npub enum Deeper {{ A, B(Own) }}\n\n"
        f"{ALL}\npub struct Deep {{ pub own: Own, pub deeper: Vec<Deeper> }}\n\n")
-SAMPLE = """struct_mixed_12 struct_byte_9 skipped_closed_6 sent_20 read_12 place_mixed_9 adjacent_mixed_4
-untagged_4 untagged_places skipped_in_variant_2 skipped_beside_tag_2 default_whole_4 transparent_3
-names_of_fields_20 names_of_variants_40 name_of_tag_20 word_data word_in_variant_record flat""".split()
 CASES = ["lowercase", "UPPERCASE", "PascalCase", "camelCase", "snake_case", "SCREAMING_SNAKE_CASE", "kebab-case",
          "SCREAMING-KEBAB-CASE"]
 
@@ -151,6 +147,9 @@ def types() -> Dict[str, str]:
     made["flat_twice"] = (f"{ALL}\npub struct More {named(['u8', 'String', 'bool', 'i32', 'u64'])}\n\n"
                           f"{ALL}\npub struct Tried {{ #[serde(flatten)] pub own: Own, pub x: u8, #[serde(flatten)] pub more: More }}")
     made["beside_tag"] = f'{ALL}\n#[serde(tag = "kind")]\npub enum Tried {{ A(Own), B {{ x: i32 }}, C }}'
+    span = "pub struct Span { pub lo: u32, pub hi: u32 }\n\n"
+    for sort, derives in (("sent", SENT), ("copied", SENT.replace("(", "(Clone, Copy, Debug, Eq, PartialEq, ")), ("all", ALL)):
+        made[f"struct_in_variant_{sort}"] = f"{derives}\n{span}{ALL if sort == 'all' else SENT}\npub enum Tried {{ A(String, Span), B }}"
     made["defaults"] = (f"{ALL}\npub struct Tried {{ #[serde(default)] pub a: u8, #[serde(default)] pub b: String,"
                         " #[serde(default)] pub c: Vec<u8>, #[serde(default)] pub d: BTreeMap<String, u8> }")
     made["renamed"] = (f'{ALL}\npub struct Tried {{ #[serde(rename = "a b-c")] pub a: u8, #[serde(rename = "\'{{}}")] pub b: i32 }}')
@@ -766,19 +765,8 @@ def matrix() -> Dict[str, str]:
             for name, text in bodies().items()}
 
 
-def sample() -> str:
-    """One file of some types, each called as in the matrix."""
-    every = bodies()
-    called = {name: "".join(map(str.capitalize, name.split("_"))) for name in SAMPLE}
-    texts = [every[name].replace("Tried", called[name]).strip() for name in SAMPLE]
-    body = "\n\n".join(texts)
-    return HEAD.format("Types of every sort and size", imported(body)) + OWN + body + "\n"
-
-
 def main() -> None:
-    if sys.argv[1:] == ["--sample"]:
-        print(sample(), end="")
-    elif sys.argv[1:]:
+    if sys.argv[1:]:
         print(matrix()[sys.argv[1]], end="")
     else:
         print("\n".join(bodies()))

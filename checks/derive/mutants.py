@@ -1,7 +1,8 @@
 """Gives tools/derive declarations of which tokens are dropped, doubled and swapped: mutants.py TOP [SEED].
 
-Each mutant must be taken, refused or found no Rust within a second, and what isn't taken must name a line of it.
-Some of those that are taken, and the declarations of taken.rs, are modules of a crate, which must pass `rt try`."""
+Each mutant must be taken, refused or found no Rust within a second of the processor, and what isn't taken must name a
+line of it. Some of those that are taken, and the declarations of taken.rs, are modules of a crate, which must pass
+`rt try`."""
 import random
 import re
 import signal
@@ -63,7 +64,7 @@ def mutant(tokens: List[str], chance: random.Random) -> str:
 
 def outcome(source: str) -> str:
     """How a mutant ends; what should not be begins with `fault`."""
-    signal.setitimer(signal.ITIMER_REAL, 1)
+    signal.setitimer(signal.ITIMER_PROF, 1)
     try:
         module(source, "types.rs", "a", "types", True, [])
         return "taken"
@@ -77,7 +78,7 @@ def outcome(source: str) -> str:
     except Exception:
         return f"fault: {traceback.format_exc()}"
     finally:
-        signal.setitimer(signal.ITIMER_REAL, 0)
+        signal.setitimer(signal.ITIMER_PROF, 0)
 
 
 def late(*_: object) -> None:
@@ -106,7 +107,7 @@ def tried(taken: Dict[int, List[str]]) -> bool:
 def main() -> int:
     chance = random.Random(int(sys.argv[2]) if len(sys.argv) > 2 else 1)
     ends, whole, taken = Counter(), sources(), defaultdict(list)
-    signal.signal(signal.SIGALRM, late)
+    signal.signal(signal.SIGPROF, late)
     for _ in range(COUNT):
         block = chance.randrange(len(whole))
         source = mutant(whole[block], chance)

@@ -119,8 +119,8 @@ use crate::other::A;
 #[derive(Serialize)]
 struct A(u8);
 
-// 1: passed over: `type A = u8`, whose type is written in its place
-// 2: passed over: `struct B`, which derives neither Serialize nor Deserialize
+// 1: not copied: `type A = u8`, whose type is written in its place
+// 2: not copied: `struct B`, which derives neither Serialize nor Deserialize: write it in another module, if code needs it
 // 4: A: something else in this file has this name too
 // 6: B: something else in this file has this name too
 type A = u8;

@@ -243,7 +243,7 @@ struct A {
     type_: u8,
 }
 
-// 1: passed over: `struct A`, which derives neither Serialize nor Deserialize
+// 1: not copied: `struct A`, which derives neither Serialize nor Deserialize: write it in another module, if code needs it
 // 1: no struct or enum here derives Serialize or Deserialize: derive one of them
 struct A(u8);
 
@@ -286,6 +286,21 @@ use serde::Value;
 #[derive(Serialize)]
 struct A { x: Instant, y: std::path::Path, z: Option<Value>, w: std::collections::LinkedList<u8> }
 
+// 3: A.x: `serde_content::Value` is not covered: write in another file a struct around it, with its impls by hand, and hold that
+// 3: A.y: `serde_content::Value` is not covered: write in another file a struct around it, with its impls by hand, and hold that
+// 3: A.z: `serde_content::Number` is not covered: write in another file a struct around it, with its impls by hand, and hold that
+// 5: B.X.1: `serde_content::Value` is not covered: write in another file a struct around it, with its impls by hand, and hold that
+// 5: B.Y.0: `content_tree::Struct` is not covered: write in another file a struct around it, with its impls by hand, and hold that
+// 8: C: serde's `from`: `serde_content::Number` is not covered: write in another file a struct around it, with its impls by hand, and hold that
+use serde_content::{Number, Value as Tree};
+#[derive(Serialize, Deserialize)]
+struct A { x: Tree, y: Vec<serde_content::Value<'static>>, z: Option<Number> }
+#[derive(Serialize)]
+enum B<'a> { X(u8, &'a Tree<'a>), Y(content_tree::Struct<'a>) }
+#[derive(Serialize, Deserialize)]
+#[serde(from = "Number")]
+struct C(u8);
+
 // 3: A.0: `Vec` is `indexmap::Vec` here, which is not covered: import it by another name
 use indexmap::Vec;
 #[derive(Serialize)]
@@ -296,7 +311,7 @@ use crate::errors::Error;
 #[derive(Serialize)]
 struct A(Error);
 
-// 1: passed over: `struct Plain`, which derives neither Serialize nor Deserialize
+// 1: not copied: `struct Plain`, which derives neither Serialize nor Deserialize: write it in another module, if code needs it
 // 4: A.x: `Plain` derives neither Serialize nor Deserialize (line 1): derive what is derived here, or move it to a file that has its impls
 struct Plain(u8);
 #[derive(Serialize)]
@@ -304,8 +319,8 @@ struct A {
     x: Option<Plain>,
 }
 
-// 1: passed over: `type List<T> = Vec<T>`
-// 2: passed over: `type Loop = Option<Loop>`, whose type is written in its place
+// 1: not copied: `type List<T> = Vec<T>`: write it in another module, if code needs it
+// 2: not copied: `type Loop = Option<Loop>`, whose type is written in its place
 // 5: A.x: `List` is an alias that is not covered (line 1): write the type that it stands for
 // 6: A.y: the alias `Loop` stands for itself: write the type that it should stand for
 type List<T> = Vec<T>;
@@ -316,11 +331,11 @@ struct A {
     y: Loop,
 }
 
-// 1: passed over: `type A1 = (u8, u8, u8, u8)`, whose type is written in its place
-// 2: passed over: `type A2 = (A1, A1, A1, A1)`, whose type is written in its place
-// 3: passed over: `type A3 = (A2, A2, A2, A2)`, whose type is written in its place
-// 4: passed over: `type A4 = (A3, A3, A3, A3)`, whose type is written in its place
-// 5: passed over: `type A5 = (A4, A4, A4, A4)`, whose type is written in its place
+// 1: not copied: `type A1 = (u8, u8, u8, u8)`, whose type is written in its place
+// 2: not copied: `type A2 = (A1, A1, A1, A1)`, whose type is written in its place
+// 3: not copied: `type A3 = (A2, A2, A2, A2)`, whose type is written in its place
+// 4: not copied: `type A4 = (A3, A3, A3, A3)`, whose type is written in its place
+// 5: not copied: `type A5 = (A4, A4, A4, A4)`, whose type is written in its place
 // 7: A.0: a type of more than 48 levels or 500 parts is not covered: divide it into structs
 type A1 = (u8, u8, u8, u8);
 type A2 = (A1, A1, A1, A1);
@@ -447,7 +462,7 @@ use crate::other::Bool as Other;
 #[derive(Serialize)]
 struct A(Other);
 
-// 5: passed over: `struct B`, which derives neither Serialize nor Deserialize
+// 5: not copied: `struct B`, which derives neither Serialize nor Deserialize: write it in another module, if code needs it
 // 2: A: `#[cfg(feature = "x")]` is not covered, as the module is written once for all: delete it, or move what it is about to a file of its own
 #[derive(Serialize)]
 #[cfg(feature = "x")]
@@ -455,8 +470,8 @@ struct A(u8);
 #[cfg(feature = "x")]
 struct B(u8);
 
+// 3: passed over: `bound = "x"`, as each impl has the bounds that it needs
 // 2: A: serde's `remote` on a container is not covered: only your own types are sent: declare one like it, and convert it by hand
-// 3: A: serde's `bound` on a container is not covered: each impl has the bounds that it needs: delete it
 #[derive(Serialize)]
 #[serde(remote = "B")]
 #[serde(bound = "x")]
@@ -493,7 +508,7 @@ enum A { X }
 #[serde(tag = "a", content = "\0")]
 enum B { X }
 
-// 7: passed over: `impl std::fmt::Debug for C`
+// 7: not copied: `impl std::fmt::Debug for C`: write it in another module, if code needs it
 // 4: B.0: `A` does not derive Hash, as what holds it does: derive it there too
 // 4: B.0: `A` does not derive Debug, as what holds it does: derive it there too
 #[derive(Serialize, Deserialize, PartialEq, Eq)]
@@ -520,9 +535,9 @@ struct A { y: y, z: z }
 #[derive(Serialize)]
 struct z { x: u8 }
 
-// 3: passed over: `mod inner`
-// 2: A.0: `inner` is a module that is passed over (line 3): import the type by its path from `crate`
-// 2: A.1: `inner` is a module that is passed over (line 3): import the type by its path from `crate`
+// 3: not copied: `mod inner`: write it in another module, if code needs it
+// 2: A.0: `inner` is a module that is not copied (line 3): import the type by its path from `crate`
+// 2: A.1: `inner` is a module that is not copied (line 3): import the type by its path from `crate`
 #[derive(Serialize)]
 struct A(inner::B, Option<inner::deep::C>);
 mod inner { #[derive(Serialize)] pub struct B(u8); }
@@ -553,8 +568,8 @@ use crate::other::S;
 #[derive(Serialize)]
 enum A { X(S, u8, u8) }
 
-// 1: passed over: `struct String`, which derives neither Serialize nor Deserialize
-// 2: passed over: `type Vec<T> = other::Vec<T>`
+// 1: not copied: `struct String`, which derives neither Serialize nor Deserialize: write it in another module, if code needs it
+// 2: not copied: `type Vec<T> = other::Vec<T>`: write it in another module, if code needs it
 // 4: A.x: `String` derives neither Serialize nor Deserialize (line 1): derive what is derived here, or move it to a file that has its impls
 // 4: A.y: `Vec` is an alias that is not covered (line 2): write the type that it stands for
 struct String(u64);
@@ -751,12 +766,12 @@ struct D { #[serde(flatten)] c: Option<C>, #[serde(flatten)] a: A, #[serde(flatt
 #[derive(Serialize)]
 enum E { Y, #[serde(rename = "Y")] X(u8, #[serde(default)] u8), Z { b: u8, #[serde(rename = "b")] a: u8 }, U(#[serde(skip_serializing_if = "f")] u8) }
 
-// 4: A: serde's `crate` on a container is not covered: what is written uses `serde_content`: delete it
-// 5: A: serde's `expecting` on a container is not covered: refusals have a text of their own: delete it
+// 4: passed over: `crate = "serde"`, as what is written uses `serde_content`
+// 5: passed over: `expecting = "an A"`, as refusals have a text of their own
+// 10: passed over: `borrow`, as what is read is owned
 // 6: A: serde's `rename_all` so is not covered: write `rename_all = ".."`
 // 7: A: serde's `deny_unknown_fields` so is not covered: write `deny_unknown_fields` alone
 // 9: A.x: `f` is no function of another module: move it there, and name it from `crate` on
-// 10: A.y: serde's `borrow` on a field is not covered: values are owned: delete it
 // 10: A.y: serde's `rename_all` on a field is not covered: it is for a container or a variant
 // 11: A.z: serde's `renam` on a field is not covered: delete it, or write the impls by hand
 // 12: A.u: a type that begins with `fn` is not covered: write an enum of the functions that it may be
@@ -804,7 +819,7 @@ struct A { x: LinkedList<u8> }
 #[derive(Serialize)]
 struct B(A);
 
-// 5: passed over: `struct A`, which derives neither Serialize nor Deserialize
+// 5: not copied: `struct A`, which derives neither Serialize nor Deserialize: write it in another module, if code needs it
 // 2: A: `#[cfg(x)]` is not covered, as the module is written once for all: delete it, or move what it is about to a file of its own
 #[derive(Serialize)]
 #[cfg(x)]
@@ -812,9 +827,9 @@ struct A(u8);
 #[cfg(not(x))]
 struct A(f64);
 
-// 2: passed over: `type A = u8`, whose type is written in its place
-// 4: passed over: `type A = u16`, whose type is written in its place
-// 12: passed over: `type C = u8`, whose type is written in its place
+// 2: not copied: `type A = u8`, whose type is written in its place
+// 4: not copied: `type A = u16`, whose type is written in its place
+// 12: not copied: `type C = u8`, whose type is written in its place
 // 14: D.0: `A` stands for two things here (lines 2 and 4): keep one
 // 14: D.1: `B` stands for two things here (lines 6 and 8): keep one
 // 14: D.2: `C` stands for two things here (lines 10 and 12): keep one
@@ -833,12 +848,12 @@ type C = u8;
 #[derive(Serialize)]
 struct D(A, B, C);
 
-// 5: passed over: `mod inner`
+// 5: not copied: `mod inner`: write it in another module, if code needs it
 // 7: A.3: a type that begins with `Self::` is not covered: write the type itself
 // 7: A.0: `super::super::B` is outside of this crate: name the type from `crate` on
 // 7: A.1: `other` is no module that this file has: name the type from `crate` on
 // 7: A.2: `other` is no module that this file has: name the type from `crate` on
-// 7: A.4: `inner` is a module that is passed over (line 5): import the type by its path from `crate`
+// 7: A.4: `inner` is a module that is not copied (line 5): import the type by its path from `crate`
 // 7: A.5: `D` stands for itself: name the type from `crate` on
 use super::types::other::B;
 use inner::C;
@@ -848,8 +863,8 @@ mod inner;
 #[derive(Serialize)]
 struct A(super::super::B, self::other::B, B, Self::B, C, D);
 
-// 3: passed over: `fn f`
-// 4: passed over: `fn f`
+// 3: not copied: `fn f`: write it in another module, if code needs it
+// 4: not copied: `fn f`: write it in another module, if code needs it
 // 2: A.x: its default is not covered: write in this file one function `f` that gives one value, such as `8080`, `"text".to_owned()`, `Vec::new()` or a variant of an enum of this file, or name one of another module from `crate` on
 // 2: A.y: two are called `x`: give one another name
 #[derive(Serialize, Deserialize)]
@@ -943,7 +958,7 @@ struct F { #[serde(with = "crate::rules", serialize_with = "crate::rules::f")] x
 struct G { x: Option<Box<G>>, #[serde(serialize_with = "crate::rules::f")] y: u8 }
 
 // 1: passed over: `use crate::rules::*`
-// 7: passed over: `fn here`
+// 7: not copied: `fn here`: write it in another module, if code needs it
 // 4: A.x: `any` is no function of another module: move it there, and name it from `crate` on
 // 4: A.y: `here` is no function of another module: move it there, and name it from `crate` on
 // 4: A.z: `String::from` so is not covered: name a function of another module, from `crate` on
@@ -959,10 +974,10 @@ struct A { #[serde(deserialize_with = "any")] x: u8, #[serde(deserialize_with = 
     #[serde(deserialize_with = "Thing::read")] t: u8 }
 fn here() {}
 
-// 3: passed over: `mod rules`
-// 6: passed over: `fn small`
+// 3: not copied: `mod rules`: write it in another module, if code needs it
+// 6: not copied: `fn small`: write it in another module, if code needs it
 // 2: A.z: its default is not covered: write in this file a function `any` that gives one value, such as `8080`, `"text".to_owned()`, `Vec::new()` or a variant of an enum of this file, or name one of another module from `crate` on
-// 2: A.x: `rules` is a module that is passed over (line 3): move the function to another module, and name it from `crate` on
+// 2: A.x: `rules` is a module that is not copied (line 3): move the function to another module, and name it from `crate` on
 // 2: A.y: `crate::types::small` is no function of another module: move it there, and name it from `crate` on
 #[derive(Serialize, Deserialize)]
 struct A { #[serde(default = "rules::one")] x: u8, #[serde(skip_serializing_if = "crate::types::small")] y: u8, #[serde(default = "any")] z: u8 }
@@ -1144,12 +1159,12 @@ struct A {
     g: std::cell::RefCell<u8>,
 }
 
-// 2: A: serde's `bound` on a container is not covered: each impl has the bounds that it needs: delete it
-// 2: A: serde's `crate` on a container is not covered: what is written uses `serde_content`: delete it
+// 2: passed over: `bound(serialize = "", deserialize = "")`, as each impl has the bounds that it needs
+// 2: passed over: `crate = "serde"`, as what is written uses `serde_content`
+// 4: passed over: `borrow`, as what is read is owned
 // 2: A: serde's `rename_all` knows no case `Camel`: it has lowercase, UPPERCASE, PascalCase, camelCase, snake_case, SCREAMING_SNAKE_CASE, kebab-case, SCREAMING-KEBAB-CASE
 // 3: A: a default of a parameter is not covered: delete that of `T`, and write it where you use the type
 // 4: A.a: serde's `getter` on a field is not covered: only your own types are sent: declare one like it, and convert it by hand
-// 4: A.a: serde's `borrow` on a field is not covered: values are owned: delete it
 // 5: A.b: a type that begins with `dyn` is not covered: write an enum of the types that it may be
 #[derive(Serialize)]
 #[serde(bound(serialize = "", deserialize = ""), crate = "serde", rename_all = "Camel")]
@@ -1198,8 +1213,8 @@ struct A {
     #[serde(deserialize_with = "self::hex")] e: u8,
 }
 
-// 14: passed over: `struct Plain`, which derives neither Serialize nor Deserialize
-// 17: passed over: `type Alias = Plain`, whose type is written in its place
+// 14: not copied: `struct Plain`, which derives neither Serialize nor Deserialize: write it in another module, if code needs it
+// 17: not copied: `type Alias = Plain`, whose type is written in its place
 // 3: A.a: `Plain` derives neither Serialize nor Deserialize (line 14), so that the module doesn't have it: move it to another file, and name it by its path, as `crate::other::Plain`, or import it by `use`
 // 4: A.b: `Plain` derives neither Serialize nor Deserialize (line 14): derive what is derived here, or move it to a file that has its impls
 // 5: A.c: the type `Unknown` is not known here: name it by its path, as `crate::other::Unknown`, or import it by `use`
@@ -1539,8 +1554,8 @@ struct A {
     y: HashSet<Duration>,
 }
 
-// 7: passed over: `fn long`
-// 8: passed over: `fn big`
+// 7: not copied: `fn long`: write it in another module, if code needs it
+// 8: not copied: `fn big`: write it in another module, if code needs it
 // 4: A.x: its default is not covered, as `long` has `Duration::from_secs_f64(1.5)`: write there one value, such as `8080`, `"text".to_owned()`, `Vec::new()` or a variant of an enum of this file, or name one of another module from `crate` on
 // 5: A.y: its default is not covered, as `big` has `Duration::from_secs(18446744073709551616)`: write there one value, such as `8080`, `"text".to_owned()`, `Vec::new()` or a variant of an enum of this file, or name one of another module from `crate` on
 use std::time::Duration;
@@ -1598,9 +1613,9 @@ struct A { #[serde(rename = "")] x: u8 }
 #[derive(Serialize, Deserialize)]
 enum B { #[serde(rename(serialize = ""))] X, Y }
 
-// 4: passed over: `const N`
-// 6: passed over: `const N`
-// 7: passed over: `fn f`
+// 4: not copied: `const N`: write it in another module, if code needs it
+// 6: not copied: `const N`: write it in another module, if code needs it
+// 7: not copied: `fn f`: write it in another module, if code needs it
 // 2: A.x: its default is not covered, as `f` has `N`: write there one value, such as `8080`, `"text".to_owned()`, `Vec::new()` or a variant of an enum of this file, or name one of another module from `crate` on
 #[derive(Deserialize)]
 struct A { #[serde(default = "f")] x: u8 }
@@ -1610,7 +1625,7 @@ const N: u8 = 1;
 const N: u8 = 2;
 fn f() -> u8 { N }
 
-// 5: passed over: `fn is_off`
+// 5: not copied: `fn is_off`, but what it gives is written where an attribute asks for it
 // 4: A.x: `is_off` compares a `Mode`, which does not derive PartialEq: derive it there
 #[derive(Serialize)]
 enum Mode { Off, On }
@@ -1669,7 +1684,7 @@ struct F { #[serde(flatten)] x: Box<Unit> }
 #[serde(transparent)]
 struct Unit;
 
-// 3: passed over: `fn some`
+// 3: not copied: `fn some`: write it in another module, if code needs it
 // 2: A.d: `Option` has 0 arguments here, and needs 1: write what it holds
 // 2: A.e: `HashMap<u8>` has 1 arguments here, and needs 2: write what it holds
 #[derive(Deserialize)]
@@ -1689,23 +1704,23 @@ struct A(u8, Option);
 #[derive(Deserialize)]
 struct A { x: HashMap<String, u8, ahash::RandomState>, y: HashSet<u8, S>, z: Vec<u8, Global> }
 
-// 3: passed over: `mod date_format`
-// 4: passed over: `mod defaults`
-// 2: A.v: `date_format` is a module that is passed over (line 3): import the type by its path from `crate`
-// 2: A.x: `date_format` is a module that is passed over (line 3): move the function to another module, and name it from `crate` on
-// 2: A.y: `defaults` is a module that is passed over (line 4): move the function to another module, and name it from `crate` on
-// 2: A.z: `defaults` is a module that is passed over (line 4): move the function to another module, and name it from `crate` on
+// 3: not copied: `mod date_format`: write it in another module, if code needs it
+// 4: not copied: `mod defaults`: write it in another module, if code needs it
+// 2: A.v: `date_format` is a module that is not copied (line 3): import the type by its path from `crate`
+// 2: A.x: `date_format` is a module that is not copied (line 3): move the function to another module, and name it from `crate` on
+// 2: A.y: `defaults` is a module that is not copied (line 4): move the function to another module, and name it from `crate` on
+// 2: A.z: `defaults` is a module that is not copied (line 4): move the function to another module, and name it from `crate` on
 #[derive(Serialize, Deserialize)]
 struct A { #[serde(with = "date_format")] x: u8, #[serde(default = "defaults::port")] y: u8, #[serde(skip_serializing_if = "defaults::none")] z: u8, v: date_format::T }
 mod date_format { pub fn deserialize() {} }
 mod defaults;
 
-// 4: passed over: `impl Default for A`
-// 9: passed over: `fn default_port`
-// 17: passed over: `impl Default for B`
-// 21: passed over: `impl Default for C`
-// 31: passed over: `fn two`
-// 35: passed over: `fn one`
+// 4: not copied: `impl Default for A`, but what it gives is written where an attribute asks for it
+// 9: not copied: `fn default_port`: write it in another module, if code needs it
+// 17: not copied: `impl Default for B`: write it in another module, if code needs it
+// 21: not copied: `impl Default for C`: write it in another module, if code needs it
+// 31: not copied: `fn two`: write it in another module, if code needs it
+// 35: not copied: `fn one`, but what it gives is written where an attribute asks for it
 // 3: A.port: its default is not covered, as `A::default` has `default_port()`: write there one value, such as `8080`, `"text".to_owned()`, `Vec::new()` or a variant of an enum of this file, or above the field `default = ".."` with the path of a function of another module
 // 3: A.level: its default is not covered, as `A::default` has `Level::default()`: write there one value, such as `8080`, `"text".to_owned()`, `Vec::new()` or a variant of an enum of this file, or above the field `default = ".."` with the path of a function of another module
 // 3: A.n: its default is not covered, as `A::default` has `N{x: 1}`: write there one value, such as `8080`, `"text".to_owned()`, `Vec::new()` or a variant of an enum of this file, or above the field `default = ".."` with the path of a function of another module
@@ -1761,7 +1776,7 @@ enum B { #[default] X, Y }
 #[serde(default = "Default::default")]
 struct C { x: u8 }
 
-// 3: passed over: `fn three`
+// 3: not copied: `fn three`: write it in another module, if code needs it
 // 2: A.x: `std::vec::Vec::with` is not covered as a default of `Vec<u8>`: write in this file a function that gives one value, such as `8080`, `"text".to_owned()`, `Vec::new()` or a variant of an enum of this file, or name one of another module from `crate` on
 // 2: A.y: `std::collections::BTreeMap::new` is not covered as a default of `HashMap<u8, u8>`: write in this file a function that gives one value, such as `8080`, `"text".to_owned()`, `Vec::new()` or a variant of an enum of this file, or name one of another module from `crate` on
 // 2: A.z: its default is not covered, as `three` has `return 1; return 2;`: write there one value, such as `8080`, `"text".to_owned()`, `Vec::new()` or a variant of an enum of this file, or name one of another module from `crate` on
@@ -1807,7 +1822,7 @@ struct F;
 #[derive(Deserialize)]
 struct G { #[serde(rename = "a\nb")] x: u8, #[serde(rename = "")] y: u8, #[serde(default, default)] z: u8 }
 
-// 4: passed over: `impl<T> Default for A<T>`
+// 4: not copied: `impl<T> Default for A<T>`: write it in another module, if code needs it
 // 3: A: serde's `default` on a container is covered where it derives Default, as an impl on a type with parameters is not read: derive that, or write `default` on each field
 #[derive(Deserialize)]
 #[serde(default)]
@@ -1837,9 +1852,9 @@ struct D(u8);
 #[derive(Serialize, Clone, Copy)]
 struct A { x: BTreeMap<Box<str>, u8>, y: Vec<Box<str>> }
 
-// 3: passed over: `fn f`
-// 4: passed over: `fn g`
-// 8: passed over: `fn h`
+// 3: not copied: `fn f`: write it in another module, if code needs it
+// 4: not copied: `fn g`: write it in another module, if code needs it
+// 8: not copied: `fn h`: write it in another module, if code needs it
 // 2: A.x: its default is not covered, as `f` has parameters: write there one value, such as `8080`, `"text".to_owned()`, `Vec::new()` or a variant of an enum of this file, or name one of another module from `crate` on
 // 2: A.y: its default is not covered: write in this file one function `g` that gives one value, such as `8080`, `"text".to_owned()`, `Vec::new()` or a variant of an enum of this file, or name one of another module from `crate` on
 // 7: B: its default is not covered, as `h` has parameters: write there `B { .. }` with one value for each field, such as `8080`, `"text".to_owned()`, `Vec::new()` or a variant of an enum of this file
@@ -1875,3 +1890,15 @@ enum A { X { a: Option<Box<A>>, b: Box<HashSet<u8>> }, Y { b: HashSet<u8>, a: Op
 #[derive(Serialize, Deserialize)]
 #[serde(tag = "t")]
 enum A { X { x: Vec<A> }, Y { a: Option<HashSet<u8>>, b: HashSet<u8> }, W { a: HashMap<u8, u8>, b: String } }
+
+// 3: passed over: `borrow`, as what is read is owned
+// 2: A: serde's `borrow` on a container is not covered: it is for a variant or a field
+// 3: A.x: what is borrowed is covered where it is only sent: hold the value itself, as String for &str
+// 6: B.X.x: serde's `crate` on a field is not covered: it is for a container
+// 6: B.X: serde's `expecting` on a variant is not covered: it is for a container
+#[derive(Deserialize)]
+#[serde(borrow)]
+struct A<'a> { #[serde(borrow)] x: &'a str }
+#[derive(Serialize)]
+#[serde(untagged)]
+enum B { #[serde(expecting = "an X")] X { #[serde(crate = "serde")] x: u8 } }

@@ -19,32 +19,32 @@ enum A {
     Z { x: u8 } = (3 < 4) as isize,
 }
 
-// 7: passed over: `pub use std::fmt::{self, Display}`, but for what it brings into this file
+// 7: not copied: `pub use std::fmt::{self, Display}`, but for what it brings into this file
 // 8: passed over: `use super::other::*`
-// 11: passed over: `const N`
-// 12: passed over: `static mut S`
-// 13: passed over: `extern crate alloc`
-// 14: passed over: `extern "C"`
-// 15: passed over: `pub(crate) const unsafe extern "C" fn g`
-// 16: passed over: `mod x`
-// 18: passed over: `mod tests`
-// 19: passed over: `trait T`
-// 20: passed over: `macro_rules! m`
-// 21: passed over: `m!`
-// 22: passed over: `std::thread_local!`
-// 24: passed over: `pub enum Plain`, which derives neither Serialize nor Deserialize
-// 26: passed over: `struct Other`, which derives neither Serialize nor Deserialize
-// 27: passed over: `type Id = (u8, Alias)`, whose type is written in its place
-// 28: passed over: `type Alias = Option<Vec<u32>>`, whose type is written in its place
+// 11: not copied: `const N`: write it in another module, if code needs it
+// 12: not copied: `static mut S`: write it in another module, if code needs it
+// 13: not copied: `extern crate alloc`: write it in another module, if code needs it
+// 14: not copied: `extern "C"`: write it in another module, if code needs it
+// 15: not copied: `pub(crate) const unsafe extern "C" fn g`: write it in another module, if code needs it
+// 16: not copied: `mod x`: write it in another module, if code needs it
+// 18: not copied: `mod tests`: write it in another module, if code needs it
+// 19: not copied: `trait T`: write it in another module, if code needs it
+// 20: not copied: `macro_rules! m`: write it in another module, if code needs it
+// 21: not copied: `m!`: write it in another module, if code needs it
+// 22: not copied: `std::thread_local!`: write it in another module, if code needs it
+// 24: not copied: `pub enum Plain`, which derives neither Serialize nor Deserialize: write it in another module, if code needs it
+// 26: not copied: `struct Other`, which derives neither Serialize nor Deserialize: write it in another module, if code needs it
+// 27: not copied: `type Id = (u8, Alias)`, whose type is written in its place
+// 28: not copied: `type Alias = Option<Vec<u32>>`, whose type is written in its place
 // 30: left out: `#[must_use]`
 // 31: left out: `#[non_exhaustive]`
 // 33: left out: `#[deprecated = "old"]`
 // 44: of another file: `Thing`, which needs Serialize, Deserialize, PartialEq, Eq, Clone, Debug, RoundTrip, CborRoundTrip; delete Eq here if it has no RoundTrip
 // 45: of another file: `other::Inner`, which needs Serialize, Deserialize, PartialEq, Eq, Clone, Debug, RoundTrip, CborRoundTrip; delete Eq here if it has no RoundTrip
 // 46: of another file: `Drei`, which needs Serialize, Deserialize, PartialEq, Eq, Clone, Debug, RoundTrip, CborRoundTrip; delete Eq here if it has no RoundTrip
-// 48: passed over: `impl fmt::Display for A`
-// 49: passed over: `impl<'a> From<&'a str> for A`
-// 50: passed over: `unsafe impl Send for A`
+// 48: not copied: `impl fmt::Display for A`: write it in another module, if code needs it
+// 49: not copied: `impl<'a> From<&'a str> for A`: write it in another module, if code needs it
+// 50: not copied: `unsafe impl Send for A`: write it in another module, if code needs it
 // + //! A whole file. //! With documentation. //! //! Written by
 // + use crate::other; use crate::other::Thing; use crate::other::deep::Third as Drei;
 // - fmt
@@ -199,7 +199,7 @@ enum Same { A { x: i8 }, B }
 #[derive(Serialize, Deserialize, PartialEq, Eq)]
 struct TheSame { a: u8, b: u8, c: u8 }
 
-// 9: passed over: `impl Default for D`
+// 9: not copied: `impl Default for D`: write it in another module, if code needs it
 #[derive(Clone, Copy, Default, Hash, Debug, PartialEq, Eq, PartialOrd, Ord, Serialize, Deserialize)]
 struct A { x: Option<u8>, y: (u8, char), z: (), b: B }
 #[derive(Clone, Copy, Default, Hash, Debug, PartialEq, Eq, PartialOrd, Ord, Serialize, Deserialize)]
@@ -230,7 +230,7 @@ struct A { Upper: u8, Global: u8, low: u8, read_a_from_3: u8, upper_field: Upper
 #[derive(Deserialize)]
 struct Upper;
 
-// 6: passed over: `type Number = u8`, whose type is written in its place
+// 6: not copied: `type Number = u8`, whose type is written in its place
 // + x: B, y: B, z: B, w: u8,
 use self::B as Other;
 #[derive(Serialize)]
@@ -287,7 +287,7 @@ use crate::r#type::C;
 #[derive(Debug, Serialize, Deserialize)]
 struct A(u8);
 
-// 1: passed over: `fn f`
+// 1: not copied: `fn f`: write it in another module, if code needs it
 // + struct A(u8, u8, BTreeMap<u8, u8>);
 #[unsafe(no_mangle)] fn f() {}
 #[derive(Serialize)]
@@ -453,11 +453,11 @@ enum A { X { q: String }, #[default] Y }
 #[derive(PartialEq, Eq, Serialize, Deserialize)]
 enum B { Z { #[serde(default)] a: A, b: i8 } }
 
-// 3: passed over: `impl<const N: usize> T<{N}> for A`
-// 4: passed over: `fn f`
-// 5: passed over: `crate::m!`
-// 6: passed over: `const _`
-// 7: passed over: `extern crate self`
+// 3: not copied: `impl<const N: usize> T<{N}> for A`: write it in another module, if code needs it
+// 4: not copied: `fn f`: write it in another module, if code needs it
+// 5: not copied: `crate::m!`: write it in another module, if code needs it
+// 6: not copied: `const _`: write it in another module, if code needs it
+// 7: not copied: `extern crate self`: write it in another module, if code needs it
 #[derive(Serialize)]
 struct A;
 impl<const N: usize> T<{ N }> for A where A: B<{ 3 }>, {}
@@ -494,10 +494,10 @@ struct B;
 
 // 1: passed over: `use serde::Deserialize`
 // 2: passed over: `use std::fmt::Write as _`
-// 3: passed over: `pub use std::fmt`, but for what it brings into this file
+// 3: not copied: `pub use std::fmt`, but for what it brings into this file
 // 4: passed over: `use crate::other`
 // 6: passed over: `use crate::other::Inner as Other`
-// 8: passed over: `type Number = Short`, whose type is written in its place
+// 8: not copied: `type Number = Short`, whose type is written in its place
 // 10: of another file: `Thing`, which needs Serialize
 use serde::{self, Deserialize};
 use std::{fmt::{Write as _}, string::String as Text};
@@ -575,13 +575,13 @@ struct A { #[serde(skip_serializing_if = "String::is_empty")] x: String, y: u8 }
 #[derive(PartialEq, Eq, Serialize, Deserialize)]
 #[serde(tag = "t")] enum B { A(A), C }
 
-// 13: passed over: `const HOUR`
-// 14: passed over: `impl A`
-// 15: passed over: `fn is_hour`
-// 16: passed over: `fn five`
-// 17: passed over: `mod inner`
-// 18: passed over: `fn some`
-// 19: passed over: `fn low`
+// 13: not copied: `const HOUR`: write it in another module, if code needs it
+// 14: not copied: `impl A`, but what it gives is written where an attribute asks for it
+// 15: not copied: `fn is_hour`, but what it gives is written where an attribute asks for it
+// 16: not copied: `fn five`, but what it gives is written where an attribute asks for it
+// 17: not copied: `mod inner`, but what it gives is written where an attribute asks for it
+// 18: not copied: `fn some`, but what it gives is written where an attribute asks for it
+// 19: not copied: `fn low`, but what it gives is written where an attribute asks for it
 // + is_default = { λ x. x ≡ 3600 }
 // + is_skipped = { λ x. (nat_eq x (3600)) }
 // + is_default = { λ x. x ≡ negsuc 4 }
@@ -610,7 +610,7 @@ mod inner { pub fn text() -> String { String::from("a b") } }
 fn some() -> Option<u8> { Some(0x10) }
 fn low() -> Level { Level::Low }
 
-// 4: passed over: `impl Default for A`
+// 4: not copied: `impl Default for A`, but what it gives is written where an attribute asks for it
 // + is_default = { λ x. x ≡ 7 }
 // + ReadFieldOr<FieldsOfA, 1, String
 // - impl Absent
@@ -661,7 +661,7 @@ struct B { #[serde(skip)] x: u8 }
 #[serde(untagged)]
 enum C { X(u8), #[serde(skip_deserializing)] Y(String), #[serde(skip_serializing)] Z(String, u8) }
 
-// 7: passed over: `fn five`
+// 7: not copied: `fn five`, but what it gives is written where an attribute asks for it
 // + impl Absent for B
 // + let b: B = Absent::absent(alloc);
 // + let c: u8 = 5;
@@ -759,10 +759,10 @@ struct B { x: (u8, Box<u8>) }
 #[derive(Serialize, Default)]
 struct C { x: String, b: B }
 
-// 5: passed over: `impl Default for E`
-// 8: passed over: `impl Default for F`
+// 5: not copied: `impl Default for E`, but what it gives is written where an attribute asks for it
+// 8: not copied: `impl Default for F`, but what it gives is written where an attribute asks for it
 // 10: to be written by hand: the impl of `Absent` for `D`, as its impl of `Default` is more than one value
-// 11: passed over: `impl Default for D`
+// 11: not copied: `impl Default for D`: write it in another module, if code needs it
 // + elim x [ | the_e.X ↦ ⊥ | the_e.Y x1 ↦ x1.items ≡ [] ]
 // + ghost is_absent = { λ x. x.a ≡ 5 × string_bytes x.b ≡ [] };
 // - impl Absent for D
@@ -844,7 +844,7 @@ struct D { #[serde(with = "crate::rules")] x: u8 }
 // + is_skipped = { λ x. (⟦<Level as PartialEq>⟧.eq x level.Low) }
 // + *value == Level::Low
 // + RoundTrip
-// 5: passed over: `mod level`
+// 5: not copied: `mod level`, but what it gives is written where an attribute asks for it
 #[derive(PartialEq, Eq, Serialize, Deserialize)]
 struct A { #[serde(default = "level::usual", skip_serializing_if = "level::is_usual")] level: Level }
 #[derive(PartialEq, Eq, Serialize, Deserialize)]
@@ -869,6 +869,14 @@ pub struct Part<'a>(&'a str, &'static str);
 #[derive(Serialize)]
 pub struct A<'a> { #[serde(skip_serializing_if = "<[_]>::is_empty")] pub x: &'a [u8], pub y: Vec<&'a [&'static str]> }
 
+// + Token::Ident(x1, x2) => send_whole_token_ident(alloc, serializer, self, x1, x2),
+// + Token::At { of } => send_whole_token_at(alloc, serializer, self, of),
+// - send_whole_token_only
+#[derive(Serialize)]
+pub struct Span { pub lo: u32, pub hi: u32 }
+#[derive(Serialize)]
+pub enum Token { Ident(String, Span), At { of: Span }, Only(Span), Eof }
+
 // + struct From1OfAX(String, Option<u8>, i16, String, u8);
 // + impl serde_content::derive_support::MadeFrom<From1OfAX> for A
 // + fn send_told_a_x<S: Serializer>(alloc: Global, serializer: &mut S, a: &String, b: &Option<u8>, c: &i16) -> Result<()>
@@ -886,7 +894,7 @@ enum B { Y(u8, (Vec<i8>, Option<(bool, char)>, BTreeMap<u8, String>)) }
 // + | a.G x1 x2 ↦ unsent_script (codes "the enum variant A::G cannot be serialized")
 // + let b: f64 = Default::default(); let c: E = Absent::absent(alloc);
 // + elim x [ | the_e.X ↦ ⊥ | the_e.Y x1 ↦ x1 ≡ 4 ]
-// 9: passed over: `impl Default for E`
+// 9: not copied: `impl Default for E`, but what it gives is written where an attribute asks for it
 #[derive(Serialize, Deserialize)]
 #[serde(tag = "t", content = "c")]
 enum A {
@@ -1312,7 +1320,7 @@ pub struct C { x: Option<u8>, y: String }
 // 6: called: `Level::to_sent`, which needs the contract `pub fn to_sent(&self, alloc: Global) -> Result<String, AllocError> ensures { IfOk result (λ y. string_bytes y ≡ level_into self.now) }`, by the definition `level_into` of `Rattle.a.specs.Types`, of the type `Level → List ℕ`
 // 6: called: `impl TryFrom<u16> for Level`, which needs `ghost try_from_gives = { λ x r. MatchResult r (λ y. level_refusal (pos x) ≡ None) (λ e. IsSomeAnd (⟦<E as Display>⟧.output e) (λ t. level_refusal (pos x) ≡ Some t)) }`, where `E` is its `Error`, by the definition `level_refusal` of `Rattle.a.specs.Types`, of the type `ℤ → Option (List ℕ)`
 // 9: called: `impl From<String> for B`, of whose value contracts know what its `from_gives` says
-// 10: passed over: `type Text = String`, whose type is written in its place
+// 10: not copied: `type Text = String`, whose type is written in its place
 // 13: called: `impl TryFrom<bool> for D`, which needs `ghost try_from_gives = { λ x r. MatchResult r (λ y. d_refusal x ≡ None) (λ e. IsSomeAnd (⟦<E as Display>⟧.output e) (λ t. d_refusal x ≡ Some t)) }`, where `E` is its `Error`, by the definition `d_refusal` of `Rattle.a.specs.Types`, of the type `Bool → Option (List ℕ)`
 // + (refusal_then (number_from kind.u16 s) (λ v. option_map custom (types_said.level_refusal v))) };
 // + (refusal_then (bool_from s.origin) (λ v. option_map custom (types_said.d_refusal v))) };
@@ -1358,9 +1366,9 @@ struct A { a: [u8; 1_0], b: [u8; 0b11], c: [u8; 0o2_0usize], d: [[u8; 0x_1F]; 01
 #[serde(into = "u8")]
 pub enum types_said { X }
 
-// 2: passed over: `type Pause = core::time::Duration`, whose type is written in its place
+// 2: not copied: `type Pause = core::time::Duration`, whose type is written in its place
 // 4: no RoundTrip is written for `A`: `pause` holds a Duration, and std's contracts don't tell which are equal
-// 8: passed over: `fn none`
+// 8: not copied: `fn none`, but what it gives is written where an attribute asks for it
 // 10: no RoundTrip is written for `B`: `A`, which it holds, does not come back
 // 13: no RoundTrip is written for `C`: `0` holds a Duration, and std's contracts don't tell which are equal
 // 15: no RoundTrip is written for `D`: `x` is not sent
@@ -1393,10 +1401,10 @@ pub struct D { #[serde(skip)] x: Duration, y: u8 }
 #[serde(default)]
 pub struct E { x: Duration, y: u8 }
 
-// 1: passed over: `const PAUSE`
-// 3: passed over: `impl Default for A`
-// 9: passed over: `fn pause`
-// 10: passed over: `fn few`
+// 1: not copied: `const PAUSE`: write it in another module, if code needs it
+// 3: not copied: `impl Default for A`, but what it gives is written where an attribute asks for it
+// 9: not copied: `fn pause`, but what it gives is written where an attribute asks for it
+// 10: not copied: `fn few`, but what it gives is written where an attribute asks for it
 // + ghost is_default = { λ x. as_nanos x ≡ 90000000000 };
 // + Ok(Duration::from_secs(90))
 // + ghost is_default = { λ x. as_nanos x ≡ 250000000 };
@@ -1414,7 +1422,7 @@ pub struct B { #[serde(default = "pause")] x: Duration, #[serde(default = "few",
 fn pause() -> Duration { PAUSE }
 fn few() -> Duration { Duration::from_millis(5 * 50) }
 
-// 2: passed over: `type Host = core::net::IpAddr`, whose type is written in its place
+// 2: not copied: `type Host = core::net::IpAddr`, whose type is written in its place
 // + use std::net::{IpAddr, Ipv4Addr, Ipv6Addr};
 // + pub struct A { host: IpAddr, bound: Option<Ipv4Addr>, six: Vec<(u8, Ipv6Addr)>, }
 // + (field_fits (ip_lawful p.host readable)
@@ -1463,10 +1471,10 @@ enum E<T> { X(HashMap<u8, T>, #[serde(skip)] u8, u8), Y(Vec<T>) }
 #[derive(Deserialize)]
 enum F { X { a: HashMap<u8, u8>, b: String }, Y { a: u8 } }
 
-// 3: passed over: `const N`
-// 4: passed over: `fn d`
-// 5: passed over: `fn is`
-// 6: passed over: `mod inner`
+// 3: not copied: `const N`: write it in another module, if code needs it
+// 4: not copied: `fn d`, but what it gives is written where an attribute asks for it
+// 5: not copied: `fn is`, but what it gives is written where an attribute asks for it
+// 6: not copied: `mod inner`, but what it gives is written where an attribute asks for it
 // + ghost is_default = { λ x. x ≡ 2 };
 // + ghost is_skipped = { λ x. (nat_eq x (3)) };
 // + ghost is_skipped = { λ x. (nat_eq x (5)) };
@@ -1490,10 +1498,10 @@ struct I { x: u8 }
 #[serde(tag = "t", deny_unknown_fields)]
 enum A { Z(I), Y { y: u8 } }
 
-// 7: passed over: `fn seven`
-// 8: passed over: `fn is_seven`
-// 12: passed over: `impl Default for B`
-// 16: passed over: `fn make`
+// 7: not copied: `fn seven`, but what it gives is written where an attribute asks for it
+// 8: not copied: `fn is_seven`, but what it gives is written where an attribute asks for it
+// 12: not copied: `impl Default for B`, but what it gives is written where an attribute asks for it
+// 16: not copied: `fn make`, but what it gives is written where an attribute asks for it
 // + RowOrThen (name "x") (λ (x : (hash_map.HashMap ℕ ℕ (BuildHasherDefault FoldHasher))). x.entries ≡ [])
 // + RowOrThen (name "y") (λ (x : (String Global)). string_bytes x ≡ [])
 // + RowOrThen (name "z") (λ (x : ℕ). x ≡ 7)
@@ -1518,8 +1526,8 @@ impl Default for B { fn default() -> Self { return Self { x: alloc::vec::Vec::ne
 struct C { x: u16, y: u16 }
 fn make() -> C { C { x: 80, y: 7 } }
 
-// 1: passed over: `pub(crate) use crate::x::*`
-// 2: passed over: `pub use crate::y::{B, z::*}`, but for what it brings into this file
+// 1: not copied: `pub(crate) use crate::x::*`
+// 2: not copied: `pub use crate::y::{B, z::*}`, but for what it brings into this file
 // 2: passed over: `use crate::y::z::*`
 // 3: passed over: `use crate::w::*`
 pub(crate) use crate::x::*;
@@ -1545,3 +1553,28 @@ struct A { #[serde(default = "Tags::default")] x: Tags, #[serde(default = "Defau
 // 2: of another file: `crate::other::Sent`, which needs Serialize, Clone
 #[derive(Clone, Serialize, Deserialize)]
 struct A { #[serde(skip_deserializing, default = "crate::other::sent")] x: crate::other::Sent, #[serde(skip_serializing)] y: crate::other::Read }
+
+// + use serde_content::Number;
+// + struct A { x: u8, y: Option<Value<'static>>, z: Vec<Number>, }
+#[derive(Serialize, Deserialize)]
+struct A { x: u8, #[serde(skip)] y: Option<Value<'static>>, #[serde(skip)] z: Vec<Number> }
+use serde_content::{Number, Value};
+
+// 2: passed over: `bound(serialize = "T: Serialize", deserialize = "T: Deserialize<'de> + Clone")`, as each impl has the bounds that it needs
+// 2: passed over: `crate = "serde"`, as what is written uses `serde_content`
+// 3: passed over: `expecting = "a page"`, as refusals have a text of their own
+// 4: passed over: `bound = ""`, as each impl has the bounds that it needs
+// 6: passed over: `borrow = "'a"`, as what is read is owned
+// 6: passed over: `borrow`, as what is read is owned
+// 8: passed over: `borrow`, as what is read is owned
+// 8: passed over: `bound = ""`, as each impl has the bounds that it needs
+// + impl<'de, T: Deserialize<'de>> Deserialize<'de> for A<T>
+// + pub struct B<'a> { x: &'a str, y: Vec<&'a str>, }
+#[derive(Serialize, Deserialize)]
+#[serde(bound(serialize = "T: Serialize", deserialize = "T: Deserialize<'de> + Clone"), crate = "serde", rename = "Page")]
+#[serde(expecting = "a page")]
+pub struct A<T> { #[serde(bound = "", rename = "X")] x: T }
+#[derive(Serialize)]
+pub struct B<'a> { #[serde(borrow)] x: &'a str, #[serde(borrow = "'a")] y: Vec<&'a str> }
+#[derive(Serialize, Deserialize)]
+pub enum C { #[serde(bound = "")] X(u8), #[serde(borrow)] Y(String) }

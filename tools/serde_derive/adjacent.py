@@ -233,9 +233,6 @@ class AdjacentWriter(TaggedWriter):
                 + clause("ensures", f"result ≡ {self.cases}.{in_term(v.name)} {values}")
                 + f"{{\nlet {holder.pattern(places)} = content;\n{self.made(v, places)}\n}}\n"]
 
-    def is_apart(self, v: Variant, holder: Holder) -> bool:
-        return isinstance(holder, ContentHolder) or super().is_apart(v, holder)
-
     def reader(self, v: Variant, holder: Holder) -> List[str]:
         return [holder.field_reader()] if isinstance(holder, ContentHolder) else super().reader(v, holder)
 

@@ -14,18 +14,21 @@ OWN_FUNCTIONS = ("with", "deserialize_with", "serialize_with")
 CONVERSIONS = {"from": "Deserialize", "try_from": "Deserialize", "into": "Serialize"}
 COVERED = {
     "a container": {"rename", "rename_all", "rename_all_fields", "deny_unknown_fields", "untagged",
-                    "tag", "content", "transparent", "default", *CONVERSIONS},
-    "a variant": {"rename", "rename_all", "alias", "other", *SKIP},
-    "a field": {"rename", "alias", "default", "flatten", "skip_serializing_if", *OWN_FUNCTIONS, *SKIP},
+                    "tag", "content", "transparent", "default", *CONVERSIONS, "bound", "crate", "expecting"},
+    "a variant": {"rename", "rename_all", "alias", "other", *SKIP, "bound", "borrow"},
+    "a field": {"rename", "alias", "default", "flatten", "skip_serializing_if", *OWN_FUNCTIONS, *SKIP, "bound", "borrow"},
+}
+# those of them that are passed over, as nothing is sent or read by them here
+PASSED_OVER = {
+    "bound": "each impl has the bounds that it needs",
+    "borrow": "what is read is owned",
+    "crate": "what is written uses `serde_content`",
+    "expecting": "refusals have a text of their own",
 }
 # why others of Serde's attributes are not covered, and what to write instead
 NOT_COVERED = {
     **dict.fromkeys(["remote", "getter"], "only your own types are sent: declare one like it, and convert it by hand"),
     "untagged": "it is for a container: hold this enum and what the variant holds in an enum that is untagged",
-    "bound": "each impl has the bounds that it needs: delete it",
-    "borrow": "values are owned: delete it",
-    "crate": "what is written uses `serde_content`: delete it",
-    "expecting": "refusals have a text of their own: delete it",
 }
 NO_NAME = "an empty name is not covered: give one of at least a letter"
 VALUED = {"tag", "content", "skip_serializing_if", "alias", *OWN_FUNCTIONS, *CONVERSIONS}
@@ -170,7 +173,7 @@ class Attributes(Cursor):
         """The same, where what is refused is kept, and the attribute passed."""
         start = self.place
         try:
-            self.serde(level, head.serde)
+            self.serde(level, head)
         except NotRust:
             raise
         except Refused as refused:
@@ -178,15 +181,19 @@ class Attributes(Cursor):
             self.place = start
             self.pass_to(",")
 
-    def serde(self, level: str, into: Dict[str, str]) -> None:
+    def serde(self, level: str, head: Head) -> None:
         """One of Serde's attributes."""
-        line, key = self.next.line, self.take().text
+        start, line, key, into = self.place, self.next.line, self.take().text, head.serde
         if key not in COVERED[level]:
             levels = " or ".join(other for other, keys in COVERED.items() if key in keys)
             why = NOT_COVERED.get(key, f"it is for {levels}" if levels else "delete it, or write the impls by hand")
             if key in OWN_FUNCTIONS and level == "a variant":
                 why = "write it on the one field of the variant, and hold a struct there in place of several"
             raise Refused(line, f"serde's `{key}` on {level} is not covered: {why}")
+        if key in PASSED_OVER:
+            self.pass_to(",")
+            head.notes.append((line, f"passed over: `{self.shown(start, self.place)}`, as {PASSED_OVER[key]}"))
+            return
         if key in into and key != "alias":
             raise Refused(line, f"serde's `{key}` stands twice: delete one of them")
         if self.next.text == "(" and key.startswith("rename"):

@@ -96,9 +96,9 @@ class EnumWriter:
                     self.tag_types() * self.reads)
 
     def whole_sender(self, v: Variant, holder: Holder) -> List[str]:
-        """The function that sends a variant of several values by the script of the enum: its proof sees the types of this
+        """The function that sends a variant of a row of values by the script of the enum: its proof sees the types of this
         variant alone. Before it stands the one that sends a crowded variant's values."""
-        if not self.is_apart(v, holder):
+        if not self.is_apart(holder):
             return []
         given, value = self.whole_given(v)
         lines, told = self.send_values(v, holder), []
@@ -133,9 +133,10 @@ class EnumWriter:
         given = "".join(f", {p}: &{f.type.rust()}" for p, f in zip(places, v.data.fields))
         return given, " ".join([f"{self.cases}.{in_term(v.name)}"] + [f"{in_term(p)}.now" for p in places])
 
-    def is_apart(self, v: Variant, holder: Holder) -> bool:
-        """Whether a variant is sent by a function of its own: for many values, or for wide ones."""
-        return holder.count > holder.most or (holder.many and any(f.type.width() > 3 for f in holder.fields))
+    @staticmethod
+    def is_apart(holder: Holder) -> bool:
+        """Whether a variant is sent by a function of its own: each that has a row of values is."""
+        return holder.many and holder.count > 0
 
     def send_values(self, v: Variant, holder: Holder) -> List[str]:
         """The statements that send its values."""
@@ -146,7 +147,7 @@ class EnumWriter:
 
     def send_variant(self, v: Variant, holder: Holder) -> List[str]:
         """The statements that send a variant."""
-        if not self.is_apart(v, holder):
+        if not self.is_apart(holder):
             return self.send_values(v, holder)
         return [f"{self.whole_name(v)}({', '.join(['alloc', 'serializer', 'self', *v.data.places()])})"]
 
@@ -218,8 +219,8 @@ class EnumWriter:
         return entry_of(v.wire, announced, v.data.fields[0].type, values[0], places[0])
 
     def entries_senders(self) -> List[str]:
-        """The functions that send variants of several values by the script of the enum, as `whole_sender` does."""
-        return [self.entries_sender(v, holder) for v, holder in self.variants if self.is_apart(v, holder)]
+        """The functions that send variants of a row of values by the script of the enum, as `whole_sender` does."""
+        return [self.entries_sender(v, holder) for v, holder in self.variants if self.is_apart(holder)]
 
     def entries_sender(self, v: Variant, holder: Holder) -> str:
         """The function that sends a variant so."""
@@ -236,7 +237,7 @@ class EnumWriter:
         """What it sends where it is flattened."""
         each = {v.name: self.entries_of(v, holder) for v, holder in self.variants}
         sent = {v.name: [f"send_entries_of_{v.owner}({', '.join(['self', *v.data.places()])}, rest, alloc, serializer, error)"]
-                if self.is_apart(v, holder) else each[v.name].send for v, holder in self.variants}
+                if self.is_apart(holder) else each[v.name].send for v, holder in self.variants}
         arms = [arm(self.made(v, v.data.places()), sent[v.name]) for v in self.item.variants]
         return [ghost("entries", self.each(lambda v, holder, x: f"λ rest. {each[v.name].script}")),
                 ghost("fit", self.each(lambda v, holder, x: f"λ rest readable fit. {each[v.name].fit}")),

@@ -1,6 +1,7 @@
 """Reads a whole file of Rust: the types to write, and what stands beside them."""
 from dataclasses import dataclass, field
-from typing import Dict, List, Set, Tuple
+from itertools import islice
+from typing import Dict, Iterator, List, Set, Tuple
 
 from .attributes import SERDE, Head, doc_line
 from .declarations import Item, NotRust, Refused
@@ -11,6 +12,8 @@ from .types import Type
 
 # crates that have the same types as std
 SAME = {"core": "std", "alloc": "std"}
+# what is said of an item that is not copied
+ELSEWHERE = "write it in another module, if code needs it"
 # the words that may stand before the one that says what an item is
 BEFORE = {"async", "unsafe", "default", "auto"}
 NAMED = {"fn", "trait", "mod", "const", "static", "crate"}
@@ -23,7 +26,8 @@ NAMELESS = {"const": "_", "crate": "self"}
 class File:
     """What a file holds: its documentation, the paths that it uses, its types, by what aliases stand
     for, the types that are passed over with the reason, those of them that are `plain`, as they derive neither of Serde's traits,
-    the traits that impls give to types, functions, and notes.
+    the traits that impls give to types, functions, the `others` that are not copied, each with its line and the paths of the
+    functions in it, and notes.
     `modules` has what is said of those that are passed over, `lines` what each name of a `use` or an alias stands for
     first, and its line, `brought` what each private `use` brings, with its line, and `derived` the names that derives begin
     with."""
@@ -37,11 +41,19 @@ class File:
     modules: Dict[str, str] = field(default_factory=dict)
     impls: Set[Tuple[str, str]] = field(default_factory=set)
     functions: Functions = field(default_factory=Functions)
+    others: List[Tuple[int, str, Set[str]]] = field(default_factory=list)
     notes: List[Tuple[int, str]] = field(default_factory=list)
     refused: List[Refused] = field(default_factory=list)
     lines: Dict[str, Tuple[object, int]] = field(default_factory=dict)
     brought: List[Tuple[int, str, List[str]]] = field(default_factory=list)
     derived: Set[str] = field(default_factory=set)
+
+    def not_copied(self) -> Iterator[Tuple[int, str]]:
+        """Notes of the others; of those with a function that an attribute asks for, what it gives is written."""
+        for line, shown, paths in self.others:
+            given = paths & self.functions.used
+            more = ", but what it gives is written where an attribute asks for it" if given else f": {ELSEWHERE}"
+            yield line, f"not copied: `{shown}`{more}"
 
     def declare(self, name: str, stands_for: object, line: int) -> None:
         """Keeps what a name stands for; one that stands for two things, which `cfg` tells apart, is passed over."""
@@ -104,8 +116,16 @@ class Reader(Parser):
             self.other(start)
 
     def note_passed(self, start: int, end: int, more: str = "") -> None:
-        """Notes that an item was passed over, which is shown from its start to a place."""
-        self.notes.append((self.tokens[start].line, f"passed over: `{self.shown(start, end)}`{more}"))
+        """Notes that an item is not copied, which is shown from its start to a place."""
+        self.notes.append((self.tokens[start].line, f"not copied: `{self.shown(start, end)}`{more}"))
+
+    def keep_other(self, start: int, end: int) -> None:
+        """Keeps such an item of another sort, which has been read, with the functions in it."""
+        named = self.into.functions.named
+        known = len(named)
+        self.into.functions.collect(self.tokens, self.pairs, start, self.place)
+        inside = set(islice(reversed(named), len(named) - known))
+        self.into.others.append((self.tokens[start].line, self.shown(start, end), inside))
 
     def use(self, start: int) -> None:
         """A `use`, with the names that it brings."""
@@ -170,7 +190,7 @@ class Reader(Parser):
         known = name in self.into.aliases
         if known:
             self.into.declare(name, self.into.aliases[name], self.tokens[start].line)
-        self.note_passed(start, self.place - 1, ", whose type is written in its place" if known else "")
+        self.note_passed(start, self.place - 1, ", whose type is written in its place" if known else f": {ELSEWHERE}")
 
     def plain(self, start: int) -> None:
         """A struct or an enum that derives neither of Serde's traits."""
@@ -180,7 +200,7 @@ class Reader(Parser):
         self.pass_item()
         self.into.passed[name] = f"derives neither Serialize nor Deserialize (line {self.tokens[start].line})"
         self.into.plain.add(name)
-        self.note_passed(start, end, ", which derives neither Serialize nor Deserialize")
+        self.note_passed(start, end, f", which derives neither Serialize nor Deserialize: {ELSEWHERE}")
 
     def other(self, start: int) -> None:
         """Any other item, which is passed over."""
@@ -198,7 +218,7 @@ class Reader(Parser):
                 self.eat("mut")
             name, end = self.any_name(NAMELESS.get(word, "")), self.place
             if word == "mod":
-                self.into.modules[name] = f"is a module that is passed over (line {line})"
+                self.into.modules[name] = f"is a module that is not copied (line {line})"
                 self.into.passed[name] = f"{self.into.modules[name]}: import the type by its path from `crate`"
         elif word in ("impl", "{"):
             self.pass_to("{", "where", *BEGIN_ITEMS, angles=True)
@@ -209,8 +229,7 @@ class Reader(Parser):
         else:
             raise NotRust(line, f"expected an item, found `{word}`")
         self.pass_item(braces=word not in WITH_SEMICOLON)
-        self.into.functions.collect(self.tokens, self.pairs, start, self.place)
-        self.note_passed(start, end)
+        self.keep_other(start, end)
 
     def note_impl(self, start: int) -> None:
         """Keeps which trait an impl gives to which type."""
@@ -231,4 +250,4 @@ class Reader(Parser):
         self.pass_one()
         if not braces:
             self.expect(";")
-        self.note_passed(start, end)
+        self.keep_other(start, end)

@@ -54,6 +54,7 @@ class Functions:
     modules: Dict[str, str] = field(default_factory=dict)  # the module of an impl or a module, with `::` at its end
     variants: Dict[str, Dict[str, List[Type]]] = field(default_factory=dict)
     uses: Dict[str, List[str]] = field(default_factory=dict)
+    used: Set[str] = field(default_factory=set)  # the functions that give a value that is known, where one was asked for
 
     def collect(self, tokens: List[Token], pairs: Dict[int, int], place: int, end: int, owner: str = "", module: str = "") -> None:
         """Takes in what stands between two places, in an impl or a module."""
@@ -99,7 +100,9 @@ class Functions:
         found = self.named.get(path)
         if not found:
             return self.empty(f"{path}()", t)
-        return self.value(found.body, t, found.owner) if not found.parameters else None
+        value = self.value(found.body, t, found.owner) if not found.parameters else None
+        self.used |= {path} if value else set()
+        return value
 
     def whole(self, path: str, owner: str) -> str:
         """The whole path of what is called so in an impl or a module."""
@@ -139,6 +142,7 @@ class Functions:
         parts = self.parts_given(path, name)
         if not all(map(is_field, parts)):
             return {}
+        self.used |= {path} if parts else set()
         return {part[0].text: (part[2:], self.named[path].owner) for part in parts}
 
     def why_no_fields(self, path: str, name: str) -> str:
@@ -248,6 +252,7 @@ class Functions:
         found = self.named.get(path)
         if not found or len(found.parameters) != 1:
             return None
+        self.used.add(path)
         name, body = found.parameters[0], "".join(token.text for token in found.body)
         if t.name == "bool" and body in (f"!{name}", f"!*{name}"):
             return bool_test(False)

@@ -102,7 +102,6 @@ class Holder:
     """All that is written of what a struct or a variant holds. Its values are given by place, as
     contracts or code name them."""
 
-    most = 2  # as many values are sent without a function of their own
     of_struct = False  # whether it is of a struct alone, and of no variant
     of_enum = False  # whether it is of a variant of an enum that is tagged externally, or internally with fields of its own
     parted = False  # whether what is around the values is sent by another function

@@ -16,6 +16,8 @@ from .unique import fresh
 from .words import SEEN, TAKEN, WORDS
 
 STANDARD = {"std", "core", "alloc"}
+# crates of this repository whose types have impls in another module than they are declared in, so that no path leads to their laws
+LIBRARIES = {"serde_content", "content_tree", "content_ser", "content_de"}
 # where the standard library has the types that are covered
 MODULES = {**{name: ["primitive"] for name in LEAVES}, "String": ["string"], "Option": ["option"], "Vec": ["vec"],
            "Box": ["boxed"], "Rc": ["rc"], "Arc": ["sync"], "BoxedStr": [], "PathBuf": ["path"], "Duration": ["time"],
@@ -336,11 +338,11 @@ class Homes:
                 try:
                     traits, named = needed(item, f, *around), not item.ways(f, *around)
                     lent = f.type.refers() or any(one != STATIC or not named for one in f.type.borrows())
+                    f.type = self.settled(f.type, item, traits, named)
                     if "Deserialize" in item.derives and lent:
                         advice = ("write the parameter alone, as in `PhantomData<T>`" if f.type.name == PHANTOM else
                                   "hold the value itself, as String for &str")
                         raise ValueError(f"what is borrowed is covered where it is only sent: {advice}")
-                    f.type = self.settled(f.type, item, traits, named)
                     hidden = f.type.unseen() if any(v.sent or v.read for v in around) else None
                     if hidden:
                         raise ValueError(f"`{hidden.written()}` is not covered on a skipped field of a variant: hold it in a struct, and"
@@ -446,6 +448,10 @@ class Homes:
             if arguments:
                 raise ValueError(f"`{t.written()}` is not covered: a type with arguments is where this file declares it, or std's"
                                  " is: write in another file a struct around it, with its impls by hand, and hold that")
+            path = self.path(t.name)
+            if traits and path[0] in LIBRARIES:
+                raise ValueError(f"`{'::'.join(path)}` is not covered: write in another file a struct around it, with its impls by hand,"
+                                 " and hold that")
             return replace(self.own(t.name), lifetimes=t.lifetimes)
         item = self.items[t.name]
         whole = replace(self.part(t, holder, traits), arguments=arguments,

@@ -240,11 +240,13 @@ def module(source: str, name: str, crate: str, place: str, cbor: bool = False,
         file = read(source)
     except Refused as refused:
         raise Refusals([refused]) from None
-    if notes is not None:
-        notes += sorted(file.notes)
-    file.notes = []
+    declared, file.notes = file.notes, []
     homes = Homes(crate, place, file, laws_of)
-    writers = settled(file, homes)
+    try:
+        writers = settled(file, homes)
+    finally:
+        if notes is not None:
+            notes += sorted([*declared, *file.not_copied()])
     if notes is not None:
         notes += [*file.notes, *homes.unused(), *elsewhere(file, cbor)] + [
             (item.line, f"no RoundTrip is written for `{item.name}`: {item.why_astray()}")

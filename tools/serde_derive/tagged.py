@@ -53,8 +53,6 @@ def check_tagged(item: Item) -> Iterator[Refused]:
 class TaggedHolder(Holder):
     """What stands beside the tag of a variant: fields, or none."""
 
-    most = 1
-
     def __init__(self, item: Item, tag: str, v: Variant, fields: List[Field]):
         data, name = Data("Struct", fields, (v.beside or v).data.closed), (v.beside or item).wire
         super().__init__("Struct", [name], data, v.owner)

@@ -300,10 +300,6 @@ class Type:
         places = (0,) if self.name == "Option" else self.optional
         return [p for i in places for p in self.arguments[i].null_by()] + [p for a in self.arguments for p in a.optionals()]
 
-    def width(self) -> int:
-        """How many types without arguments it is made of."""
-        return sum(one.width() for one in self.arguments) or 1
-
     def weight(self) -> int:
         """How many types it is made of, itself among them."""
         return 1 + sum(one.weight() for one in self.arguments)

@@ -57,9 +57,6 @@ class UntaggedWriter(EnumWriter):
         """The struct that a variant of values by name is read as, and how."""
         return self.structs[v.name].texts() if v.data.named else []
 
-    def is_apart(self, v: Variant, holder: Holder) -> bool:
-        return v.data.named or len(v.data.fields) > 1
-
     def send_values(self, v: Variant, holder: Holder) -> List[str]:
         if v.data.named:
             return self.structs[v.name].holder.send(v.data.places())

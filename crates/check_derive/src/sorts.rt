@@ -4,6 +4,7 @@
 
 ghost use Rattle.std.specs.Prelude.{◌≡◌, ◌∷◌, [], Bool, Option, string_bytes, refl, ⊤};
 ghost use Rattle.content_tree.specs.Values.Text.{static_name};
+ghost use Rattle.content_ser.specs.Scripts.Sends.{Sends};
 ghost use Rattle.content_ser.specs.Scripts.Own.{field_first, tuple_field_first, end_script};
 ghost use Rattle.content_ser.specs.Scripts.Own.{unit_struct_script, newtype_struct_script};
 ghost use Rattle.content_ser.specs.Scripts.Own.{tuple_struct_script};
@@ -377,6 +378,25 @@ impl Names for FieldsOfMessageText {
     }
 }
 
+/// Sends that variant.
+fn send_whole_message_text<S: Serializer>(
+    alloc: Global,
+    serializer: &mut S,
+    whole: &Message,
+    x1: &String,
+) -> Result<()>
+    requires { whole.now ≡ message.Text x1.now }
+    ensures { Sends S.step S.refuses (S.seen serializer.old)
+        (⟦<Message as Serialize>⟧.script whole.now)
+        result (S.seen serializer.new) }
+{
+    let row = SendEnd;
+    let row = SendField(FieldsOfMessageText, 1, x1, row);
+    let row = SendTag(FieldsOfMessageText, NamesOfMessage, 1, row);
+    let row = SendOpen(Call::Struct(name_message(), 2), row);
+    send_row(alloc, serializer, &row)
+}
+
 type Field1OfMessageText = ReadField<
     FieldsOfMessageText,
     1,
@@ -440,13 +460,7 @@ impl Serialize for Message {
                 let row = SendOpen(Call::Struct(name_message(), 1), row);
                 send_row(alloc, serializer, &row)
             }
-            Message::Text(x1) => {
-                let row = SendEnd;
-                let row = SendField(FieldsOfMessageText, 1, x1, row);
-                let row = SendTag(FieldsOfMessageText, NamesOfMessage, 1, row);
-                let row = SendOpen(Call::Struct(name_message(), 2), row);
-                send_row(alloc, serializer, &row)
-            }
+            Message::Text(x1) => send_whole_message_text(alloc, serializer, self, x1),
         }
     }
 }

@@ -4,6 +4,7 @@
 
 ghost use Rattle.std.specs.Prelude.{◌≡◌, ◌∷◌, [], ℕ, ℤ, Bool, Option, None, Some, true, false};
 ghost use Rattle.std.specs.Prelude.{negsuc, not, nat_eq, codes, string_bytes, refl};
+ghost use Rattle.content_ser.specs.Scripts.Sends.{Sends};
 ghost use Rattle.content_ser.specs.Scripts.Own.{field_first, end_script, unit_variant_script};
 ghost use Rattle.content_ser.specs.Scripts.Own.{newtype_variant_script, struct_script};
 ghost use Rattle.content_ser.specs.Scripts.Own.{struct_variant_script};
@@ -113,6 +114,26 @@ impl Names for FieldsOfGradeFull {
     }
 }
 
+/// Sends that variant.
+fn send_whole_grade_full<S: Serializer>(
+    alloc: Global,
+    serializer: &mut S,
+    whole: &Grade,
+    from: &i32,
+    to: &u8,
+) -> Result<()>
+    requires { whole.now ≡ grade.Full from.now to.now }
+    ensures { Sends S.step S.refuses (S.seen serializer.old)
+        (⟦<Grade as Serialize>⟧.script whole.now)
+        result (S.seen serializer.new) }
+{
+    let row = SendEnd;
+    let row = SendField(FieldsOfGradeFull, 1, to, row);
+    let row = SendField(FieldsOfGradeFull, 0, from, row);
+    let row = SendOpen(Call::StructVariant(name_grade(), 2, name_full(), 2), row);
+    send_row(alloc, serializer, &row)
+}
+
 type Field1OfGradeFull = ReadField<FieldsOfGradeFull, 0, i32, Field2OfGradeFull>;
 
 type Field2OfGradeFull = ReadField<FieldsOfGradeFull, 1, u8, OthersSkipped<FieldsOfGradeFull>>;
@@ -205,13 +226,7 @@ impl Serialize for Grade {
             Grade::Warn(x1) => {
                 Call::NewtypeVariant(name_grade(), 1, name_warn()).around(x1, alloc, serializer)
             }
-            Grade::Full { from, to } => {
-                let row = SendEnd;
-                let row = SendField(FieldsOfGradeFull, 1, to, row);
-                let row = SendField(FieldsOfGradeFull, 0, from, row);
-                let row = SendOpen(Call::StructVariant(name_grade(), 2, name_full(), 2), row);
-                send_row(alloc, serializer, &row)
-            }
+            Grade::Full { from, to } => send_whole_grade_full(alloc, serializer, self, from, to),
             Grade::Other => Call::UnitVariant(name_grade(), 3, name_other()).send(serializer),
         }
     }
@@ -1389,6 +1404,25 @@ impl Names for FieldsOfRequestListen {
     }
 }
 
+/// Sends that variant.
+fn send_whole_request_listen<S: Serializer>(
+    alloc: Global,
+    serializer: &mut S,
+    whole: &Request,
+    channel: &u16,
+) -> Result<()>
+    requires { whole.now ≡ request.Listen channel.now }
+    ensures { Sends S.step S.refuses (S.seen serializer.old)
+        (⟦<Request as Serialize>⟧.script whole.now)
+        result (S.seen serializer.new) }
+{
+    let row = SendEnd;
+    let row = SendField(FieldsOfRequestListen, 1, channel, row);
+    let row = SendTag(FieldsOfRequestListen, NamesOfRequest, 0, row);
+    let row = SendOpen(Call::Struct(name_request(), 2), row);
+    send_row(alloc, serializer, &row)
+}
+
 type Field1OfRequestListen = ReadField<
     FieldsOfRequestListen,
     1,
@@ -1506,11 +1540,7 @@ impl Serialize for Request {
     fn serialize<S: Serializer>(&self, alloc: Global, serializer: &mut S) -> Result<()> {
         match self {
             Request::Listen { channel } => {
-                let row = SendEnd;
-                let row = SendField(FieldsOfRequestListen, 1, channel, row);
-                let row = SendTag(FieldsOfRequestListen, NamesOfRequest, 0, row);
-                let row = SendOpen(Call::Struct(name_request(), 2), row);
-                send_row(alloc, serializer, &row)
+                send_whole_request_listen(alloc, serializer, self, channel)
             }
             Request::Quit => {
                 let row = SendEnd;
@@ -1621,6 +1651,14 @@ fn name_grade() -> &'static str
     "Grade"
 }
 
+/// The name `full`.
+#[tactic(auto, unfolding(serde_content::specs::Literals::name))]
+fn name_full() -> &'static str
+    ensures { result.now ≡ name "full" }
+{
+    "full"
+}
+
 /// The name `quiet`.
 #[tactic(auto, unfolding(serde_content::specs::Literals::name))]
 fn name_quiet() -> &'static str
@@ -1635,14 +1673,6 @@ fn name_warn() -> &'static str
     ensures { result.now ≡ name "warn" }
 {
     "warn"
-}
-
-/// The name `full`.
-#[tactic(auto, unfolding(serde_content::specs::Literals::name))]
-fn name_full() -> &'static str
-    ensures { result.now ≡ name "full" }
-{
-    "full"
 }
 
 /// The name `other`.

@@ -593,6 +593,26 @@ impl<T> serde_content::derive_support::MadeFrom<From1OfEventKept<T>> for Event<T
     }
 }
 
+/// Sends that variant.
+fn send_whole_event_kept<S: Serializer, T: Serialize>(
+    alloc: Global,
+    serializer: &mut S,
+    whole: &Event<T>,
+    x1: &Vec<T>,
+    x2: &u16,
+) -> Result<()>
+    requires { whole.now ≡ event.Kept x1.now x2.now }
+    ensures { Sends S.step S.refuses (S.seen serializer.old)
+        (⟦<Event<T> as Serialize>⟧.script whole.now)
+        result (S.seen serializer.new) }
+{
+    let row = SendEnd;
+    let row = SendPart(x2, row);
+    let row = SendPart(x1, row);
+    let row = SendOpen(Call::TupleVariant(name_event(), 2, name_kept(), 2), row);
+    send_row(alloc, serializer, &row)
+}
+
 type Part1OfEventKept<T> = ReadPart<2, 0, Vec<T>, Part2OfEventKept>;
 
 type Part2OfEventKept = ReadPart<2, 1, u16, PartsEnd<2>>;
@@ -663,13 +683,7 @@ impl<T: Serialize> Serialize for Event<T> {
                 send_whole_event_made(alloc, serializer, self, of, count, seen)
             }
             Event::Lost => Call::UnitVariant(name_event(), 1, name_lost()).send(serializer),
-            Event::Kept(x1, x2) => {
-                let row = SendEnd;
-                let row = SendPart(x2, row);
-                let row = SendPart(x1, row);
-                let row = SendOpen(Call::TupleVariant(name_event(), 2, name_kept(), 2), row);
-                send_row(alloc, serializer, &row)
-            }
+            Event::Kept(x1, x2) => send_whole_event_kept(alloc, serializer, self, x1, x2),
         }
     }
 }
@@ -1015,20 +1029,20 @@ fn name_made() -> &'static str
     "Made"
 }
 
-/// The name `Lost`.
-#[tactic(auto, unfolding(serde_content::specs::Literals::name))]
-fn name_lost() -> &'static str
-    ensures { result.now ≡ name "Lost" }
-{
-    "Lost"
-}
-
 /// The name `Kept`.
 #[tactic(auto, unfolding(serde_content::specs::Literals::name))]
 fn name_kept() -> &'static str
     ensures { result.now ≡ name "Kept" }
 {
     "Kept"
+}
+
+/// The name `Lost`.
+#[tactic(auto, unfolding(serde_content::specs::Literals::name))]
+fn name_lost() -> &'static str
+    ensures { result.now ≡ name "Lost" }
+{
+    "Lost"
 }
 
 /// The name `Notice`.

@@ -302,6 +302,25 @@ impl Names for FieldsOfSkyClouds {
     }
 }
 
+/// Sends that variant.
+fn send_whole_sky_clouds<S: Serializer>(
+    alloc: Global,
+    serializer: &mut S,
+    whole: &Sky,
+    tenths: &u8,
+) -> Result<()>
+    requires { whole.now ≡ sky.Clouds tenths.now }
+    ensures { Sends S.step S.refuses (S.seen serializer.old)
+        (⟦<Sky as Serialize>⟧.script whole.now)
+        result (S.seen serializer.new) }
+{
+    let row = SendEnd;
+    let row = SendField(FieldsOfSkyClouds, 1, tenths, row);
+    let row = SendTag(FieldsOfSkyClouds, NamesOfSky, 1, row);
+    let row = SendOpen(Call::Struct(name_sky(), 2), row);
+    send_row(alloc, serializer, &row)
+}
+
 /// The names of its variants.
 #[derive(Drop)]
 struct NamesOfSky;
@@ -342,15 +361,29 @@ impl Serialize for Sky {
                 let row = SendOpen(Call::Struct(name_sky(), 1), row);
                 send_row(alloc, serializer, &row)
             }
-            Sky::Clouds { tenths } => {
-                let row = SendEnd;
-                let row = SendField(FieldsOfSkyClouds, 1, tenths, row);
-                let row = SendTag(FieldsOfSkyClouds, NamesOfSky, 1, row);
-                let row = SendOpen(Call::Struct(name_sky(), 2), row);
-                send_row(alloc, serializer, &row)
-            }
+            Sky::Clouds { tenths } => send_whole_sky_clouds(alloc, serializer, self, tenths),
         }
     }
+}
+
+/// Sends the entries of that variant, and what follows them.
+fn send_entries_of_sky_clouds<Following: serde_content::derive_support::SendRow, S: Serializer>(
+    whole: &Sky,
+    tenths: &u8,
+    rest: &Following,
+    alloc: Global,
+    serializer: &mut S,
+    error: &mut Error,
+) -> serde_content::ser::Sent
+    requires { whole.now ≡ sky.Clouds tenths.now }
+    ensures { Sends S.step S.refuses (S.seen serializer.old)
+        (⟦<Sky as SendEntries>⟧.entries whole.now (Following.script rest.now))
+        (answer_of result error.new) (S.seen serializer.new) }
+{
+    let row = SendRest(rest);
+    let row = SendEntry(FieldsOfSkyClouds, 1, tenths, row);
+    let row = SendTagEntry(FieldsOfSkyClouds, NamesOfSky, 1, row);
+    serde_content::derive_support::SendRow::send(&row, alloc, serializer, error)
 }
 
 impl SendEntries for Sky {
@@ -388,10 +421,7 @@ impl SendEntries for Sky {
                 serde_content::derive_support::SendRow::send(&row, alloc, serializer, error)
             }
             Sky::Clouds { tenths } => {
-                let row = SendRest(rest);
-                let row = SendEntry(FieldsOfSkyClouds, 1, tenths, row);
-                let row = SendTagEntry(FieldsOfSkyClouds, NamesOfSky, 1, row);
-                serde_content::derive_support::SendRow::send(&row, alloc, serializer, error)
+                send_entries_of_sky_clouds(self, tenths, rest, alloc, serializer, error)
             }
         }
     }
@@ -432,6 +462,25 @@ impl Names for FieldsOfSeerOne {
     fn names() -> &'static [&'static str] {
         &["by", "who"]
     }
+}
+
+/// Sends that variant.
+fn send_whole_seer_one<S: Serializer>(
+    alloc: Global,
+    serializer: &mut S,
+    whole: &Seer,
+    x1: &String,
+) -> Result<()>
+    requires { whole.now ≡ seer.One x1.now }
+    ensures { Sends S.step S.refuses (S.seen serializer.old)
+        (⟦<Seer as Serialize>⟧.script whole.now)
+        result (S.seen serializer.new) }
+{
+    let row = SendEnd;
+    let row = SendField(FieldsOfSeerOne, 1, x1, row);
+    let row = SendTag(FieldsOfSeerOne, NamesOfSeer, 1, row);
+    let row = SendOpen(Call::Struct(name_seer(), 2), row);
+    send_row(alloc, serializer, &row)
 }
 
 /// The names of its fields.
@@ -523,16 +572,30 @@ impl Serialize for Seer {
                 let row = SendOpen(Call::Struct(name_seer(), 1), row);
                 send_row(alloc, serializer, &row)
             }
-            Seer::One(x1) => {
-                let row = SendEnd;
-                let row = SendField(FieldsOfSeerOne, 1, x1, row);
-                let row = SendTag(FieldsOfSeerOne, NamesOfSeer, 1, row);
-                let row = SendOpen(Call::Struct(name_seer(), 2), row);
-                send_row(alloc, serializer, &row)
-            }
+            Seer::One(x1) => send_whole_seer_one(alloc, serializer, self, x1),
             Seer::Two(x1, x2) => send_whole_seer_two(alloc, serializer, self, x1, x2),
         }
     }
+}
+
+/// Sends the entries of that variant, and what follows them.
+fn send_entries_of_seer_one<Following: serde_content::derive_support::SendRow, S: Serializer>(
+    whole: &Seer,
+    x1: &String,
+    rest: &Following,
+    alloc: Global,
+    serializer: &mut S,
+    error: &mut Error,
+) -> serde_content::ser::Sent
+    requires { whole.now ≡ seer.One x1.now }
+    ensures { Sends S.step S.refuses (S.seen serializer.old)
+        (⟦<Seer as SendEntries>⟧.entries whole.now (Following.script rest.now))
+        (answer_of result error.new) (S.seen serializer.new) }
+{
+    let row = SendRest(rest);
+    let row = SendEntry(FieldsOfSeerOne, 1, x1, row);
+    let row = SendTagEntry(FieldsOfSeerOne, NamesOfSeer, 1, row);
+    serde_content::derive_support::SendRow::send(&row, alloc, serializer, error)
 }
 
 /// Sends the entries of that variant, and what follows them.
@@ -607,12 +670,7 @@ impl SendEntries for Seer {
                 let row = SendTagEntry(FieldsOfSeerUnknown, NamesOfSeer, 0, row);
                 serde_content::derive_support::SendRow::send(&row, alloc, serializer, error)
             }
-            Seer::One(x1) => {
-                let row = SendRest(rest);
-                let row = SendEntry(FieldsOfSeerOne, 1, x1, row);
-                let row = SendTagEntry(FieldsOfSeerOne, NamesOfSeer, 1, row);
-                serde_content::derive_support::SendRow::send(&row, alloc, serializer, error)
-            }
+            Seer::One(x1) => send_entries_of_seer_one(self, x1, rest, alloc, serializer, error),
             Seer::Two(x1, x2) => {
                 send_entries_of_seer_two(self, x1, x2, rest, alloc, serializer, error)
             }
@@ -645,6 +703,26 @@ impl Names for FieldsOfRecordFilm {
     fn names() -> &'static [&'static str] {
         &["file", "seconds"]
     }
+}
+
+/// Sends that variant.
+fn send_whole_record_film<S: Serializer>(
+    alloc: Global,
+    serializer: &mut S,
+    whole: &Record,
+    file: &String,
+    seconds: &u32,
+) -> Result<()>
+    requires { whole.now ≡ the_record.Film file.now seconds.now }
+    ensures { Sends S.step S.refuses (S.seen serializer.old)
+        (⟦<Record as Serialize>⟧.script whole.now)
+        result (S.seen serializer.new) }
+{
+    let row = SendEnd;
+    let row = SendField(FieldsOfRecordFilm, 1, seconds, row);
+    let row = SendField(FieldsOfRecordFilm, 0, file, row);
+    let row = SendOpen(Call::StructVariant(name_record(), 1, name_film(), 2), row);
+    send_row(alloc, serializer, &row)
 }
 
 /// The names of its variants.
@@ -684,14 +762,33 @@ impl Serialize for Record {
                 Call::NewtypeVariant(name_record(), 0, name_sketch()).around(x1, alloc, serializer)
             }
             Record::Film { file, seconds } => {
-                let row = SendEnd;
-                let row = SendField(FieldsOfRecordFilm, 1, seconds, row);
-                let row = SendField(FieldsOfRecordFilm, 0, file, row);
-                let row = SendOpen(Call::StructVariant(name_record(), 1, name_film(), 2), row);
-                send_row(alloc, serializer, &row)
+                send_whole_record_film(alloc, serializer, self, file, seconds)
             }
         }
     }
+}
+
+/// Sends the entries of that variant, and what follows them.
+fn send_entries_of_record_film<Following: serde_content::derive_support::SendRow, S: Serializer>(
+    whole: &Record,
+    file: &String,
+    seconds: &u32,
+    rest: &Following,
+    alloc: Global,
+    serializer: &mut S,
+    error: &mut Error,
+) -> serde_content::ser::Sent
+    requires { whole.now ≡ the_record.Film file.now seconds.now }
+    ensures { Sends S.step S.refuses (S.seen serializer.old)
+        (⟦<Record as SendEntries>⟧.entries whole.now (Following.script rest.now))
+        (answer_of result error.new) (S.seen serializer.new) }
+{
+    let row = SendEnd;
+    let row = SendField(FieldsOfRecordFilm, 1, seconds, row);
+    let row = SendField(FieldsOfRecordFilm, 0, file, row);
+    let row = SendOpen(Call::Struct(name_film(), 2), row);
+    let row = SendEntryInside(NamesOfRecord, 1, row, SendRest(rest));
+    serde_content::derive_support::SendRow::send(&row, alloc, serializer, error)
 }
 
 impl SendEntries for Record {
@@ -733,12 +830,7 @@ impl SendEntries for Record {
                 serde_content::derive_support::SendRow::send(&row, alloc, serializer, error)
             }
             Record::Film { file, seconds } => {
-                let row = SendEnd;
-                let row = SendField(FieldsOfRecordFilm, 1, seconds, row);
-                let row = SendField(FieldsOfRecordFilm, 0, file, row);
-                let row = SendOpen(Call::Struct(name_film(), 2), row);
-                let row = SendEntryInside(NamesOfRecord, 1, row, SendRest(rest));
-                serde_content::derive_support::SendRow::send(&row, alloc, serializer, error)
+                send_entries_of_record_film(self, file, seconds, rest, alloc, serializer, error)
             }
         }
     }
@@ -885,18 +977,18 @@ fn name_record() -> &'static str
     "Record"
 }
 
-/// The name `Sketch`.
-#[tactic(auto, unfolding(serde_content::specs::Literals::name))]
-fn name_sketch() -> &'static str
-    ensures { result.now ≡ name "Sketch" }
-{
-    "Sketch"
-}
-
 /// The name `Film`.
 #[tactic(auto, unfolding(serde_content::specs::Literals::name))]
 fn name_film() -> &'static str
     ensures { result.now ≡ name "Film" }
 {
     "Film"
+}
+
+/// The name `Sketch`.
+#[tactic(auto, unfolding(serde_content::specs::Literals::name))]
+fn name_sketch() -> &'static str
+    ensures { result.now ≡ name "Sketch" }
+{
+    "Sketch"
 }

@@ -3,6 +3,7 @@
 //! Written by `tools/derive` from `types.rs`: change that file, and write this one anew.
 
 ghost use Rattle.std.specs.Prelude.{◌≡◌, ◌∷◌, [], ℕ, ℤ, Option, None, string_bytes, refl, ⊤};
+ghost use Rattle.content_ser.specs.Scripts.Sends.{Sends};
 ghost use Rattle.content_ser.specs.Scripts.Own.{field_first, tuple_field_first, end_script};
 ghost use Rattle.content_ser.specs.Scripts.Own.{unit_variant_script, newtype_variant_script};
 ghost use Rattle.content_ser.specs.Scripts.Own.{tuple_variant_script, struct_script};
@@ -204,6 +205,26 @@ fn make_step_moved(x1: i32, x2: i32) -> Step
     Step::Moved(x1, x2)
 }
 
+/// Sends that variant.
+fn send_whole_step_moved<S: Serializer>(
+    alloc: Global,
+    serializer: &mut S,
+    whole: &Step,
+    x1: &i32,
+    x2: &i32,
+) -> Result<()>
+    requires { whole.now ≡ step.Moved x1.now x2.now }
+    ensures { Sends S.step S.refuses (S.seen serializer.old)
+        (⟦<Step as Serialize>⟧.script whole.now)
+        result (S.seen serializer.new) }
+{
+    let row = SendEnd;
+    let row = SendPart(x2, row);
+    let row = SendPart(x1, row);
+    let row = SendOpen(Call::TupleVariant(name_step(), 2, name_moved_by(), 2), row);
+    send_row(alloc, serializer, &row)
+}
+
 type Part1OfStepMoved = ReadPart<2, 0, i32, Part2OfStepMoved>;
 
 type Part2OfStepMoved = ReadPart<2, 1, i32, PartsEnd<2>>;
@@ -219,6 +240,26 @@ impl Names for FieldsOfStepLeft {
     fn names() -> &'static [&'static str] {
         &["with", "at"]
     }
+}
+
+/// Sends that variant.
+fn send_whole_step_left<S: Serializer>(
+    alloc: Global,
+    serializer: &mut S,
+    whole: &Step,
+    with: &String,
+    place: &Place,
+) -> Result<()>
+    requires { whole.now ≡ step.Left with.now place.now }
+    ensures { Sends S.step S.refuses (S.seen serializer.old)
+        (⟦<Step as Serialize>⟧.script whole.now)
+        result (S.seen serializer.new) }
+{
+    let row = SendEnd;
+    let row = SendField(FieldsOfStepLeft, 1, place, row);
+    let row = SendField(FieldsOfStepLeft, 0, with, row);
+    let row = SendOpen(Call::StructVariant(name_step(), 3, name_left(), 2), row);
+    send_row(alloc, serializer, &row)
 }
 
 type Field1OfStepLeft = ReadField<FieldsOfStepLeft, 0, String, Field2OfStepLeft>;
@@ -296,19 +337,9 @@ impl Serialize for Step {
             Step::Weighed(x1) => {
                 Call::NewtypeVariant(name_step(), 1, name_weighed()).around(x1, alloc, serializer)
             }
-            Step::Moved(x1, x2) => {
-                let row = SendEnd;
-                let row = SendPart(x2, row);
-                let row = SendPart(x1, row);
-                let row = SendOpen(Call::TupleVariant(name_step(), 2, name_moved_by(), 2), row);
-                send_row(alloc, serializer, &row)
-            }
+            Step::Moved(x1, x2) => send_whole_step_moved(alloc, serializer, self, x1, x2),
             Step::Left { with, place } => {
-                let row = SendEnd;
-                let row = SendField(FieldsOfStepLeft, 1, place, row);
-                let row = SendField(FieldsOfStepLeft, 0, with, row);
-                let row = SendOpen(Call::StructVariant(name_step(), 3, name_left(), 2), row);
-                send_row(alloc, serializer, &row)
+                send_whole_step_left(alloc, serializer, self, with, place)
             }
         }
     }
@@ -541,22 +572,6 @@ fn name_step() -> &'static str
     "Step"
 }
 
-/// The name `open`.
-#[tactic(auto, unfolding(serde_content::specs::Literals::name))]
-fn name_open() -> &'static str
-    ensures { result.now ≡ name "open" }
-{
-    "open"
-}
-
-/// The name `weighed`.
-#[tactic(auto, unfolding(serde_content::specs::Literals::name))]
-fn name_weighed() -> &'static str
-    ensures { result.now ≡ name "weighed" }
-{
-    "weighed"
-}
-
 /// The name `moved-by`.
 #[tactic(auto, unfolding(serde_content::specs::Literals::name))]
 fn name_moved_by() -> &'static str
@@ -571,4 +586,20 @@ fn name_left() -> &'static str
     ensures { result.now ≡ name "left" }
 {
     "left"
+}
+
+/// The name `open`.
+#[tactic(auto, unfolding(serde_content::specs::Literals::name))]
+fn name_open() -> &'static str
+    ensures { result.now ≡ name "open" }
+{
+    "open"
+}
+
+/// The name `weighed`.
+#[tactic(auto, unfolding(serde_content::specs::Literals::name))]
+fn name_weighed() -> &'static str
+    ensures { result.now ≡ name "weighed" }
+{
+    "weighed"
 }

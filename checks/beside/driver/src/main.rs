@@ -1,7 +1,8 @@
 //! Asks the Rust crate for the answer to each case of the standard input, and prints it, written as
 //! crates/check_rows writes ours. Behind a tab stands what the crate answers without the oddity
-//! that the case meets: a hint that no memory can hold, calls that its traits can't make or never
-//! look at, a variant of an enum read as a `Value`.
+//! that the case meets: a hint that no memory can hold, a variant of an enum read as a `Value`.
+//! Calls that Serde's traits can't make have no answer: `impossible` or, in a value that the crate
+//! never looks at, `unseen`. Behind the tab is then the call with which they can't go on.
 
 mod asking;
 mod calls;
