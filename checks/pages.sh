@@ -1,7 +1,7 @@
 #!/usr/bin/env bash
-# checks/pages.sh: compares the pages (README.md, CHANGELOG.md, CONTRIBUTING.md, docs/, bench/README.md and each crate's
-# README.md) with the repository, and ends with status 1 where one of these fails:
-# - No page has more words than the table in checks/pages/pages.py allows it; one that isn't in the table has at most 300.
+# checks/pages.sh [--unproved]: compares the pages (README.md, CHANGELOG.md, CONTRIBUTING.md, docs/, bench/README.md and
+# each crate's README.md) with the repository, and ends with status 1 where one of these fails:
+# - README.md has at most 1,200 words, any other page at most 2,500, and all pages together at most 19,000.
 # - Each relative link leads to a file, and where it names a heading, to one of that page; each file that a page names in
 #   code type is there; each page can be reached from README.md.
 # - Each block of Rust or of definitions is in one file of a crate of crates.txt, word for word, paragraph by paragraph and
@@ -15,7 +15,8 @@
 #   one line, and leaves no file.
 # - The program, run on the lines of each example, gives the answer in the same row; so do the commands after a $.
 # It runs the programs that `rt ci` leaves in crates/content_cli/out and crates/cbor_cli/out, needs python3 and git, and
-# takes three processor minutes.
+# takes three processor minutes. With --unproved it runs no program and no test, and takes half a minute: tools/test tries
+# the examples of programs by itself.
 set -eu
 top=$(cd "$(dirname "$0")/.." && pwd)
 room=$(mktemp -d)
@@ -23,4 +24,4 @@ trap 'rm -rf "$room"' EXIT
 
 mkdir "$room/serde-content"
 tar -C "$top" --exclude=out --exclude=.git -cf - . | tar -C "$room/serde-content" -xf -
-python3 "$top/checks/pages/pages.py" "$top" "$room"
+python3 "$top/checks/pages/pages.py" "$top" "$room" "$@"

@@ -1,6 +1,6 @@
 #!/usr/bin/env python3
-"""pages.py TOP ROOM: the comparisons of checks/pages.sh. TOP is the repository, as `rt ci` leaves it; ROOM an empty
-folder but for a fresh copy of it, serde-content."""
+"""pages.py TOP ROOM [--unproved]: the comparisons of checks/pages.sh. TOP is the repository, as `rt ci` leaves it; ROOM an
+empty folder but for a fresh copy of it, serde-content. With --unproved no program is run."""
 
 import filecmp
 import os
@@ -9,7 +9,11 @@ import subprocess
 import sys
 import textwrap
 
+sys.dont_write_bytecode = True
+from examples import blocks_of, examples, files_below, pages_of, prose_of, read  # noqa: E402
+
 TOP, ROOM = map(os.path.abspath, sys.argv[1:3])
+UNPROVED = sys.argv[3:] == ["--unproved"]
 CODE = ("rt", "antt", "md", "sh", "py", "txt", "edit")
 faults = []
 
@@ -18,58 +22,13 @@ def fault(page, text):
     faults.append(f"{page}: {text}")
 
 
-def read(path):
-    with open(path, encoding="utf-8") as it:
-        return it.read()
-
-
-def files_below(top):
-    """The files of the repository, by their paths in it."""
-    found = []
-    for at, folders, names in os.walk(top):
-        folders[:] = [it for it in folders if it not in ("out", ".git")]
-        found += [os.path.relpath(f"{at}/{it}", top) for it in names]
-    return found
-
-
 FILES = files_below(TOP)
-PAGES = [it for it in FILES if re.fullmatch(r"[A-Z]+\.md|docs/\w+\.md|(bench|crates/\w+)/README\.md", it)]
+PAGES = pages_of(FILES)
 ROOTS = [it for it in FILES if re.fullmatch(r"crates/\w+/src/lib\.rt", it)]
 CRATES = re.findall(r"^(\w+):", read(f"{TOP}/crates.txt"), re.M)
 
-# The most words of each page, as `wc -w` counts them; a page that isn't here has at most OTHER_PAGE.
-MOST_WORDS = {
-    "README.md": 900,
-    "CHANGELOG.md": 250,
-    "CONTRIBUTING.md": 600,
-    "bench/README.md": 730,
-    "crates/check_rows/README.md": 1130,
-    "docs/ARCHITECTURE.md": 830,
-    "docs/CALLING.md": 820,
-    "docs/CALLS.md": 1410,
-    "docs/CBOR.md": 850,
-    "docs/DECISIONS.md": 700,
-    "docs/DIFFERENCES.md": 1040,
-    "docs/HOSTILE_INPUT.md": 780,
-    "docs/OWN_TYPES.md": 1500,
-    "docs/READING.md": 1300,
-    "docs/USES.md": 572,
-    "docs/VALUES.md": 608,
-}
-OTHER_PAGE = 300
-
-
-def blocks_of(text):
-    """The fenced blocks: the words behind the fence, the text, and the text of the page before each, from the block above."""
-    found, after = [], 0
-    for it in re.finditer(r"^```(\w*)\n(.*?)^```$", text, re.M | re.S):
-        found.append((it[1], it[2], text[after : it.start()]))
-        after = it.end()
-    return found
-
-
-def prose_of(text):
-    return re.sub(r"^```.*?^```$", "", text, flags=re.M | re.S)
+# The most words of README.md, of any other page, and of all pages together, as `wc -w` counts them.
+README_WORDS, PAGE_WORDS, ALL_WORDS = 1200, 2500, 19000
 
 
 def anchors_of(text):
@@ -79,10 +38,11 @@ def anchors_of(text):
 
 
 def check_lengths():
-    for page in PAGES:
-        words, most = len(read(f"{TOP}/{page}").split()), MOST_WORDS.get(page, OTHER_PAGE)
-        if words > most:
-            fault(page, f"{words} words, of at most {most}")
+    words = {page: len(read(f"{TOP}/{page}").split()) for page in PAGES}
+    most = {page: PAGE_WORDS for page in PAGES} | {"README.md": README_WORDS, "all pages": ALL_WORDS}
+    for page, count in [*words.items(), ("all pages", sum(words.values()))]:
+        if count > most[page]:
+            fault(page, f"{count} words, of at most {most[page]}")
 
 
 def check_links():
@@ -190,6 +150,8 @@ def follow(blocks):
     for word, block, _ in blocks:
         if word != "sh":
             continue
+        if UNPROVED:
+            block = re.sub(r"^rt try .*\n", "", block, flags=re.M)
         wrote, status, said = try_unproved(["bash", "-euc", block + "pwd"], folder)
         if status:
             fault(OWN_TYPES, f"a block of commands fails: {block.strip()}: {(wrote + said).strip()[-500:]}")
@@ -240,6 +202,8 @@ def check_gate(project, crate):
     _, status, said = run(["bash", "-euc", then], project)
     if first != "rt ci" or "--check" not in then or status:
         fault(OWN_TYPES, f"what is made has the gate {first} && {then}: {said.strip()}")
+    if UNPROVED:
+        return
     tests = [len(re.findall(r"^#\[test\]$", read(f"{project}/crates/{crate}/{it}"), re.M))
              for it in files_below(f"{project}/crates/{crate}") if it.endswith(".rt")]
     wrote, status, said = try_unproved(["rt", "try", "--test"], f"{project}/crates/{crate}")
@@ -296,36 +260,15 @@ def check_own_types():
 
 
 def check_program():
-    """The examples of lines: tables with a column 'Lines ..' and one 'Answer', and commands after a $."""
-    program, tried = f"{TOP}/crates/content_cli/out/content_cli", 0
-    for page in PAGES:
-        heads = None
-        for line in prose_of(read(f"{TOP}/{page}")).split("\n"):
-            cells = [it.strip() for it in line.strip("|").split("|")] if line.startswith("|") else None
-            if cells is None or heads is None:
-                heads = cells
-                continue
-            at = next((i for i, it in enumerate(heads) if it.startswith("Lines")), None)
-            if at is None or "Answer" not in heads or set("".join(cells)) <= {"-"}:
-                continue
-            lines = re.findall(r"`([^`]*)`", cells[at])
-            if "after `map`, before `end`" in heads[at]:
-                lines = ["map", *lines, "end"]
-            wanted = cells[heads.index("Answer")].strip("`")
-            wrote, _, _ = run([program], TOP, "".join(f"{it}\n" for it in lines).encode())
-            tried += 1
-            if wrote != f"{wanted}\n":
-                fault(page, f"{' '.join(lines)} gives {wrote.strip()}, and not {wanted}")
-        for word, block, _ in blocks_of(read(f"{TOP}/{page}")):
-            if word == "" and block.startswith("$ "):
-                command, _, wanted = block[2:].partition("\n")
-                wrote, _, _ = run(["bash", "-c", command], TOP)
-                tried += 1
-                if wrote != wanted:
-                    fault(page, f"{command} gives {wrote.strip()}, and not {wanted.strip()}")
+    """The examples of programs: each gives the answer that its page shows."""
+    tried = [*examples(TOP)]
+    for it in tried:
+        wrote, _, _ = run([f"{TOP}/crates/{it.program}/out/{it.program}", *it.arguments], TOP, it.text)
+        if wrote != it.wanted:
+            fault(it.page, f"{it.shown} gives {wrote.strip()}, and not {it.wanted.strip()}")
     if not tried:
         fault("docs/CALLS.md", "no example of lines was found")
-    return tried
+    return len(tried)
 
 
 def check_readme():
@@ -336,7 +279,7 @@ def check_readme():
     if status or wrote.strip() != said.rpartition(": ")[2]:
         ended = f"writes {wrote.strip()} and ends with status {status}: {errors.strip()[-300:]}"
         fault("README.md", f"{command.strip()} {ended}")
-    for path in re.findall(r"^sh (\S+)", block, re.M):
+    for path in re.findall(r"^(?:sh )?([\w.-]+/\S+)", block, re.M):
         if not os.path.isfile(f"{TOP}/{path}"):
             fault("README.md", f"{path} isn't there")
 
@@ -346,12 +289,14 @@ def main():
     check_links()
     check_names()
     check_blocks()
-    tried = check_program()
-    check_readme()
+    tried = 0
+    if not UNPROVED:
+        tried = check_program()
+        check_readme()
     check_own_types()
     for it in faults:
         print(it)
-    print(f"{len(PAGES)} pages, {tried} examples of lines: {len(faults)} faults")
+    print(f"{len(PAGES)} pages, {tried} examples of programs: {len(faults)} faults")
     sys.exit(1 if faults else 0)
 
 

@@ -10,6 +10,9 @@ import tempfile
 from concurrent.futures import ThreadPoolExecutor
 from typing import NamedTuple
 
+sys.dont_write_bytecode = True
+from stored import stored  # noqa: E402
+
 top, room, folder = sys.argv[1:]
 here = f"{top}/checks/refused"
 PROGRAMS = ("content_cli", "check_memory", "check_rows", "cbor_cli")
@@ -163,22 +166,16 @@ def short_lines():
             yield line, answer
 
 
-def stored(program, name):
-    """A program with each input of a file, behind which stand `-> STATUS ANSWER`, of one line or
-    more, and an empty line where another input follows; behind `-|` the input has no newline at its
-    end."""
-    parts = re.split(rb"(?m)^-([>|]) (\d) (.*\n(?:.+\n)*)\n?", contents(f"{here}/{name}"))
-    for text, end, status, answer in zip(*(parts[at::4] for at in range(4))):
-        text = text[:-1] if end == b"|" else text
-        yield Case(program, text, (answer, int(status)))
-    if parts[-1]:
-        sys.exit(f"{here}/{name}: no answer stands behind {parts[-1]!r}")
+def stored_cases(program, name):
+    """A program with each input of a file and its answer."""
+    for it in stored(f"{here}/{name}"):
+        yield Case(program, it.text, (it.answer, it.status))
 
 
 def cases():
     """Each program with each small input: that of the rows has one row a run, some of each sort
     and two that differ; that of CBOR one line, or the calls of one tree."""
-    yield from stored("content_cli", "lines")
+    yield from stored_cases("content_cli", "lines")
     yield Case("check_memory", b"", (contents(f"{top}/crates/check_memory/stdout"), 0))
     for row in some_rows():
         yield Case("check_rows", row + b"\n", AGREES)
@@ -188,8 +185,8 @@ def cases():
     yield Case("check_rows", b"plain\tNone\tok ()\n", differs)
     for line, answer in short_lines():
         yield Case("cbor_cli", line + b"\n", (answer + b"\n", 0))
-    yield from stored("cbor_cli", "calls")
-    yield from stored("cbor_cli --pretty", "pretty")
+    yield from stored_cases("cbor_cli", "calls")
+    yield from stored_cases("cbor_cli --pretty", "pretty")
 
 
 def usages():

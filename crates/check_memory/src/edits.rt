@@ -71,7 +71,7 @@ fn is_pushed(items: &mut Value<'static>) -> bool {
 fn is_given_back<T: PartialEq + Drop>(refused: InsertError<T>, given: T) -> bool {
     match refused {
         InsertError::OutOfMemory(back) => same(back, given),
-        InsertError::WrongKind(back) => {
+        InsertError::NoPlace(back) => {
             drop(back);
             drop(given);
             false

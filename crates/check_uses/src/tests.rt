@@ -3,7 +3,6 @@
 mod answers;
 mod cbor;
 mod located;
-mod nested;
 mod spread;
 mod uses;
 mod values;

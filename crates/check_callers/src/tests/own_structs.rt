@@ -7,7 +7,7 @@ ghost use Rattle.content_de.specs.Reads.Own.{tuple_struct_refusal, TupleStructGi
 ghost use Rattle.content_de.specs.Reads.Tuples.{part_then, end_of_parts, PartThen, NoPart};
 
 use serde_content::de::{Deserialize, two_parts};
-use serde_content::{Deserializer, Error, Result as Answer, Value};
+use serde_content::{Deserializer, Result as Answer, Value};
 use std::alloc::Global;
 use std::test::Fail;
 
@@ -65,17 +65,12 @@ impl<'de> Deserialize<'de> for Pair {
 }
 
 /// Reads a pair of values by place.
-fn read_pair(alloc: Global, values: &[u32], buffered: bool) -> Answer<Pair> {
+fn read_pair(alloc: Global, values: &[u32]) -> Answer<Pair> {
     let mut items = Vec::new(alloc);
     for value in values {
         items.push(Value::from(*value))?;
     }
-    let from = Deserializer::new(Value::Seq(items));
-    if buffered {
-        from.buffered().deserialize(alloc)
-    } else {
-        from.deserialize(alloc)
-    }
+    Deserializer::new(Value::Seq(items)).deserialize(alloc)
 }
 
 #[test]
@@ -84,16 +79,7 @@ fn structs_of_other_sorts_are_read(rt: HostRuntime) -> Result<(), Fail> {
     let Marker = Deserializer::new(Value::Unit).deserialize(alloc)?;
     let metres: Metres = Deserializer::new(Value::from(7u32)).deserialize(alloc)?;
     assert!(rt; metres.0 == 7);
-    let pair = read_pair(alloc, &[1, 2], false)?;
+    let pair = read_pair(alloc, &[1, 2])?;
     assert!(rt; pair.0 == 1 && pair.1 == 2);
-    Ok(())
-}
-
-#[test]
-fn values_left_over_are_refused_in_a_buffer(rt: HostRuntime) -> Result<(), Fail> {
-    let alloc = rt.alloc();
-    assert!(rt; read_pair(alloc, &[1, 2, 3], false)?.1 == 2);
-    let refused = read_pair(alloc, &[1, 2, 3], true).err();
-    assert!(rt; refused == Some(Error::custom(alloc, "too many elements: expected 2")));
     Ok(())
 }

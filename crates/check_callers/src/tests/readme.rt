@@ -1,8 +1,8 @@
-//! The example of the readme, a test for each paragraph.
+//! The first example of the readme, and that of the page on calls.
 
 use serde_content::samples::Point;
 use serde_content::ser::{Call, from_calls};
-use serde_content::{Deserializer, Number, Serializer, Value, round_trip, value};
+use serde_content::{Deserializer, Number, Serializer, value};
 use std::test::Fail;
 
 #[test]
@@ -17,21 +17,6 @@ fn a_value_prints_and_is_read_again(rt: HostRuntime) -> Result<(), Fail> {
     assert!(rt; value.get_str("x").and_then(|x| x.as_i64()) == Some(1));
     let point: Point = Deserializer::new(value).deserialize(alloc)?;
     assert!(rt; point == Point { x: 1, y: 2 });
-    Ok(())
-}
-
-#[test]
-fn a_value_of_another_kind_is_refused(rt: HostRuntime) -> Result<(), Fail> {
-    let alloc = rt.alloc();
-
-    // A value of another kind is refused: the error says what was found and what was expected.
-    let number: serde_content::Result<u8> = Deserializer::new(Value::Bool(true)).deserialize(alloc);
-    let text = match number {
-        Ok(_) => String::new(alloc),
-        Err(error) => format!(in alloc; "{error}")?,
-    };
-    let wanted = "failed to deserialize; expected an 8-bit unsigned integer, found true";
-    assert!(rt; text.as_str() == wanted);
     Ok(())
 }
 
@@ -59,14 +44,5 @@ fn a_call_out_of_place_is_refused(rt: HostRuntime) -> Result<(), Fail> {
         Ok(_) => assert!(rt; false),
         Err(refusal) => assert!(rt; refusal.at == 1),
     }
-    Ok(())
-}
-
-#[test]
-fn what_is_sent_comes_back(rt: HostRuntime) -> Result<(), Fail> {
-    let alloc = rt.alloc();
-
-    // What is sent comes back equal.
-    assert!(rt; round_trip(alloc, &Some(7u8), false, false)? == Some(7));
     Ok(())
 }

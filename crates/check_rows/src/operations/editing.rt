@@ -80,7 +80,7 @@ pub fn set_pointer(out: &mut Answer, pieces: &mut Pieces<'_>) {
 /// cause.
 fn given_back<T>(out: &mut Answer, refused: InsertError<T>) -> T {
     match refused {
-        InsertError::WrongKind(given) => {
+        InsertError::NoPlace(given) => {
             out.push_str("wrong kind ");
             given
         }

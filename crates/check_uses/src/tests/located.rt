@@ -1,24 +1,9 @@
 //! Where a value was refused: the path of the error, and its text with the path.
 
-use serde_content::{CowStr, Deserializer, Error, Result as Answer, Value, value};
+use serde_content::{CowStr, Deserializer, Error, Result as Answer, value};
 use std::alloc::Global;
-use std::collections::BTreeMap;
 use std::process::Abort;
 use std::test::Fail;
-
-/// A name, what a path has of it, and what the text has.
-const NAMES: [(&str, &str, &str); 10] = [
-    ("port", "/port", "port"),
-    ("Ab_9-", "/Ab_9-", "Ab_9-"),
-    ("07", "/07", "07"),
-    ("", "/", "[\"\"]"),
-    ("two words", "/two words", "[\"two words\"]"),
-    ("a.b", "/a.b", "[\"a.b\"]"),
-    ("a/b~c~1", "/a~1b~0c~01", "[\"a/b~c~1\"]"),
-    ("\"\\\n", "/\"\\\n", "[\"\\\"\\\\\\n\"]"),
-    ("\u{7f}", "/\u{7f}", "[\"\\u{7f}\"]"),
-    ("\u{fc}", "/\u{fc}", "[\"\u{fc}\"]"),
-];
 
 /// Where something was refused, and why.
 fn told(alloc: Global, error: &Error) -> Answer<String> {
@@ -49,24 +34,6 @@ fn check(
     let told = told_if_refused(alloc, error)?;
     let wanted = format!(in alloc; "{path}; {text}")?;
     assert_eq!(rt; told.as_str(), wanted.as_str());
-    Ok(())
-}
-
-/// Why a number is refused whose key is this name.
-fn refused(alloc: Global, name: &str) -> Answer<Option<Error>> {
-    let entries = vec![in alloc; (Value::from(name), Value::from(7u8))]?;
-    let from = Deserializer::new(Value::Map(entries)).coerce_numbers();
-    Ok(from.deserialize::<BTreeMap<String, bool>>(alloc).err())
-}
-
-#[test]
-fn names_are_escaped(rt: HostRuntime) -> Result<(), Fail> {
-    let alloc = rt.alloc();
-    for (name, path, written) in NAMES {
-        let text = format!(in alloc; "{written}: expected a boolean, found 7u8")?;
-        check(&rt, alloc, refused(alloc, name)?, path, text.as_str())?;
-        drop(text);
-    }
     Ok(())
 }
 

@@ -1,4 +1,0 @@
-//! Types that `tools/derive` wrote: some of each sort and size.
-#![tactic(auto)]
-
-pub mod sample;
