@@ -1,6 +1,33 @@
 # shellcheck shell=bash
-# What the measurements, checks/serde_texts.sh, checks/beside.sh and checks/derive_beside.sh do alike;
-# they source it. They work in the folder $room, from the top of the repository in $top.
+# What the measurements and the checks outside the gate do alike; they source it. They work in the
+# folder $room, from the top of the repository in $top.
+
+# lacks WHAT HOW: ends with one line that says what is missing and how it is got.
+lacks() {
+    echo "$0 needs $1: $2" >&2
+    exit 2
+}
+
+# need NAME..: ends so where a command or a Debian package is missing.
+need() {
+    local name missing=()
+    for name in "$@"; do
+        command -v "$name" > /dev/null || dpkg -s "$name" > /dev/null 2>&1 || missing+=("$name")
+    done
+    [ ${#missing[@]} = 0 ] || lacks "${missing[*]}" "apt-get install ${missing[*]}"
+}
+
+# take_original CRATE ROOM: the source of the Rust crate in $crate, and the folder $room.
+take_original() {
+    if [ $# -lt 2 ] || [ ! -f "$1/src/lib.rs" ]; then
+        lacks "CRATE, the source of serde-content 0.1.2, and ROOM, a folder to work in" \
+            "'cargo add serde-content@=0.1.2 && cargo vendor' in a Rust crate puts the source in vendor/serde-content"
+    fi
+    need rsync cargo python3 librust-serde-dev librust-serde-derive-dev
+    crate=$(cd "$1" && pwd)
+    mkdir -p "$2"
+    room=$(cd "$2" && pwd)
+}
 
 # place_ours CRATE SOURCE LINE: a copy of the repository with one crate more, from the folder SOURCE,
 # whose line of crates.txt is LINE. Files there end in .in, since the gate stops at a .rt file that

@@ -8,12 +8,10 @@ set -euo pipefail
 
 here=$(cd "$(dirname "$0")" && pwd)
 top=$(cd "$here/../.." && pwd)
-crate=$(cd "$1" && pwd)
-mkdir -p "$2"
-room=$(cd "$2" && pwd)
 
 # shellcheck source=bench/common.sh
 . "$top/bench/common.sh"
+take_original "$@"
 
 place_ours content_port "$here/content_port" \
     'content_port staticlib: serde_content content_build content_de content_ser content_tree'
