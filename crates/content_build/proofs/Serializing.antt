@@ -1,14 +1,18 @@
 -- What is serialised to a new builder, within any limit.
-use Rattle.std.proofs.Common.{◌≡◌, ℕ, ◌≤◌, Bool, false, List, [], ◌∷◌, ◌++◌, Option, Some}
+use Rattle.std.proofs.Common.{◌≡◌, ℕ, suc, arith, ◌≤◌, Bool, false, List, [], ◌∷◌, ◌++◌, Option, Some}
 use Rattle.std.proofs.Common.{None}
 use Rattle.std.proofs.Common.{Result, Ok, Err, IsErrAnd, refl, sym, subst, ap, ◌∙◌, inl, inr}
 use Rattle.std.proofs.Common.{⊎_elim}
 use Rattle.std.proofs.Common.{append_assoc, append-nil}
 use Rattle.content_tree.specs.declared.error.Error.{Error}
+use Rattle.content_tree.specs.Values.Value.{tree_of}
 use Rattle.content_tree.specs.declared.value.NamedValue.{NamedValue}
 use Rattle.content_ser.specs.Calls.Event.{Event}
 use Rattle.content_ser.specs.Grammar.Depth.{IsLimit, SpellsWithin, IsWholeWithin, IsViableWithin}
-use Rattle.content_ser.specs.Grammar.Spells.{IsWhole}
+use Rattle.content_ser.specs.Grammar.Spells.{IsWhole, Spells}
+use Rattle.content_ser.specs.Grammar.Token.{tokens}
+use Rattle.content_ser.specs.Scripts.Direct as direct
+use Rattle.content_ser.specs.Scripts.Direct.{Spelled, TheTree}
 use Rattle.content_ser.specs.Serializers.Step.{Seen}
 use Rattle.content_ser.specs.Scripts.Script.{Script, calls_of, stop_of, IsLawful}
 use Rattle.content_ser.specs.Scripts.Sends.{Sends, AnswersScript, Halted, Stopped}
@@ -98,3 +102,13 @@ unlimited (Some n) sc r lawful s e = absurd (cc)
 pub within : (limit : Option ℕ) (sc : Script) (r : Result NamedValue Error) → (IsLimit limit → SerializedWithin limit sc r) → (n : ℕ) → limit ≡ Some n → 1 ≤ n → SerializedWithin (Some n) sc r
 within None sc r s n e l = absurd (cc)
 within (Some m) sc r s n e l = let same : m ≡ n = cc in subst (λ k. SerializedWithin (Some k) sc r) same (s (subst (λ k. 1 ≤ k) (sym same) l))
+
+-- what is made with no calls
+pub made_whole : {room : ℕ} {sc : Script} {v : NamedValue} → Spelled room sc (Ok v) → Serialized sc (Ok v)
+made_whole {room} {sc} {v} (direct.made m) = (m.0, subst (λ ks. Spells ks (tree_of v) []) (append-nil (tokens (calls_of sc))) (m.1 []).0)
+
+-- the same within a limit
+pub made_within : {room limit : ℕ} {sc : Script} {v : NamedValue} → suc room ≡ limit → Spelled room sc (Ok v) → SerializedWithin (Some limit) sc (Ok v)
+made_within {room} {limit} {sc} {v} fits (direct.made m) =
+    let whole = subst (λ ks. TheTree room (tree_of v) ks []) (append-nil (tokens (calls_of sc))) (m.1 []) in
+    (m.0, (whole.0, whole.1 limit 1 (omega (arith, fits))))

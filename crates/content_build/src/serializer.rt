@@ -1,12 +1,12 @@
 //! The tree of anything that can be serialised.
 
-ghost use Rattle.std.specs.Prelude.{◌≡◌, ◌≤◌, ℕ, true, false, None, Some};
+ghost use Rattle.std.specs.Prelude.{◌≡◌, ◌≤◌, ℕ, suc, true, false, None, Some};
 ghost use Rattle.content_build.specs.Serializer.{is_readable, limit_of, Serialized};
 ghost use Rattle.content_build.specs.Serializer.{SerializedWithin};
 
 use crate::builder::Builder;
-use content_ser::{Aside, Serialize};
-use content_tree::{Error, ErrorKind, Result, Value};
+use content_ser::{Aside, Serialize, Unmade};
+use content_tree::{Error, ErrorKind, NamedValue, Result, Value};
 use std::alloc::Global;
 
 /// Makes a value of anything that can be serialised. The name and the flag are `serde-content`'s.
@@ -82,11 +82,53 @@ impl Serializer {
         ensures within { (limit : ℕ) → limit_of self ≡ Some limit → 1 ≤ limit
             → SerializedWithin (Some limit) (T.script value.now (is_readable self)) result }
     {
-        let mut builder: Builder<'static> = Builder::within(alloc, self.human_readable, self.limit);
+        self.serialize_named(alloc, value)
+    }
+
+    /// The same, at any lifetimes: what a generic function needs that reads what it sends, since
+    /// `Value<'static>` isn't shortened. Not in `serde-content`.
+    pub fn serialize_named<'v, 'n, T: Serialize>(
+        self,
+        alloc: Global,
+        value: &T,
+    ) -> Result<NamedValue<'v, 'n>>
+        ensures unlimited { limit_of self ≡ None
+            → Serialized (T.script value.now (is_readable self)) result }
+        ensures within { (limit : ℕ) → limit_of self ≡ Some limit → 1 ≤ limit
+            → SerializedWithin (Some limit) (T.script value.now (is_readable self)) result }
+    {
+        if T::IS_DIRECT {
+            match value.direct(alloc, self.human_readable, self.room()) {
+                Ok(made) => return Ok(made),
+                Err(Unmade::OutOfMemory) => return Err(Error::from(ErrorKind::OutOfMemory)),
+                Err(Unmade::ByCalls) => {}
+            }
+        }
+        self.build(alloc, value)
+    }
+
+    /// How many levels there may be inside the tree.
+    fn room(self) -> usize
+        ensures { (limit : ℕ) → limit_of self ≡ Some limit → 1 ≤ limit → suc result ≡ limit }
+    {
+        match self.limit {
+            None => usize::MAX,
+            Some(limit) => limit.saturating_sub(1),
+        }
+    }
+
+    /// Makes the tree by the value's calls.
+    fn build<'v, 'n, T: Serialize>(self, alloc: Global, value: &T) -> Result<NamedValue<'v, 'n>>
+        ensures unlimited { limit_of self ≡ None
+            → Serialized (T.script value.now (is_readable self)) result }
+        ensures within { (limit : ℕ) → limit_of self ≡ Some limit → 1 ≤ limit
+            → SerializedWithin (Some limit) (T.script value.now (is_readable self)) result }
+    {
+        let mut builder: Builder<'v> = Builder::within(alloc, self.human_readable, self.limit);
         // In the place of an error before there is one; no answer shows it.
         let mut error = Error::from(ErrorKind::OutOfMemory);
         match value.serialize_aside(alloc, &mut builder, &mut error) {
-            Ok(()) => builder.finish(),
+            Ok(()) => builder.finish_named(),
             Err(Aside) => Err(error),
         }
     }

@@ -13,3 +13,4 @@ pub mod Canonically
 mod DerivedEquality
 pub mod Equality
 pub mod Listed
+pub mod Making

@@ -1,5 +1,5 @@
 -- What is sent as a text where the serialiser is human readable, and else otherwise.
-use Rattle.std.proofs.Common.{◌≡◌, inl, inr, Bool, true, false, ℕ, List, Some, Result, Ok, Err, IsErrAnd, refl, ap, sym, subst, ◌∙◌}
+use Rattle.std.proofs.Common.{◌≡◌, inl, inr, Bool, true, false, ℕ, List, Some, Ok, Err, IsErrAnd, refl, sym, subst}
 use Rattle.content_ser.specs.Calls.Event as event
 use Rattle.content_tree.specs.Errors.Kind.{IsOutOfMemory}
 use Rattle.content_ser.specs.Serializers.Step.{Seen, Step, RefusalRule, Answer, Takes, Collects}

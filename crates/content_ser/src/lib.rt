@@ -22,6 +22,7 @@
 //! | a serialiser | [`Serializer`] |
 //! | what can be sent; a type of your own | [`Serialize`]; [`Parts`] |
 //! | how values and the standard library's types are sent | `send`, `impls` |
+//! | values made with no calls | [`Serialize::direct`], [`Made`], [`Unmade`] |
 //! | errors that are put aside, to save stack | [`Aside`], [`Sent`] |
 //! | laws | [`laws`] |
 
@@ -29,6 +30,7 @@
 
 mod aside;
 mod call;
+mod direct;
 mod head;
 mod impls;
 pub mod laws;
@@ -40,6 +42,7 @@ mod serializer;
 
 pub use aside::{Aside, Sent};
 pub use call::Call;
+pub use direct::{Made, Unmade};
 pub use head::Head;
 pub use parts::{Announced, Parts};
 pub use replaying::replay;

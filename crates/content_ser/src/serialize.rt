@@ -1,11 +1,13 @@
 //! The trait of what serialisers take.
 
 ghost use Rattle.std.specs.Prelude.{Bool};
+ghost use Rattle.content_ser.specs.Scripts.Direct.{Spelled};
 ghost use Rattle.content_ser.specs.Scripts.Script.{IsLawful, Script};
 ghost use Rattle.content_ser.specs.Scripts.Sends.{Sends};
 ghost use Rattle.content_ser.specs.Sending.Aside.{answer_of};
 
 use crate::aside::{Sent, put_aside};
+use crate::direct::{Made, Unmade};
 use crate::serializer::Serializer;
 use content_tree::{Error, Result};
 use std::alloc::Global;
@@ -42,6 +44,26 @@ pub trait Serialize {
             (answer_of result error.new) (S.seen serializer.new) }
     {
         put_aside(self.serialize(alloc, serializer), error)
+    }
+
+    /// Whether [`direct`](Serialize::direct) makes the values of this type. Not in `serde-content`.
+    const IS_DIRECT: bool = false;
+
+    /// Makes the value that the calls of the script spell, for a serialiser that is human readable
+    /// or not, without making them: all its texts are owned, and each part gets the memory that it
+    /// needs. There may be so many levels inside the value: `room`. A type need not give it. Not in
+    /// `serde-content`.
+    ///
+    /// # Errors
+    ///
+    /// `OutOfMemory`, where an allocation failed. `ByCalls`, where the type doesn't give this, or
+    /// the value nests deeper: the calls say then what it is, or why there is none.
+    #[tactic(auto, using(crate::proofs::Making::making))]
+    fn direct<'v, 'n>(&self, alloc: Global, readable: bool, room: usize) -> Made<'v, 'n>
+        ensures { Spelled room (script self.now readable) result }
+    {
+        let _unused = (alloc, readable, room);
+        Err(Unmade::ByCalls)
     }
 
     /// Without a stop the calls spell a tree; with a stop some calls can follow that make them

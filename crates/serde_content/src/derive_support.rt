@@ -29,6 +29,6 @@ pub use crate::rests::{ReadRest, TryRest};
 pub use crate::skips::{Skip, count_unless};
 pub use crate::tags::{Aliases, OtherAt, OwnNames, Tags, read_enum_by};
 pub use crate::variants::{
-    TaggedVariants, Variants, read_adjacent, read_adjacent_by, read_enum, read_tagged,
+    TaggedVariants, Variants, in_variant, read_adjacent, read_adjacent_by, read_enum, read_tagged,
     read_tagged_by,
 };

@@ -11,7 +11,7 @@ ghost use Rattle.content_de.specs.Reads.Read.{Reads};
 ghost use Rattle.serde_content.specs.RoundTrip.{flags};
 
 use crate::round::{RoundTrip, under};
-use content_build::Builder;
+use content_build::Serializer;
 use content_ser::Serialize;
 use content_tree::{NamedValue, Result};
 use std::alloc::Global;
@@ -31,9 +31,12 @@ pub fn to_value<'v, 'n, T: Serialize>(
 ) -> Result<NamedValue<'v, 'n>>
     ensures { Serialized (T.script value.now human_readable) result }
 {
-    let mut builder: Builder<'v> = Builder::new(alloc, human_readable);
-    value.serialize(alloc, &mut builder)?;
-    builder.finish_named()
+    let serializer = Serializer::new();
+    if human_readable {
+        serializer.human_readable().serialize_named(alloc, value)
+    } else {
+        serializer.serialize_named(alloc, value)
+    }
 }
 
 /// Reads the value as a type, human readable or not. Where it was made of a value of the type, an

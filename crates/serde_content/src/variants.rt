@@ -108,13 +108,7 @@ pub fn read_enum<'de, 'n: 'de, T: Variants<'de>>(
 /// The error with the tag added to its path, if this name is that of a variant.
 #[cold]
 #[inline(never)]
-pub(crate) fn in_variant(
-    alloc: Global,
-    name: &str,
-    tag: &str,
-    names: &[&str],
-    error: Error,
-) -> Error
+pub fn in_variant(alloc: Global, name: &str, tag: &str, names: &[&str], error: Error) -> Error
     ensures cause { cause result ≡ cause error }
     ensures path { MatchOption (position (λ own. bytes_eq name.now own.now) names.now)
         (places result ≡ places error)

@@ -3,6 +3,7 @@
 #![tactic(auto, using(crate::proofs::Sending::sending))]
 
 use crate::aside::Sent;
+use crate::direct::Made;
 use crate::serialize::Serialize;
 use crate::serializer::Serializer;
 use content_tree::{Error, Result};
@@ -13,6 +14,8 @@ impl<T: Serialize> Serialize for Arc<T> {
     ghost script = { λ b. T.script b.value };
 
     ghost lawful = { λ b. T.lawful b.value };
+
+    const IS_DIRECT: bool = T::IS_DIRECT;
 
     fn serialize<S: Serializer>(&self, alloc: Global, serializer: &mut S) -> Result<()> {
         Serialize::serialize(&**self, alloc, serializer)
@@ -25,5 +28,9 @@ impl<T: Serialize> Serialize for Arc<T> {
         error: &mut Error,
     ) -> Sent {
         Serialize::serialize_aside(&**self, alloc, serializer, error)
+    }
+
+    fn direct<'v, 'n>(&self, alloc: Global, readable: bool, room: usize) -> Made<'v, 'n> {
+        Serialize::direct(&**self, alloc, readable, room)
     }
 }

@@ -1,6 +1,7 @@
 //! References, as what they point to.
 
 use crate::aside::Sent;
+use crate::direct::Made;
 use crate::serialize::Serialize;
 use crate::serializer::Serializer;
 use content_tree::{Error, Result};
@@ -10,6 +11,8 @@ impl<'a, T: Serialize> Serialize for &'a T {
     ghost script = { λ r. T.script r.now };
 
     ghost lawful = { λ r. T.lawful r.now };
+
+    const IS_DIRECT: bool = T::IS_DIRECT;
 
     fn serialize<S: Serializer>(&self, alloc: Global, serializer: &mut S) -> Result<()> {
         Serialize::serialize(*self, alloc, serializer)
@@ -22,5 +25,9 @@ impl<'a, T: Serialize> Serialize for &'a T {
         error: &mut Error,
     ) -> Sent {
         Serialize::serialize_aside(*self, alloc, serializer, error)
+    }
+
+    fn direct<'v, 'n>(&self, alloc: Global, readable: bool, room: usize) -> Made<'v, 'n> {
+        Serialize::direct(*self, alloc, readable, room)
     }
 }

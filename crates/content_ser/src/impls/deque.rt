@@ -1,16 +1,17 @@
 //! Double-ended queues, as sequences from the front.
 
-#![tactic(auto, using(crate::proofs::Sending::sending))]
+#![tactic(auto, using(crate::proofs::Sending::sending, crate::proofs::Making::making))]
 
 ghost use Rattle.content_ser.specs.Scripts.Standard.{seq_script};
 ghost use Rattle.content_ser.specs.Laws.StandardScripts.{seq_lawful};
 
 use crate::aside::{Sent, answered};
 use crate::call::Call;
+use crate::direct::{Made, inside};
 use crate::send::calls::{announce, end, serialize_seq};
 use crate::serialize::Serialize;
 use crate::serializer::Serializer;
-use content_tree::{Error, Result};
+use content_tree::{Error, NamedValue, Result};
 use std::alloc::Global;
 use std::collections::VecDeque;
 
@@ -18,6 +19,8 @@ impl<T: Serialize> Serialize for VecDeque<T> {
     ghost script = { λ q. seq_script T.script q.items };
 
     ghost lawful = { λ q. seq_lawful T.lawful q.items };
+
+    const IS_DIRECT: bool = T::IS_DIRECT;
 
     fn serialize<S: Serializer>(&self, alloc: Global, serializer: &mut S) -> Result<()> {
         answered!(error => self.serialize_aside(alloc, serializer, &mut error))
@@ -34,5 +37,14 @@ impl<T: Serialize> Serialize for VecDeque<T> {
             announce(Call::Element, item, alloc, serializer, error)?;
         }
         end(serializer, error)
+    }
+
+    fn direct<'v, 'n>(&self, alloc: Global, readable: bool, room: usize) -> Made<'v, 'n> {
+        let levels = inside(room)?;
+        let mut items: Vec<NamedValue<'v, 'n>> = Vec::with_capacity(alloc, self.len())?;
+        for item in self {
+            items.push_reserved(item.direct(alloc, readable, levels)?);
+        }
+        Ok(NamedValue::Seq(items))
     }
 }

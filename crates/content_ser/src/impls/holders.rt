@@ -1,21 +1,24 @@
 //! Optional values and boxes.
 
-#![tactic(auto, using(crate::proofs::Sending::sending))]
+#![tactic(auto, using(crate::proofs::Sending::sending, crate::proofs::Making::making))]
 
 ghost use Rattle.content_ser.specs.Scripts.Standard.{option_script};
 ghost use Rattle.content_ser.specs.Laws.StandardScripts.{option_lawful};
 
 use crate::aside::{Sent, answered};
+use crate::direct::{Made, inside};
 use crate::send::calls::{serialize_none, serialize_some};
 use crate::serialize::Serialize;
 use crate::serializer::Serializer;
-use content_tree::{Error, Result};
+use content_tree::{Error, NamedValue, Result};
 use std::alloc::Global;
 
 impl<T: Serialize> Serialize for Option<T> {
     ghost script = { option_script T.script };
 
     ghost lawful = { option_lawful T.lawful };
+
+    const IS_DIRECT: bool = T::IS_DIRECT;
 
     fn serialize<S: Serializer>(&self, alloc: Global, serializer: &mut S) -> Result<()> {
         answered!(error => self.serialize_aside(alloc, serializer, &mut error))
@@ -35,12 +38,24 @@ impl<T: Serialize> Serialize for Option<T> {
             }
         }
     }
+
+    fn direct<'v, 'n>(&self, alloc: Global, readable: bool, room: usize) -> Made<'v, 'n> {
+        match self {
+            None => Ok(NamedValue::Option(None)),
+            Some(value) => {
+                let value = value.direct(alloc, readable, inside(room)?)?;
+                Ok(NamedValue::Option(Some(Box::new(alloc, value)?)))
+            }
+        }
+    }
 }
 
 impl<T: Serialize> Serialize for Box<T> {
     ghost script = { λ b. T.script b.value };
 
     ghost lawful = { λ b. T.lawful b.value };
+
+    const IS_DIRECT: bool = T::IS_DIRECT;
 
     fn serialize<S: Serializer>(&self, alloc: Global, serializer: &mut S) -> Result<()> {
         Serialize::serialize(&**self, alloc, serializer)
@@ -53,5 +68,9 @@ impl<T: Serialize> Serialize for Box<T> {
         error: &mut Error,
     ) -> Sent {
         Serialize::serialize_aside(&**self, alloc, serializer, error)
+    }
+
+    fn direct<'v, 'n>(&self, alloc: Global, readable: bool, room: usize) -> Made<'v, 'n> {
+        Serialize::direct(&**self, alloc, readable, room)
     }
 }

@@ -1,6 +1,6 @@
 //! Paths, as texts.
 
-#![tactic(auto, using(crate::proofs::Sending::sending))]
+#![tactic(auto, using(crate::proofs::Sending::sending, crate::proofs::Making::making))]
 
 ghost use Rattle.std.specs.Prelude.{refl};
 ghost use Rattle.std.specs.Path.{path_buf_bytes};
@@ -10,6 +10,7 @@ ghost use Rattle.content_ser.specs.Laws.StandardScripts.{leaf_lawful};
 
 use crate::aside::Sent;
 use crate::call::Call;
+use crate::direct::{Made, made_text};
 use crate::serialize::Serialize;
 use crate::serializer::Serializer;
 use content_tree::{CowStr, Error, Result};
@@ -20,6 +21,8 @@ impl Serialize for PathBuf {
     ghost script = { λ p. only (text (path_buf_bytes p)) };
 
     ghost lawful = { λ x readable. leaf_lawful refl };
+
+    const IS_DIRECT: bool = true;
 
     fn serialize<S: Serializer>(&self, _alloc: Global, serializer: &mut S) -> Result<()> {
         serializer.serialize_str(self.as_str())
@@ -33,5 +36,10 @@ impl Serialize for PathBuf {
         error: &mut Error,
     ) -> Sent {
         serializer.call_aside(Call::Str(CowStr::Borrowed(self.as_str())), error)
+    }
+
+    #[inline(always)]
+    fn direct<'v, 'n>(&self, alloc: Global, _readable: bool, _room: usize) -> Made<'v, 'n> {
+        made_text(alloc, self.as_str())
     }
 }

@@ -6,6 +6,7 @@ ghost use Rattle.content_ser.specs.Scripts.Standard.{seq_script};
 ghost use Rattle.content_ser.specs.Laws.StandardScripts.{seq_lawful};
 
 use crate::aside::{Sent, answered};
+use crate::direct::Made;
 use crate::serialize::Serialize;
 use crate::serializer::Serializer;
 use content_tree::{Error, Result};
@@ -15,6 +16,8 @@ impl<T: Serialize> Serialize for Vec<T> {
     ghost script = { λ v. seq_script T.script v.items };
 
     ghost lawful = { λ v. seq_lawful T.lawful v.items };
+
+    const IS_DIRECT: bool = T::IS_DIRECT;
 
     fn serialize<S: Serializer>(&self, alloc: Global, serializer: &mut S) -> Result<()> {
         answered!(error => self.serialize_aside(alloc, serializer, &mut error))
@@ -27,5 +30,9 @@ impl<T: Serialize> Serialize for Vec<T> {
         error: &mut Error,
     ) -> Sent {
         self.as_slice().serialize_aside(alloc, serializer, error)
+    }
+
+    fn direct<'v, 'n>(&self, alloc: Global, readable: bool, room: usize) -> Made<'v, 'n> {
+        self.as_slice().direct(alloc, readable, room)
     }
 }

@@ -1,0 +1,14 @@
+use Rattle.std.proofs.Common.{List, ◌++◌, ◌+◌, ◌≤◌, length}
+use Rattle.std.specs.List.{AllZip}
+use Rattle.std.specs.Vec.{vec_len, vec_capacity}
+use Rattle.std.specs.VecDeque.Iter.{deque_iter_rest}
+use Rattle.content_tree.specs.declared.value.NamedValue.{NamedValue}
+use Rattle.content_ser.specs.Scripts.Direct.{IsMadeBy}
+use Rattle.content_ser.proofs.impls.deque.VecDequeSerialize.direct.Given as goal
+
+-- whatever is made of the rest can be put after what was made, and there is room for it
+abbrev pub invariant-loop-item : goal.invariant-loop-item
+invariant-loop-item g l =
+    ((more : List NamedValue) → AllZip (IsMadeBy g.T.Serialize.script l.readable l.levels) (deque_iter_rest l.item-iterator) more
+    → AllZip (IsMadeBy g.T.Serialize.script l.readable l.levels) l.self.items (l.items.items ++ more))
+    × (vec_len l.items + length (deque_iter_rest l.item-iterator) ≤ vec_capacity l.items)
