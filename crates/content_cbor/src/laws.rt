@@ -56,7 +56,8 @@ pub fn malformed_begins_nothing()
 
 /// Where `decode` or `decode_prefix` refuses bytes with another fault, some bytes after those up to
 /// and with the place make them a well-formed item: they were cut off, or the item isn't valid or
-/// isn't supported.
+/// isn't supported. So the fault of `5f f9` is `WrongChunk` and not `Float`: no bytes after these
+/// make a well-formed item.
 pub fn others_begin_items()
     ensures whole { OthersBeginItems }
     ensures front { OtherFrontsBeginItems }

@@ -1,16 +1,14 @@
 //! Maps whose values are read level by level.
 
-ghost use Rattle.std.specs.Prelude.{◌≡◌, ◌≢◌, [], Some};
-ghost use Rattle.content_tree.specs.Errors.Cause.{out_of_memory};
-ghost use Rattle.content_de.specs.Outcomes.{cause, refusal_then, IsTaken};
+ghost use Rattle.std.specs.Prelude.{[]};
+ghost use Rattle.content_de.specs.Outcomes.{refusal_then, IsTaken};
 ghost use Rattle.content_de.specs.Accesses.Map.{map_view, map_at};
-ghost use Rattle.content_de.specs.Sources.Deserializer.{subject};
-ghost use Rattle.content_de.specs.Reads.Read.{Reads, first_of};
+ghost use Rattle.content_de.specs.Reads.Read.{Reads};
 ghost use Rattle.content_de.specs.Reads.Maps.{map_refusal, MapGives};
 
 use crate::reading::{ReadWithin, ReadsWithin};
-use content_de::{Deserialize, Deserializer, Map};
-use content_tree::{Error, NamedValue, Result};
+use content_de::{Deserialize, Deserializer, Map, refused_value};
+use content_tree::Result;
 use std::alloc::Global;
 use std::collections::BTreeMap;
 
@@ -54,54 +52,11 @@ fn read_entries<'de, 'n: 'de, K: Deserialize<'de> + Ord, T: Drop, L: ReadWithin<
         // The value is read first: the path of its refusal needs the key.
         match levels.read_within(alloc, entry.1) {
             Ok(value) => {
-                let key = read_key(alloc, entry.0)?;
+                let key = entry.0.deserialize_unplaced(alloc)?;
                 drop(entries.insert(key, value)?);
             }
             Err(error) => return Err(refused_value::<K>(alloc, entry.0, error)),
         }
     }
     Ok(entries)
-}
-
-/// A key, which no path names.
-#[inline(always)]
-fn read_key<'de, 'n: 'de, K: Deserialize<'de>>(
-    alloc: Global,
-    from: Deserializer<'de, 'n>,
-) -> Result<K>
-    ensures { Reads (K.refusal (subject from.entry)) (K.gives (subject from.entry)) result }
-{
-    match K::deserialize(alloc, from) {
-        Ok(key) => Ok(key),
-        Err(error) => Err(error.at_whole()),
-    }
-}
-
-/// The error of an entry whose value was refused with this one: that of its key, if that is refused
-/// too.
-#[cold]
-#[inline(never)]
-fn refused_value<'de, 'n: 'de, K: Deserialize<'de>>(
-    alloc: Global,
-    key: Deserializer<'de, 'n>,
-    error: Error,
-) -> Error
-    ensures { cause result ≢ out_of_memory
-        → first_of (K.refusal (subject key.entry)) (Some (cause error)) ≡ Some (cause result) }
-{
-    let error = error_under(&key, alloc, error);
-    match read_key::<K>(alloc, key) {
-        Ok(_key) => error,
-        Err(of_key) => of_key,
-    }
-}
-
-/// The error of the value of this key: its path begins with the key, if that is a text.
-fn error_under(key: &Deserializer<'_, '_>, alloc: Global, error: Error) -> Error
-    ensures { cause result ≡ cause error }
-{
-    match key.as_value() {
-        Some(NamedValue::String(text)) => error.at_name(alloc, text.as_str()),
-        _ => error.at_unknown(),
-    }
 }

@@ -2,7 +2,7 @@
 
 ghost use Rattle.std.specs.Prelude.{◌≡◌, ℕ, List, Option};
 ghost use Rattle.content_tree.specs.Errors.Cause.{Cause};
-ghost use Rattle.content_de.specs.Outcomes.{cause, IsTaken};
+ghost use Rattle.content_de.specs.Outcomes.{IsTaken};
 ghost use Rattle.content_de.specs.Sources.Deserializer.{subject};
 ghost use Rattle.content_de.specs.Accesses.ByName.{FieldsLeft, fields_left};
 ghost use Rattle.content_de.specs.Accesses.Enum.{VariantLeft, variant_view, newtype_variant_of};
@@ -16,7 +16,8 @@ ghost use Rattle.serde_content.specs.Variants.{VariantGives};
 
 use crate::reading::{ReadWithin, ReadsWithin};
 use content_de::{Deserializer, FieldsByName, VariantAccess, internal_tag, tag_field};
-use content_tree::{CowStr, Error, Result};
+use content_tree::{CowStr, Result};
+use serde_content::derive_support::in_variant;
 use std::alloc::Global;
 
 /// An enum that is tagged externally.
@@ -68,20 +69,7 @@ pub fn read_enum_within<'de, 'n: 'de, L, T: VariantsWithin<'de, L>>(
     let (tag, variant) = access.variant::<CowStr<'de>>(alloc)?;
     match T::read_variant(levels, alloc, tag.as_str(), variant) {
         Ok(value) => Ok(value),
-        Err(error) => Err(in_variant(alloc, tag.as_str(), T::names(), error)),
-    }
-}
-
-/// The error with the tag added to its path, if it is one of these names.
-#[cold]
-#[inline(never)]
-fn in_variant(alloc: Global, tag: &str, names: &[&str], error: Error) -> Error
-    ensures { cause result ≡ cause error }
-{
-    if names.iter().any(|name| tag == *name) {
-        error.at_name(alloc, tag)
-    } else {
-        error
+        Err(error) => Err(in_variant(alloc, tag.as_str(), tag.as_str(), T::names(), error)),
     }
 }
 
