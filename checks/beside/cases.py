@@ -247,8 +247,10 @@ def ask():
 
 
 def opened():
-    """What a variant holds."""
+    """What a variant holds, by chance that of whatever is there."""
     word = pick(list(VARIANTS))
+    if chance() < 0.2:
+        return "enum", pick(FLAGS), "-", word, variant(4, pick([VARIANTS[word], None]))
     inside = pick([lambda: variant(4, VARIANTS[word]), lambda: entry(VARIANTS[word]), lambda: wanted("enum")])
     return "enum", pick(FLAGS), pick(NAMES), word, source(inside)
 
@@ -301,26 +303,29 @@ def pair():
 
 def sent_as():
     """What a tree holds, sent as a type."""
-    word = pick(["unit", "bool", "char", "String", "&str", "whole", "Number", "usize", "isize", "Option", "Box", "Vec",
+    word = pick(["()", "bool", "char", "String", "&str", pick(KINDS), "Number", "usize", "isize", "Option", "Box", "Vec",
                  "tuple", "BTreeMap"])
+    if word in KINDS:
+        return word, number(word)
     makers = {
-        "String": lambda: "o" + quoted(text(), '"'), "whole": number, "Number": number, "usize": lambda: number("u64"),
-        "isize": lambda: number("i64"), "Option": lambda: pick(["None", f"Some({tree(3)})"]),
+        "String": lambda: "o" + quoted(text(), '"'), "&str": lambda: "b" + quoted(text(), '"'), "Number": number,
+        "usize": lambda: number("u64"), "isize": lambda: number("i64"),
+        "Option": lambda: pick(["None", f"Some({tree(3)})"]),
         "Box": lambda: pick([struct, variant])(4),
         "tuple": lambda: "Tuple[" + ", ".join(tree(3) for _ in range(pick([1, 2, 3, 4]))) + "]",
     }
-    by_word = {"&str": "str", "Vec": "seq", "BTreeMap": "map"}
+    by_word = {"()": "unit", "Vec": "seq", "BTreeMap": "map"}
     return word, makers.get(word, lambda: wanted(by_word.get(word, word)))()
 
 
 def whole():
     """An operation on whole trees."""
     makers = {
-        "compare": pair, "compare_images": pair, "compare_expected": lambda: (expectation(), expectation()),
+        "canonical": lambda: ("new", tree()), "compare": pair, "compare_images": pair, "compare_expected": lambda: (expectation(), expectation()),
         "order": ordered, "send_as": sent_as, "unexpected": lambda: (tree(3), expectation()),
         "unexpected_part": lambda: (pick([number, lambda: struct(3), lambda: variant(3)])(), expectation()),
     }
-    word = pick(["canonical", "send", "image", "copy", "own", *makers])
+    word = pick(["send", "image", "copy", *makers])
     return word, *makers.get(word, lambda: (tree(),))()
 
 

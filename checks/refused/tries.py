@@ -179,10 +179,10 @@ def cases():
     yield Case("check_memory", b"", (contents(f"{top}/crates/check_memory/stdout"), 0))
     for row in some_rows():
         yield Case("check_rows", row + b"\n", AGREES)
-    differs = b"line 1: copy: got None, wanted ()\n0 rows agree, 1 differ\n", 1
-    yield Case("check_rows", b"copy\tNone\t()\n", differs)
-    differs = b"line 1: plain: got ok None, wanted ok ()\n0 rows agree, 1 differ\n", 1
-    yield Case("check_rows", b"plain\tNone\tok ()\n", differs)
+    differs = b"line 1: copy: got None; None, wanted (); ()\n0 rows agree, 1 differ\n", 1
+    yield Case("check_rows", b"copy\tNone\t(); ()\n", differs)
+    differs = b"line 1: read: got ok None, wanted ok ()\n0 rows agree, 1 differ\n", 1
+    yield Case("check_rows", b"read\t-\tValue\tNone\tok ()\n", differs)
     for line, answer in short_lines():
         yield Case("cbor_cli", line + b"\n", (answer + b"\n", 0))
     yield from stored_cases("cbor_cli", "calls")

@@ -1,13 +1,18 @@
 //! Expectations of a row.
 
 use crate::named::case_named;
-use crate::piece::{Pieces, take_held, take_if_word, take_mark, take_text, take_word};
+use crate::piece::{Pieces, take_if_word, take_mark, take_parsed, take_text, take_word};
 use serde_content::{DataType, Expected};
 
 /// An expectation.
 pub fn read_expected(pieces: &mut Pieces<'_>) -> Expected {
     match take_word(pieces) {
-        "Tuple" => Expected::Tuple(take_held(pieces)),
+        "Tuple" => {
+            take_mark(pieces, b'(');
+            let length = take_parsed(pieces);
+            take_mark(pieces, b')');
+            Expected::Tuple(length)
+        }
         "Struct" => {
             let (name, typ) = read_named(pieces);
             Expected::Struct { name, typ }
@@ -46,7 +51,7 @@ fn read_named(pieces: &mut Pieces<'_>) -> (Option<String>, Option<DataType>) {
 }
 
 /// A type.
-pub fn read_type(pieces: &mut Pieces<'_>) -> DataType {
+fn read_type(pieces: &mut Pieces<'_>) -> DataType {
     let word = take_word(pieces);
     let typ = case_named!(word, DataType, [Unit, NewType, Tuple, Struct]);
     pieces.found_or(typ, DataType::Unit)

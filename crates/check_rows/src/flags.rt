@@ -6,7 +6,7 @@ use crate::piece::{Pieces, take_word};
 use serde_content::Deserializer;
 
 /// Flags of a deserializer.
-#[derive(Clone, Copy, Default, PartialEq, Eq)]
+#[derive(Clone, Copy, PartialEq, Eq)]
 pub struct Flags {
     /// What is read is human readable.
     pub human_readable: bool,

@@ -22,7 +22,6 @@ mod printable;
 mod quoted;
 mod request;
 mod run;
-mod samples;
 mod show;
 mod show_call;
 mod tree;

@@ -9,10 +9,9 @@ mod editing;
 mod looking;
 mod naming;
 mod printing;
-mod reading;
-mod returning;
 mod sending;
 mod stepping;
+mod typed;
 
 use crate::answer::Answer;
 use crate::cursor::Cursor;
@@ -41,22 +40,22 @@ fn write_answer(out: &mut Answer, operation: &str, columns: &mut Cursor<'_, u8>)
         "compare_calls" => comparing::calls(out, columns),
         "copy_calls" => copying::calls(out, columns),
         "record" => sending::record(out, columns),
-        "refusal" => building::refusal(out, columns),
         "replay" => building::replay(out, columns),
         _ => write_columns(out, operation, columns),
     }
 }
 
-/// The same for an operation whose arguments are read by pieces. A request, the steps of `access`
-/// or `fields` and the type of `read`, `round_trip` or `send_as` are one word each.
+/// The same for an operation whose arguments are read by pieces. A request, steps, a serialiser and
+/// the type of `read`, `round_trip` or `send_as` are one word each.
 fn write_columns(out: &mut Answer, operation: &str, columns: &mut Cursor<'_, u8>) {
     let mut pieces = Vec::new(columns.alloc());
     for (place, column) in take_rest(columns).split('\t').enumerate() {
         match (operation, place) {
             ("access", 1 | 2)
             | ("ask" | "read" | "read_buffered" | "round_trip", 1)
+            | ("compare_serializers", 0 | 1)
             | ("enum", 2)
-            | ("fields" | "send_as" | "send_readable", 0) => {
+            | ("canonical" | "fields" | "send_as" | "send_readable", 0) => {
                 let word = columns.copied(column);
                 columns.made(pieces.push(Piece::Word(word)));
             }
@@ -73,30 +72,22 @@ fn write_of_pieces(out: &mut Answer, operation: &str, pieces: &mut Pieces<'_>) {
     match operation {
         "access" => stepping::access(out, pieces),
         "ask" => asking::ask(out, pieces),
-        "borrowed" => converting::borrowed(out, pieces),
         "canonical" => building::canonical(out, pieces),
-        "canonical_within" => building::canonical_within(out, pieces),
-        "collect" => building::collect(out, pieces),
         "enum" => asking::variant(out, pieces),
-        "error" => printing::error(out, pieces),
         "expected" => printing::expected(out, pieces),
         "fields" => naming::fields(out, pieces),
         "from" => converting::from(out, pieces),
         "image" => printing::image(out, pieces),
         "into" => converting::into(out, pieces),
         "kind" => printing::kind(out, pieces),
-        "number_from" => converting::number_from(out, pieces),
         "part" => converting::part(out, pieces),
-        "plain" => reading::plain(out, pieces),
         "pretty" => printing::pretty(out, pieces),
-        "read" => reading::read(out, pieces),
-        "read_buffered" => reading::read_buffered(out, pieces),
-        "readable" => building::readable(out, pieces),
-        "round_trip" => returning::round_trip(out, pieces),
+        "read" => typed::read(out, pieces, false),
+        "read_buffered" => typed::read(out, pieces, true),
+        "round_trip" => typed::round_trip(out, pieces),
         "send" => sending::send(out, pieces),
-        "send_as" => sending::send_as(out, pieces),
-        "send_readable" => sending::send_readable(out, pieces),
-        "type" => printing::typ(out, pieces),
+        "send_as" => typed::send_as(out, pieces, false),
+        "send_readable" => typed::send_as(out, pieces, true),
         "unexpected" => printing::unexpected(out, pieces),
         "unexpected_part" => printing::unexpected_part(out, pieces),
         _ => write_of_values(out, operation, pieces),
@@ -108,31 +99,18 @@ fn write_of_values(out: &mut Answer, operation: &str, pieces: &mut Pieces<'_>) {
     match operation {
         "compare" => comparing::values(out, pieces),
         "compare_data" => comparing::data(out, pieces),
-        "compare_errors" => comparing::errors(out, pieces),
         "compare_expected" => comparing::expected(out, pieces),
-        "compare_image_data" => comparing::image_data(out, pieces),
         "compare_images" => comparing::images(out, pieces),
         "compare_kinds" => comparing::kinds(out, pieces),
-        "compare_parts" => comparing::parts(out, pieces),
         "compare_serializers" => comparing::serializers(out, pieces),
-        "compare_types" => comparing::types(out, pieces),
         "copy" => copying::copy(out, pieces),
         "copy_data" => copying::copy_data(out, pieces),
-        "copy_error" => copying::error(out, pieces),
-        "copy_expected" => copying::expected(out, pieces),
-        "copy_image" => copying::image(out, pieces),
-        "copy_image_data" => copying::image_data(out, pieces),
-        "copy_kind" => copying::kind(out, pieces),
         "copy_parts" => copying::copy_parts(out, pieces),
         "get" => looking::get(out, pieces),
         "get_index" => looking::get_index(out, pieces),
-        "get_str" => looking::get_str(out, pieces),
         "insert" => editing::insert(out, pieces),
         "lend" => looking::lend(out, pieces),
         "order" => comparing::deserializers(out, pieces),
-        "own" => copying::own(out, pieces),
-        "own_data" => copying::own_data(out, pieces),
-        "own_parts" => copying::own_parts(out, pieces),
         "pointer" => looking::pointer(out, pieces),
         "push" => editing::push(out, pieces),
         "remove" => editing::remove(out, pieces),

@@ -153,17 +153,6 @@ where
     pieces.parsed(word)
 }
 
-/// Takes what a word spells, in brackets.
-pub fn take_held<T: FromStr + Default + Drop>(pieces: &mut Pieces<'_>) -> T
-where
-    T::Err: Drop,
-{
-    take_mark(pieces, b'(');
-    let held = take_parsed(pieces);
-    take_mark(pieces, b')');
-    held
-}
-
 /// Takes an owned text, as a copy.
 pub fn take_text(pieces: &mut Pieces<'_>) -> String {
     match pieces.next() {

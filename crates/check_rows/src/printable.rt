@@ -36,13 +36,6 @@ pub fn write_printed<T: Display + Drop>(out: &mut Answer, printed: T) {
     }
 }
 
-/// Adds what is printed of what the library gave.
-pub fn write_shown<T: Display + Drop>(out: &mut Answer, given: Result<T>) {
-    if let Some(given) = out.given(given) {
-        write_printed(out, given);
-    }
-}
-
 /// Adds a word and why something was refused, unless memory is the cause.
 pub fn write_refusal(out: &mut Answer, word: &str, refused: Error) {
     let kind = refused.into_kind();

@@ -36,19 +36,13 @@ pub fn write_quoted(out: &mut Answer, case: char, text: &str) {
 
 /// Adds a text and its case, of which the borrowed one has this letter.
 pub fn write_text(out: &mut Answer, borrowed: char, text: &CowStr<'_>) {
-    let case = match text {
-        CowStr::Borrowed(_) => borrowed,
-        CowStr::Owned(_) => 'o',
-    };
+    let case = if text.is_borrowed() { borrowed } else { 'o' };
     write_quoted(out, case, text.as_str());
 }
 
 /// Adds bytes and their case.
 pub fn write_bytes(out: &mut Answer, bytes: &CowBytes<'_>) {
-    out.push_str(match bytes {
-        CowBytes::Borrowed(_) => "b[",
-        CowBytes::Owned(_) => "o[",
-    });
+    out.push_str(if bytes.is_borrowed() { "b[" } else { "o[" });
     for (place, byte) in bytes.as_bytes().iter().enumerate() {
         write_comma(out, place);
         out.print(*byte);

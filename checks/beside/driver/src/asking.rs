@@ -2,7 +2,6 @@
 
 use crate::cursor::Cursor;
 use crate::handed::{with_name, Flags};
-use crate::opening::whole_enum;
 use crate::showing::Show;
 use crate::trees::{self, printed};
 use serde::de::{DeserializeSeed, Visitor};
@@ -51,12 +50,7 @@ impl Request {
 /// What is answered to a request.
 pub fn ask(flags: &'static str, request: &'static str, source: &'static str) -> String {
     let request = Request::read(request);
-    let told = Flags::read(flags);
-    answered(match (request.word, source.split_once('(')) {
-        ("enum", Some(("id", _))) => with_source(flags, source, Ask { request, flags: told }),
-        ("enum", _) | ("any", Some(("Enum", _))) => whole_enum(told, &request, trees::read(source)),
-        _ => with_source(flags, source, Ask { request, flags: told }),
-    })
+    answered(with_source(flags, source, Ask { request, flags: Flags::read(flags) }))
 }
 
 /// Makes a request of what is handed to it.

@@ -69,8 +69,8 @@ impl List {
             Err(_) => "impossible".to_string(),
         };
         match (self.ignored.get(), self.refusal.get()) {
-            (Some(at), _) => format!("ignored {word}\trefused at {at} Misplaced"),
-            (None, Some((at, kind))) => format!("{word}\trefused at {at} {kind}"),
+            (Some(at), _) => format!("ignored {word}\trefused at {at}: call out of place"),
+            (None, Some((at, why))) => format!("{word}\trefused at {at}: {why}"),
             (None, None) => word,
         }
     }

@@ -43,14 +43,14 @@ impl List {
     /// Refuses the call that many places back, or the end of the list.
     pub fn refuse<E: Error>(&self, back: usize) -> E {
         let place = self.at.get() - back;
-        self.refusal.set(self.refusal.get().or(Some((place, "Misplaced"))));
+        self.refusal.set(self.refusal.get().or(Some((place, "call out of place"))));
         E::custom("misplaced")
     }
 
     /// Refuses the call that was taken, or the end where none was.
     pub fn refuse_taken<E: Error>(&self, words: &[&str]) -> E {
         if words.is_empty() {
-            self.refusal.set(self.refusal.get().or(Some((self.calls.len(), "Unfinished"))));
+            self.refusal.set(self.refusal.get().or(Some((self.calls.len(), "call list is unfinished"))));
             return E::custom("unfinished");
         }
         self.refuse(1)

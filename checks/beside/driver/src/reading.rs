@@ -1,7 +1,7 @@
 //! Typed reads.
 
 use crate::asking::{answered, with_source};
-use crate::trees::{self, listed, printed, show, show_number};
+use crate::trees::{self, printed, show};
 use serde::de::DeserializeSeed;
 use serde::{Deserialize, Deserializer};
 use serde_content::{Data, Enum, Number, Value, ValueVisitor};
@@ -37,22 +37,16 @@ impl DeserializeSeed<'static> for Read {
 
     fn deserialize<D: Deserializer<'static>>(self, from: D) -> Result<String, D::Error> {
         match self.0 {
-            "char" => char::deserialize(from).map(|letter| show(&Value::Char(letter))),
-            "Number" => Number::deserialize(from).map(|number| show_number(&number)),
             "Value" => Value::deserialize(from).map(|value| show(&value)),
             "ValueVisitor" => from.deserialize_any(ValueVisitor).map(|value| show(&value)),
             "Option<Value>" => Option::deserialize(from)
                 .map(|held: Option<Value>| show(&Value::Option(held.map(Box::new)))),
-            "BTreeMap<String, u8>" => as_map::<String, u8, D>(from),
-            "BTreeMap<String, Vec<u8>>" => as_map::<String, Vec<u8>, D>(from),
-            "BTreeMap<u8, bool>" => as_map::<u8, bool, D>(from),
-            "BTreeMap<u8, u8>" => as_map::<u8, u8, D>(from),
-            "BTreeMap<i8, i8>" => as_map::<i8, i8, D>(from),
             name => as_type!(name, from, [
-                (), bool, i8, u8, i16, u16, i32, u32, i64, u64, i128, u128, isize, usize, String, &str,
+                (), bool, i8, u8, i16, u16, i32, u32, i64, u64, i128, u128, isize, usize, char, String, &str, Number,
                 &[u8], Box<u8>, Option<()>, Option<i16>, Option<String>, Option<&str>, Option<Option<()>>,
                 Vec<()>, Vec<bool>, Vec<u8>, Vec<i16>, (bool,), (u8,), (bool, bool), (bool, usize),
-                (u8, u8), (u8, bool), (bool, (), u8), (u8, u8, u8, u8),
+                (u8, u8), (u8, bool), (bool, (), u8), (u8, u8, u8, u8), BTreeMap<String, u8>,
+                BTreeMap<String, Vec<u8>>, BTreeMap<u8, bool>, BTreeMap<u8, u8>, BTreeMap<i8, i8>,
             ]),
         }
     }
@@ -63,21 +57,6 @@ fn as_printed<T: Deserialize<'static> + Debug, D: Deserializer<'static>>(
     from: D,
 ) -> Result<String, D::Error> {
     T::deserialize(from).map(|value| debug(&value))
-}
-
-/// A map, its keys in order.
-fn as_map<K, V, D>(from: D) -> Result<String, D::Error>
-where
-    K: Deserialize<'static> + Debug + Ord,
-    V: Deserialize<'static> + Debug,
-    D: Deserializer<'static>,
-{
-    let map = BTreeMap::<K, V>::deserialize(from)?;
-    let entries: Vec<(K, V)> = map.into_iter().collect();
-    Ok(format!(
-        "{{{}}}",
-        listed(&entries, |(key, value)| format!("{} => {}", debug(key), debug(value)))
-    ))
 }
 
 /// What is printed for a programmer.

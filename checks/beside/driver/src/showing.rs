@@ -2,11 +2,11 @@
 
 use crate::handed::{Flags, Hand, Handed};
 use crate::trees::show;
-use serde::de::{MapAccess, SeqAccess, Visitor};
+use serde::de::{EnumAccess, MapAccess, SeqAccess, Visitor};
 use serde_content::Value;
 use std::fmt::{Formatter, Result as Printed};
 
-/// Shows what it is called with, all but a variant of an enum.
+/// Shows what it is called with; of a variant of an enum the tag.
 pub struct Show(pub Flags);
 
 /// The visits of data, each shown as the tree that holds them.
@@ -86,5 +86,10 @@ impl Visitor<'static> for Show {
             shown.push(format!("{} => {}", key.show_inside(self.0), value.show_inside(self.0)));
         }
         Ok(format!("map({}; {})", self.0.word(), shown.join(", ")))
+    }
+
+    fn visit_enum<A: EnumAccess<'static>>(self, access: A) -> Result<String, A::Error> {
+        let (tag, _) = access.variant_seed(Hand)?;
+        Ok(format!("enum {}", tag.show()))
     }
 }

@@ -3,8 +3,8 @@
 use crate::asking::{with_source, Send};
 use crate::handed::Hand;
 use crate::reading::debug;
-use crate::trees::{printed, printed_in_list};
-use serde::de::{Deserialize, Error, MapAccess, SeqAccess, Visitor};
+use crate::trees::printed;
+use serde::de::{Error, MapAccess, SeqAccess, Visitor};
 use std::fmt::{Debug, Formatter, Result as Printed};
 
 /// What an access answers to each step.
@@ -25,36 +25,15 @@ struct Steps(&'static str);
 
 /// The answer of a step.
 fn told<T: Debug, E: Error>(answer: Result<T, E>) -> String {
-    shown(answer.map(|datum| debug(&datum).replace(';', "%3B")))
+    shown(answer.map(|datum| debug(&datum)))
 }
 
 /// The same of a text.
 fn shown<E: Error>(answer: Result<String, E>) -> String {
     match answer {
         Ok(text) => format!("ok {text}"),
-        Err(error) => format!("refused {}", printed_in_list(&error.to_string())),
+        Err(error) => format!("refused {}", printed(&error.to_string())),
     }
-}
-
-/// A size that is hinted at.
-fn size(hint: Option<usize>) -> String {
-    format!("ok {}", hint.map_or("None".to_string(), |size| size.to_string()))
-}
-
-/// The next entry as values of these types.
-fn next_entry<K, V, A>(entries: &mut A) -> String
-where
-    K: Deserialize<'static> + Debug,
-    V: Deserialize<'static> + Debug,
-    A: MapAccess<'static>,
-{
-    let entry = entries.next_entry::<K, V>();
-    shown(entry.map(|entry| match entry {
-        None => "None".to_string(),
-        Some((key, value)) => {
-            format!("Some({} => {})", debug(&key), debug(&value)).replace(';', "%3B")
-        }
-    }))
 }
 
 /// The next entry as what reads its key and what reads its value.
@@ -62,7 +41,7 @@ fn next_handed<A: MapAccess<'static>>(entries: &mut A) -> String {
     let entry = entries.next_entry_seed(Hand, Hand);
     shown(entry.map(|entry| match entry {
         None => "None".to_string(),
-        Some((key, value)) => printed_in_list(&format!("Some({} => {})", key.show(), value.show())),
+        Some((key, value)) => format!("Some({} => {})", key.show(), value.show()),
     }))
 }
 
@@ -75,7 +54,7 @@ impl Visitor<'static> for Steps {
 
     fn visit_seq<A: SeqAccess<'static>>(self, mut items: A) -> Result<String, A::Error> {
         let answers = self.0.split("; ").map(|step| match step {
-            "size_hint" => size(items.size_hint()),
+            "size_hint" => format!("ok {:?}", items.size_hint()),
             "next_element<u8>" => told(items.next_element::<u8>()),
             _ => unreachable!("{step} is no step"),
         });
@@ -84,7 +63,7 @@ impl Visitor<'static> for Steps {
 
     fn visit_map<A: MapAccess<'static>>(self, mut entries: A) -> Result<String, A::Error> {
         let answers = self.0.split("; ").map(|step| match step {
-            "size_hint" => size(entries.size_hint()),
+            "size_hint" => format!("ok {:?}", entries.size_hint()),
             "next_key<()>" => told(entries.next_key::<()>()),
             "next_key<bool>" => told(entries.next_key::<bool>()),
             "next_key<u64>" => told(entries.next_key::<u64>()),
@@ -92,10 +71,10 @@ impl Visitor<'static> for Steps {
             "next_key<String>" => told(entries.next_key::<String>()),
             "next_value<bool>" => told(entries.next_value::<bool>()),
             "next_value<u8>" => told(entries.next_value::<u8>()),
-            "next_entry<(), u8>" => next_entry::<(), u8, A>(&mut entries),
-            "next_entry<bool, u8>" => next_entry::<bool, u8, A>(&mut entries),
-            "next_entry<String, bool>" => next_entry::<String, bool, A>(&mut entries),
-            "next_entry<String, u8>" => next_entry::<String, u8, A>(&mut entries),
+            "next_entry<(), u8>" => told(entries.next_entry::<(), u8>()),
+            "next_entry<bool, u8>" => told(entries.next_entry::<bool, u8>()),
+            "next_entry<String, bool>" => told(entries.next_entry::<String, bool>()),
+            "next_entry<String, u8>" => told(entries.next_entry::<String, u8>()),
             "next_entry_deserializers" => next_handed(&mut entries),
             _ => unreachable!("{step} is no step"),
         });

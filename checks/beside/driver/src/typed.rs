@@ -9,7 +9,7 @@ use std::collections::BTreeMap;
 /// The calls by which what a tree holds is sent, as the type that is named.
 pub fn sent_as(typ: &str, tree: Value<'static>) -> String {
     match (typ, tree) {
-        ("unit", Value::Unit) => sent(&()),
+        ("()", Value::Unit) => sent(&()),
         ("bool", Value::Bool(flag)) => sent(&flag),
         ("char", Value::Char(letter)) => sent(&letter),
         ("String", Value::String(text)) => sent(&text.into_owned()),

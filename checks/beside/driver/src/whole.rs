@@ -12,14 +12,13 @@ use serde_content::{DataType, Expected, Serializer, Unexpected, Value};
 /// What the crate makes of trees.
 pub fn answer(operation: &str, columns: &[&'static str]) -> String {
     match (operation, columns) {
-        ("canonical", [tree]) => {
+        ("canonical", ["new", tree]) => {
             answered(Serializer::new().serialize(read(tree)).map(|tree: Value| show(&tree)))
         }
         ("send", [tree]) => sent(&read(tree)),
         ("send_as", [typ, tree]) => sent_as(typ, read(tree)),
         ("image", [tree]) => printed(&image(read(tree)).to_string()),
-        ("copy", [tree]) => show(&read(tree).clone()),
-        ("own", [tree]) => show(&read(tree).into_owned()),
+        ("copy", [tree]) => format!("{}; {}", show(&read(tree).clone()), show(&read(tree).into_owned())),
         ("unexpected", [tree, expected]) => refusal(read(tree), read_expected(expected)),
         ("unexpected_part", [tree, expected]) => match read(tree) {
             Value::Number(number) => refusal(number, read_expected(expected)),

@@ -3,7 +3,6 @@
 use crate::access::{open, write_enum, write_map, write_seq};
 use crate::answer::Answer;
 use crate::deserializer::{read_deserializer, write_handed, write_handed_out};
-use crate::failure::Failure;
 use crate::flags::{Flags, read_flags};
 use crate::piece::{Pieces, take_word};
 use crate::printable::write_datum;
@@ -20,7 +19,6 @@ pub fn ask(out: &mut Answer, pieces: &mut Pieces<'_>) {
     out.push_str("ok ");
     match request.word {
         "any" => write_any(out, flags, from),
-        "enum" => write_enum(out, flags, &from, Some(request.name)),
         _ => write_parts(out, flags, request, from),
     }
 }
@@ -46,6 +44,7 @@ fn write_parts(
         }
         "map" => write_map(out, flags, from.deserialize_map(alloc)),
         "struct" => write_map(out, flags, from.deserialize_struct(alloc, name, &[])),
+        "enum" => write_enum(out, from.deserialize_enum(alloc, name, &[])),
         _ => write_leaf(out, request, from),
     }
 }
@@ -92,14 +91,12 @@ fn write_leaf(out: &mut Answer, request: Request<'_>, from: Deserializer<'_, 'st
 /// Adds what is there, whatever it is.
 fn write_any(out: &mut Answer, flags: Flags, from: Deserializer<'_, 'static>) {
     out.push_str("node ");
-    if matches!(from.as_value(), Some(Value::Enum(_))) {
-        write_enum(out, flags, &from, None);
-    } else if let Some(node) = out.given(from.deserialize_any(out.alloc())) {
+    if let Some(node) = out.given(from.deserialize_any(out.alloc())) {
         write_node(out, flags, node);
     }
 }
 
-/// Adds what is there, but a variant of an enum.
+/// Adds a node.
 fn write_node(out: &mut Answer, flags: Flags, node: Node<'_, 'static>) {
     match node {
         Node::Unit => write_whole(out, Value::Unit),
@@ -116,19 +113,42 @@ fn write_node(out: &mut Answer, flags: Flags, node: Node<'_, 'static>) {
         }
         Node::Seq(items) => write_seq(out, flags, Ok(items)),
         Node::Map(entries) => write_map(out, flags, Ok(entries)),
-        Node::Enum(access) => out.unfit(access),
+        Node::Enum(access) => write_enum(out, Ok(access)),
     }
 }
 
-/// What is answered to a request for a variant, whatever its tag.
+/// Opens the variant that is there: requested under a name, or without one as whatever is there.
+fn open_enum<'de>(
+    out: &mut Answer,
+    from: Deserializer<'de, 'static>,
+    name: &'static str,
+) -> Option<(Deserializer<'de, 'static>, VariantAccess<'de, 'static>)> {
+    let alloc = out.alloc();
+    if !name.is_empty() {
+        return open(out, from.deserialize_enum(alloc, name, &[]));
+    }
+    match out.given(from.deserialize_any(alloc))? {
+        Node::Enum(access) => open(out, Ok(access)),
+        other => {
+            out.unfit(other);
+            None
+        }
+    }
+}
+
+/// What is answered to a request for a variant, whatever its tag, of the enum of this name, or under
+/// `-` of whatever is there.
 pub fn variant(out: &mut Answer, pieces: &mut Pieces<'_>) {
     let flags = read_flags(pieces);
-    let name = take_word(pieces);
-    let name = pieces.name(name);
+    let name = match take_word(pieces) {
+        "-" => "",
+        name => pieces.name(name),
+    };
     let request = read_request(pieces);
     let from = read_deserializer(pieces, flags);
     out.push_str("ok ");
-    if let Some((_tag, variant)) = open(out, from, Some(name)) {
+    if let Some((tag, variant)) = open_enum(out, from, name) {
+        drop(tag);
         write_variant(out, flags, request, variant);
     }
 }

@@ -4,99 +4,90 @@ use crate::answer::Answer;
 use crate::call::read_calls;
 use crate::cursor::Cursor;
 use crate::deserializer::read_deserializer;
-use crate::expectation::{read_expected, read_type};
+use crate::expectation::read_expected;
 use crate::failure::Failure;
 use crate::flags::read_flags;
 use crate::kind::read_kind;
+use crate::operations::building::read_serializer;
 use crate::order::{if_lawful, order, write_order};
-use crate::piece::{Pieces, take_if_mark, take_mark, take_parsed, take_word};
+use crate::piece::Pieces;
 use crate::tree::{read_image, read_tree};
 use serde_content::laws::{
     compare_deserializers, equal_by_contents, equal_deserializers, equal_images, equal_values,
 };
 use serde_content::ser::Call;
-use serde_content::{Deserializer, Error, Found, Serializer, Value};
+use serde_content::{Deserializer, Error, Found, Value};
 use std::cmp::Ordering;
 
-/// Adds the order of two things of one type.
-fn compare<T: Ord>(out: &mut Answer, left: &T, right: &T) {
-    write_order(out, order(left, right));
+/// Adds an order that two comparisons agree on.
+fn write_agreed(out: &mut Answer, order: Option<Ordering>, other: Option<Ordering>) {
+    write_order(out, if order == other { order } else { None });
 }
 
-/// The same of two that were read.
+/// Adds the order of two things of one type that were read.
 fn compare_read<T: Ord + Drop>(out: &mut Answer, left: T, right: T) {
-    compare(out, &left, &right);
+    write_order(out, order(&left, &right));
 }
 
-/// The same, where a law says whether they are equal.
-fn compare_lawful<T: Ord + Drop>(out: &mut Answer, left: T, right: T, equal: bool) {
-    write_order(out, if_lawful(order(&left, &right), equal));
-}
-
-/// Of two trees.
+/// Of two trees, and of the texts, bytes, structs or enums in them.
 pub fn values(out: &mut Answer, pieces: &mut Pieces<'_>) {
     let (left, right) = (read_tree(pieces), read_tree(pieces));
-    let is_equal = equal_values(&left, &right);
-    compare_lawful(out, left, right, is_equal);
-}
-
-/// Of what two trees hold: texts, bytes, structs or enums.
-pub fn parts(out: &mut Answer, pieces: &mut Pieces<'_>) {
-    let (left, right) = (read_tree(pieces), read_tree(pieces));
-    compare_parts(out, &left, &right);
+    let whole = if_lawful(order(&left, &right), equal_values(&left, &right));
+    write_agreed(out, whole, order_of_parts(&left, &right));
     drop((left, right));
 }
 
-/// Adds the order of what two trees hold.
-fn compare_parts<'a>(out: &mut Answer, left: &Value<'a>, right: &Value<'a>) {
+/// The order of what two trees hold, or of others that of the trees.
+fn order_of_parts<'a>(left: &Value<'a>, right: &Value<'a>) -> Option<Ordering> {
     match (left, right) {
-        (Value::String(left), Value::String(right)) => compare(out, left, right),
-        (Value::Bytes(left), Value::Bytes(right)) => compare(out, left, right),
-        (Value::Struct(left), Value::Struct(right)) => compare(out, &**left, &**right),
-        (Value::Enum(left), Value::Enum(right)) => compare(out, &**left, &**right),
-        _ => out.fail(Failure::NoRow),
+        (Value::String(left), Value::String(right)) => order(left, right),
+        (Value::Bytes(left), Value::Bytes(right)) => order(left, right),
+        (Value::Struct(left), Value::Struct(right)) => order(&**left, &**right),
+        (Value::Enum(left), Value::Enum(right)) => order(&**left, &**right),
+        (left, right) => order(left, right),
     }
 }
 
-/// Of what two structs or two enums hold.
+/// Of what two structs or two enums hold, and of what their images hold.
 pub fn data(out: &mut Answer, pieces: &mut Pieces<'_>) {
+    let start = pieces.rest();
     let (left, right) = (read_tree(pieces), read_tree(pieces));
-    compare_data(out, &left, &right);
+    let of_trees = order_of_data(&left, &right);
+    drop((left, right));
+    pieces.move_to(start);
+    let (left, right) = (read_image(pieces), read_image(pieces));
+    write_agreed(out, of_trees, order_of_image_data(&left, &right));
     drop((left, right));
 }
 
-/// Adds the order of what two structs or two enums hold.
-fn compare_data<'a>(out: &mut Answer, left: &Value<'a>, right: &Value<'a>) {
+/// The order of what two structs or two enums hold; of others none.
+fn order_of_data<'a>(left: &Value<'a>, right: &Value<'a>) -> Option<Ordering> {
     match (left, right) {
-        (Value::Struct(left), Value::Struct(right)) => compare(out, &left.data, &right.data),
-        (Value::Enum(left), Value::Enum(right)) => compare(out, &left.data, &right.data),
-        _ => out.fail(Failure::NoRow),
+        (Value::Struct(left), Value::Struct(right)) => order(&left.data, &right.data),
+        (Value::Enum(left), Value::Enum(right)) => order(&left.data, &right.data),
+        _ => None,
+    }
+}
+
+/// The same of what their images hold.
+fn order_of_image_data(left: &Found, right: &Found) -> Option<Ordering> {
+    match (left, right) {
+        (Found::Struct { data: left, .. }, Found::Struct { data: right, .. })
+        | (Found::Enum { data: left, .. }, Found::Enum { data: right, .. }) => {
+            order(&**left, &**right)
+        }
+        _ => None,
     }
 }
 
 /// Of two images.
 pub fn images(out: &mut Answer, pieces: &mut Pieces<'_>) {
     let (left, right) = (read_image(pieces), read_image(pieces));
-    let is_equal = equal_images(&left, &right);
-    compare_lawful(out, left, right, is_equal);
-}
-
-/// Of what the images of two structs or enums hold.
-pub fn image_data(out: &mut Answer, pieces: &mut Pieces<'_>) {
-    let (left, right) = (read_image(pieces), read_image(pieces));
-    compare_image_data(out, &left, &right);
+    write_order(
+        out,
+        if_lawful(order(&left, &right), equal_images(&left, &right)),
+    );
     drop((left, right));
-}
-
-/// Adds the order of what the images of two structs or enums hold.
-fn compare_image_data(out: &mut Answer, left: &Found, right: &Found) {
-    match (left, right) {
-        (Found::Struct { data: left, .. }, Found::Struct { data: right, .. })
-        | (Found::Enum { data: left, .. }, Found::Enum { data: right, .. }) => {
-            compare(out, &**left, &**right)
-        }
-        _ => out.fail(Failure::NoRow),
-    }
 }
 
 /// Of two expectations.
@@ -104,41 +95,13 @@ pub fn expected(out: &mut Answer, pieces: &mut Pieces<'_>) {
     compare_read(out, read_expected(pieces), read_expected(pieces));
 }
 
-/// Of two types.
-pub fn types(out: &mut Answer, pieces: &mut Pieces<'_>) {
-    compare_read(out, read_type(pieces), read_type(pieces));
-}
-
-/// Of two kinds of errors.
+/// Of two kinds of errors, and of errors of these kinds.
 pub fn kinds(out: &mut Answer, pieces: &mut Pieces<'_>) {
-    compare_read(out, read_kind(pieces), read_kind(pieces));
-}
-
-/// Of two errors of these kinds.
-pub fn errors(out: &mut Answer, pieces: &mut Pieces<'_>) {
-    let left = Error::from(read_kind(pieces));
-    let right = Error::from(read_kind(pieces));
-    compare_read(out, left, right);
-}
-
-/// The serialiser that is named, with a limit where one follows in brackets.
-fn read_serializer(pieces: &mut Pieces<'_>) -> Serializer {
-    let serializer = match take_word(pieces) {
-        "new" => Serializer::new(),
-        "default" => Serializer::default(),
-        "human_readable" => Serializer::new().human_readable(),
-        _ => pieces.found_or(None, Serializer::new()),
-    };
-    if !take_if_mark(pieces, b'(') {
-        return serializer;
-    }
-    let limit: usize = take_parsed(pieces);
-    take_mark(pieces, b')');
-    if limit == 0 {
-        pieces.found_or(None, serializer)
-    } else {
-        serializer.depth_limit(limit)
-    }
+    let (left, right) = (read_kind(pieces), read_kind(pieces));
+    let of_kinds = order(&left, &right);
+    let (left, right) = (Error::from(left), Error::from(right));
+    write_agreed(out, of_kinds, order(&left, &right));
+    drop((left, right));
 }
 
 /// Of two serialisers.
@@ -149,7 +112,8 @@ pub fn serializers(out: &mut Answer, pieces: &mut Pieces<'_>) {
 /// Of two deserializers, each under its own flags.
 pub fn deserializers(out: &mut Answer, pieces: &mut Pieces<'_>) {
     let (left, right) = (read_flagged(pieces), read_flagged(pieces));
-    write_order(out, lawful_order(&left, &right));
+    let lawful = if_lawful(order(&left, &right), equal_deserializers(&left, &right));
+    write_agreed(out, lawful, Some(compare_deserializers(&left, &right)));
     drop((left, right));
 }
 
@@ -157,18 +121,6 @@ pub fn deserializers(out: &mut Answer, pieces: &mut Pieces<'_>) {
 fn read_flagged<'a>(pieces: &mut Pieces<'a>) -> Deserializer<'a, 'static> {
     let flags = read_flags(pieces);
     read_deserializer(pieces, flags)
-}
-
-/// The order of two deserializers, where the laws say so too.
-fn lawful_order<'a>(
-    left: &Deserializer<'a, 'static>,
-    right: &Deserializer<'a, 'static>,
-) -> Option<Ordering> {
-    let order = if_lawful(order(left, right), equal_deserializers(left, right));
-    match order {
-        Some(order) if order == compare_deserializers(left, right) => Some(order),
-        _ => None,
-    }
 }
 
 /// Of two calls.

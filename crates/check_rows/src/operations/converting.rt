@@ -1,4 +1,4 @@
-//! What becomes a value, a number or a deserializer, and texts and bytes by their case.
+//! What becomes a value, a number or a deserializer.
 
 use crate::answer::Answer;
 use crate::deserializer::{read_deserializer, write_handed_out};
@@ -32,11 +32,15 @@ fn from_leaf(out: &mut Answer, typ: &str, value: &Value<'_>) {
     }
 }
 
-/// The value from a number.
+/// The value from a number, and for a whole number also the `Number` from it.
 fn from_number(out: &mut Answer, typ: &str, number: Number) {
     match typ {
         "Number" => write_whole(out, Value::from(number)),
-        "whole" => write_whole(out, with_whole!(number, n => Value::from(n))),
+        "whole" => {
+            write_whole(out, with_whole!(number, n => Value::from(n)));
+            out.push_str(", ");
+            write_number(out, with_whole!(number, n => Number::from(n)));
+        }
         _ => out.fail(Failure::NoRow),
     }
 }
@@ -46,8 +50,6 @@ fn from_text(out: &mut Answer, typ: &str, text: CowStr<'_>) {
     match (typ, text) {
         ("CowStr", text) => write_whole(out, Value::from(text)),
         ("&str", text) => write_whole(out, Value::from(text.as_str())),
-        ("&String", CowStr::Owned(text)) => write_whole(out, Value::from(&text)),
-        ("String", CowStr::Owned(text)) => write_whole(out, Value::from(text)),
         (_, other) => out.unfit(other),
     }
 }
@@ -56,7 +58,6 @@ fn from_text(out: &mut Answer, typ: &str, text: CowStr<'_>) {
 fn from_bytes(out: &mut Answer, typ: &str, bytes: CowBytes<'_>) {
     match (typ, bytes) {
         ("&slice", bytes) => write_whole(out, Value::from(bytes.as_bytes())),
-        ("&Vec", CowBytes::Owned(bytes)) => write_whole(out, Value::from(&bytes)),
         ("Vec", CowBytes::Owned(bytes)) => write_whole(out, Value::from(bytes)),
         (_, other) => out.unfit(other),
     }
@@ -93,32 +94,6 @@ pub fn part(out: &mut Answer, pieces: &mut Pieces<'_>) {
         ("box", Value::Enum(node)) => write_whole(out, Value::from(node)),
         (_, other) => out.unfit(other),
     }
-}
-
-/// The `Number` from a whole number by its type.
-pub fn number_from(out: &mut Answer, pieces: &mut Pieces<'_>) {
-    match read_tree(pieces) {
-        Value::Number(number) => write_number(out, with_whole!(number, n => Number::from(n))),
-        _ => out.fail(Failure::NoRow),
-    }
-}
-
-/// Whether a text or bytes say that they are borrowed, and what they hold, borrowed.
-pub fn borrowed(out: &mut Answer, pieces: &mut Pieces<'_>) {
-    let value = read_tree(pieces);
-    write_case(out, &value);
-    drop(value);
-}
-
-/// Adds whether a text or bytes say that they are borrowed, and what they hold, borrowed.
-fn write_case(out: &mut Answer, value: &Value<'_>) {
-    let (borrowed, lent) = match value {
-        Value::String(text) => (text.is_borrowed(), Value::from(text.as_str())),
-        Value::Bytes(bytes) => (bytes.is_borrowed(), Value::from(bytes.as_bytes())),
-        _ => return out.fail(Failure::NoRow),
-    };
-    out.push_str(if borrowed { "borrowed " } else { "owned " });
-    write_whole(out, lent);
 }
 
 /// The deserializer that a tree, a number, an enum or a deserializer with these flags becomes.

@@ -2,24 +2,20 @@
 
 use crate::answer::Answer;
 use crate::failure::Failure;
-use crate::piece::{Pieces, take_word};
+use crate::piece::{Pieces, take_parsed, take_word};
 use crate::show::{write_items, write_pairs, write_tree, write_whole};
 use crate::tree::{read_text, read_tree};
 use serde_content::{NamedValue, Value};
 
-/// The value of a key.
+/// The value of a key, and of one that is a text again by its text.
 pub fn get(out: &mut Answer, pieces: &mut Pieces<'_>) {
     let key = read_tree(pieces);
     let value = read_tree(pieces);
     write_lent(out, value.get(&key));
-    drop((key, value));
-}
-
-/// The value of a text as key.
-pub fn get_str(out: &mut Answer, pieces: &mut Pieces<'_>) {
-    let key = read_text(pieces);
-    let value = read_tree(pieces);
-    write_lent(out, value.get_str(key.as_str()));
+    if let Some(text) = key.as_str() {
+        out.push_str(", ");
+        write_lent(out, value.get_str(text));
+    }
     drop((key, value));
 }
 
@@ -33,18 +29,10 @@ pub fn pointer(out: &mut Answer, pieces: &mut Pieces<'_>) {
 
 /// The item of an index.
 pub fn get_index(out: &mut Answer, pieces: &mut Pieces<'_>) {
-    let index = read_index(pieces);
+    let index: usize = take_parsed(pieces);
     let value = read_tree(pieces);
     write_lent(out, value.get_index(index));
     drop(value);
-}
-
-/// The index that a tree is.
-fn read_index(pieces: &mut Pieces<'_>) -> usize {
-    let tree = read_tree(pieces);
-    let index = tree.as_u64();
-    drop(tree);
-    pieces.found_or(index, 0) as usize
 }
 
 /// What a value contains, by the type that is named.

@@ -6,15 +6,17 @@
 
 use crate::answer::Answer;
 use crate::deserializer::write_handed;
-use crate::operations::stepping::{no_step, told, write_answered};
+use crate::failure::Failure;
+use crate::operations::stepping::write_step;
 use crate::piece::{Pieces, take_word};
+use crate::printable::write_refusal;
 use crate::tree::read_tree;
 use serde_content::de::{
     FieldsByName, attempt, attempt_last, deny_unknown_fields, field_or, ignore_unknown_fields,
     keep_unknown_fields, named_field, tag_field,
 };
 use serde_content::{Deserializer, Result};
-use std::alloc::{AllocError, Global};
+use std::alloc::Global;
 use std::collections::BTreeMap;
 
 /// The numbers that fields may be kept as.
@@ -33,18 +35,43 @@ pub fn fields(out: &mut Answer, pieces: &mut Pieces<'_>) {
 fn write_field_steps(out: &mut Answer, steps: &str, mut fields: FieldsByName<'_, 'static>) {
     let (steps, last) = steps.rsplit_once("; ").unwrap_or(("", steps));
     for step in steps.split_terminator("; ") {
-        let answer = field_step(out, &mut fields, step);
-        write_answered(out, answer);
+        write_field_step(out, &mut fields, step);
         out.push_str("; ");
     }
-    let answer = last_step(out, fields, last);
-    write_answered(out, answer);
+    write_last(out, fields, last);
 }
 
 /// The word of a step, and what its brackets contain.
 fn parts_of(step: &str) -> (&str, &str) {
     let (word, rest) = step.split_once('(').unwrap_or((step, ")"));
     (word, rest.strip_suffix(')').unwrap_or(""))
+}
+
+/// Adds what fields answer to a step.
+fn write_field_step(out: &mut Answer, fields: &mut FieldsByName<'_, 'static>, step: &str) {
+    let alloc = out.alloc();
+    let (word, name) = parts_of(step);
+    match word {
+        "named_field<u8>" => write_step::<u8>(out, named_field(alloc, fields, name)),
+        "field_or_7" => write_step::<u8>(out, field_or(alloc, fields, name, 7)),
+        "tag_field" => write_step(out, tag_field(alloc, fields, name)),
+        "take_named" => match fields.take_named(name) {
+            Some(field) => write_field(out, Ok(field)),
+            None => out.push_str("ok none"),
+        },
+        _ => out.fail(Failure::NoRow),
+    }
+}
+
+/// Adds what the library handed out.
+fn write_field(out: &mut Answer, field: Result<Deserializer<'_, 'static>>) {
+    match field {
+        Ok(field) => {
+            out.push_str("ok ");
+            write_handed(out, field);
+        }
+        Err(error) => write_refusal(out, "refused ", error),
+    }
 }
 
 /// The names in a list with commas between.
@@ -56,69 +83,26 @@ fn names_of(alloc: Global, list: &str) -> Result<Vec<&str>> {
     Ok(names)
 }
 
-/// What fields answer to a step.
-fn field_step(
-    out: &mut Answer,
-    fields: &mut FieldsByName<'_, 'static>,
-    step: &str,
-) -> Result<String> {
-    let alloc = out.alloc();
-    let (word, name) = parts_of(step);
-    match word {
-        "named_field<u8>" => told::<u8>(alloc, named_field(alloc, fields, name)),
-        "field_or_7" => told::<u8>(alloc, field_or(alloc, fields, name, 7)),
-        "tag_field" => tag(alloc, fields, name),
-        "take_named" => taken(alloc, fields.take_named(name)),
-        _ => no_step(out),
-    }
-}
-
-/// The tag of this name.
-fn tag(alloc: Global, fields: &mut FieldsByName<'_, 'static>, name: &str) -> Result<String> {
-    let tag = tag_field(alloc, fields, name)?;
-    Ok(String::from_str(alloc, tag.as_str())?)
-}
-
-/// What was taken away, if anything.
-fn taken(alloc: Global, field: Option<Deserializer<'_, 'static>>) -> Result<String> {
-    match field {
-        Some(field) => handed(alloc, field),
-        None => Ok(String::from_str(alloc, "none")?),
-    }
-}
-
-/// What the library handed out.
-fn handed(alloc: Global, from: Deserializer<'_, 'static>) -> Result<String> {
-    let mut out = Answer::new(alloc);
-    write_handed(&mut out, from);
-    Ok(out.finish().ok().ok_or(AllocError)?)
-}
-
-/// What fields answer to the last step.
-fn last_step(out: &mut Answer, fields: FieldsByName<'_, 'static>, step: &str) -> Result<String> {
+/// Adds what fields answer to the last step.
+fn write_last(out: &mut Answer, fields: FieldsByName<'_, 'static>, step: &str) {
     let (word, names) = parts_of(step);
-    let names = names_of(out.alloc(), names)?;
-    end(out, fields, word, names.as_slice())
+    let names = names_of(out.alloc(), names);
+    match out.given(names) {
+        Some(names) => write_end(out, fields, word, names.as_slice()),
+        None => drop(fields),
+    }
 }
 
 /// The same of the step of this word, with these names.
-fn end(
-    out: &mut Answer,
-    fields: FieldsByName<'_, 'static>,
-    word: &str,
-    known: &[&str],
-) -> Result<String> {
+fn write_end(out: &mut Answer, fields: FieldsByName<'_, 'static>, word: &str, known: &[&str]) {
     let alloc = out.alloc();
     match word {
-        "rest" => handed(alloc, fields.rest(alloc)?),
-        "attempt<bool>" => told(alloc, attempted(alloc, fields)),
-        "ignore_unknown" => told(alloc, ignore_unknown_fields(alloc, fields, known)),
-        "deny_unknown" => told(alloc, deny_unknown_fields(alloc, fields, known)),
-        "keep_unknown" => told(alloc, kept(alloc, fields, known)),
-        _ => {
-            drop(fields);
-            no_step(out)
-        }
+        "rest" => write_field(out, fields.rest(alloc)),
+        "attempt<bool>" => write_step(out, attempted(alloc, fields)),
+        "ignore_unknown" => write_step(out, ignore_unknown_fields(alloc, fields, known)),
+        "deny_unknown" => write_step(out, deny_unknown_fields(alloc, fields, known)),
+        "keep_unknown" => write_step(out, kept(alloc, fields, known)),
+        _ => out.unfit(fields),
     }
 }
 
