@@ -10,6 +10,7 @@ import sys
 import textwrap
 
 sys.dont_write_bytecode = True
+from calling import stale  # noqa: E402
 from examples import blocks_of, examples, files_below, pages_of, prose_of, read  # noqa: E402
 
 TOP, ROOM = map(os.path.abspath, sys.argv[1:3])
@@ -24,6 +25,7 @@ def fault(page, text):
 
 FILES = files_below(TOP)
 PAGES = pages_of(FILES)
+CALLING = [it for it in FILES if it.startswith("docs/calling/")]
 ROOTS = [it for it in FILES if re.fullmatch(r"crates/\w+/src/lib\.rt", it)]
 CRATES = re.findall(r"^(\w+):", read(f"{TOP}/crates.txt"), re.M)
 
@@ -47,7 +49,7 @@ def check_lengths():
 
 def check_links():
     linked = {}
-    for page in PAGES:
+    for page in PAGES + CALLING:
         linked[page] = set()
         for to in re.findall(r"\]\(([^)\s]+)\)", prose_of(read(f"{TOP}/{page}"))):
             if "://" in to:
@@ -63,8 +65,13 @@ def check_links():
     for page in found:
         found += [it for it in linked[page] if it in linked and it not in reached]
         reached |= linked[page]
-    for page in {*PAGES} - reached:
+    for page in {*linked} - reached:
         fault(page, "no way of links leads here from README.md")
+
+
+def check_calling():
+    for page in stale():
+        fault(page, "isn't what checks/pages/calling.py writes: run it")
 
 
 def check_names():
@@ -287,6 +294,7 @@ def check_readme():
 def main():
     check_lengths()
     check_links()
+    check_calling()
     check_names()
     check_blocks()
     tried = 0
