@@ -11,7 +11,8 @@
 #   tools/new-project. The crate of the first is crates/shapes, byte for byte; the libraries, the tools and the lines of
 #   crates.txt are ours: so what `rt ci` proved is what a reader gets. The second is made with --cbor; its types are those
 #   of crates/check_derive. In both the tests run, unproved, and the gate's comparison of the module passes.
-# - The blocks of that page are in crates/shapes, byte for byte; those below "A struct" are the whole of src/point.rt.
+# - The commands of docs/CALLING.md, but for the proofs, put the libraries into a repository: ours, and all that they use.
+# - The blocks of OWN_TYPES are in crates/shapes, byte for byte; those below "A struct" are the whole of src/point.rt.
 # - tools/new-project refuses a name that no crate can have, a folder that isn't empty and a path without `rt`, each in
 #   one line, and leaves no file.
 # - The program, run on the lines of each example, gives the answer in the same row; so do the commands after a $.

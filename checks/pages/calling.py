@@ -30,6 +30,12 @@ OPENING = """# Calling `{}`
 [CALLING](../CALLING.md#what-contracts-see) explains the words in clauses. The `ghost use` lines of a file say where they are
 defined. `checks/pages/calling.py` writes this page from the sources.
 """
+# What a page has before what `derive_support` leads to.
+DERIVED = """## For `tools/derive`
+
+All that follows is in the module `derive_support`, for the code that `tools/derive` writes. Don't call it by hand, since it
+changes with that tool.
+"""
 
 
 class Item(NamedTuple):
@@ -162,13 +168,22 @@ def section(lib: Library, file: str, types: Dict[str, List[str]]) -> List[str]:
     return heading + parts if parts else []
 
 
+def derived(lib: Library) -> List[str]:
+    """The files to which `derive_support` alone leads: a page has them last."""
+    modules = re.findall(r"^pub use crate::(\w+)", lib.files.get("derive_support.rt", ""), re.M)
+    return [file for file in lib.files if Path(file).parts[0].removesuffix(".rt") in modules]
+
+
 def pages() -> Dict[Path, str]:
     """The pages as they should be."""
     libraries = [library(it) for it in LIBRARIES]
     types, made = implemented(libraries), {}
     for lib in libraries:
         about = re.match(r"(?://! .*\n)+", lib.files["lib.rt"])[0].replace("//! ", "").strip()
-        parts = [OPENING.format(lib.name, about), *(it for file in lib.files for it in section(lib, file, types))]
+        last = derived(lib)
+        first = [file for file in lib.files if file not in last]
+        parts = [OPENING.format(lib.name, about), *(it for file in first for it in section(lib, file, types))]
+        parts += [DERIVED] * bool(last) + [it for file in last for it in section(lib, file, types)]
         made[FOLDER / f"{lib.name}.md"] = "\n".join(parts)
     return made
 

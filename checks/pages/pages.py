@@ -5,6 +5,7 @@ empty folder but for a fresh copy of it, serde-content. With --unproved no progr
 import filecmp
 import os
 import re
+import shutil
 import subprocess
 import sys
 import textwrap
@@ -266,6 +267,30 @@ def check_own_types():
         fault(OWN_TYPES, "with --cbor the types are not those of crates/check_derive/src/types.rt, which are proved")
 
 
+def check_copying():
+    """The commands of docs/CALLING.md, but for the proofs, put libraries and all that they use into a repository that has
+    a crate."""
+    page, mine = "docs/CALLING.md", f"{ROOM}/mine"
+    os.makedirs(f"{mine}/crates")
+    with open(f"{mine}/crates.txt", "w", encoding="utf-8") as it:
+        it.write("notes: serde_content\n")
+    block = next(it[1] for it in blocks_of(read(f"{TOP}/{page}")) if it[0] == "sh")
+    wrote, status, said = run(["bash", "-euc", re.sub(r"^tools/warm .*\n", "", block, flags=re.M)], ROOM)
+    if status:
+        fault(page, f"its commands fail: {(wrote + said).strip()[-500:]}")
+    uses = dict(it.split(":") for it in read(f"{mine}/crates.txt").splitlines())
+    for crate in uses.keys() - {"notes"}:
+        ours, theirs = f"{TOP}/crates/{crate}", f"{mine}/crates/{crate}"
+        differs = run(["diff", "-rq", "-x", "out", "-x", "LICENSE-*", ours, theirs], TOP)
+        if differs[1] or f"{crate}:{uses[crate]}" not in read(f"{TOP}/crates.txt").splitlines():
+            fault(page, f"its commands make another {crate}: {''.join(differs[::2]).strip()[-500:]}")
+    for used in {it for names in uses.values() for it in names.split()} - uses.keys():
+        fault(page, f"its commands leave out {used}")
+    if not os.path.isfile(f"{mine}/HANDLES"):
+        fault(page, "its commands make no HANDLES")
+    shutil.rmtree(mine)
+
+
 def check_program():
     """The examples of programs: each gives the answer that its page shows."""
     tried = [*examples(TOP)]
@@ -301,6 +326,7 @@ def main():
     if not UNPROVED:
         tried = check_program()
         check_readme()
+    check_copying()
     check_own_types()
     for it in faults:
         print(it)
