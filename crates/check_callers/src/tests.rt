@@ -8,3 +8,4 @@ mod literals;
 mod own_structs;
 mod pages;
 mod readme;
+mod rows;

@@ -8,7 +8,7 @@ use content_cbor::{CborRoundTrip, to_bytes};
 use content_lines::write_hex;
 use content_uses::merge;
 use serde_content::de::Deserialize;
-use serde_content::ser::Serialize;
+use serde_content::ser::{Builder, Serialize};
 use serde_content::{Deserializer, Error, ErrorKind, Result, Serializer, Value, round_trip};
 use std::alloc::Global;
 
@@ -54,9 +54,31 @@ fn printed(alloc: Global, value: Result<Value<'_>>) -> Result<String> {
     Ok(text?)
 }
 
-/// What the value prints that something is sent as.
+/// The value that the calls of something build.
+fn built<T: Serialize>(alloc: Global, sent: &T) -> Result<Value<'static>> {
+    let mut builder = Builder::new(alloc, false);
+    sent.serialize(alloc, &mut builder)?;
+    builder.finish()
+}
+
+/// What the value prints that something becomes, if its calls build the same value.
 pub fn shown<T: Serialize>(alloc: Global, sent: &T) -> Result<String> {
-    printed(alloc, Serializer::new().serialize(alloc, sent))
+    let made = Serializer::new().serialize(alloc, sent)?;
+    match built(alloc, sent) {
+        Ok(other) => {
+            let is_same = made == other;
+            drop(other);
+            if is_same {
+                return printed(alloc, Ok(made));
+            }
+            drop(made);
+            Ok(String::from_str(alloc, "another value by calls")?)
+        }
+        Err(error) => {
+            drop(made);
+            Err(error)
+        }
+    }
 }
 
 /// The answer about what is no row.

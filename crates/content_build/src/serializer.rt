@@ -97,7 +97,7 @@ impl Serializer {
         ensures within { (limit : ℕ) → limit_of self ≡ Some limit → 1 ≤ limit
             → SerializedWithin (Some limit) (T.script value.now (is_readable self)) result }
     {
-        if T::IS_DIRECT {
+        if T::is_direct() {
             match value.direct(alloc, self.human_readable, self.room()) {
                 Ok(made) => return Ok(made),
                 Err(Unmade::OutOfMemory) => return Err(Error::from(ErrorKind::OutOfMemory)),

@@ -42,7 +42,7 @@ mod serializer;
 
 pub use aside::{Aside, Sent};
 pub use call::Call;
-pub use direct::{Made, Unmade};
+pub use direct::{Made, Unmade, inside, made_of, made_text};
 pub use head::Head;
 pub use parts::{Announced, Parts};
 pub use replaying::replay;

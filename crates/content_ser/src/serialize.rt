@@ -47,7 +47,10 @@ pub trait Serialize {
     }
 
     /// Whether [`direct`](Serialize::direct) makes the values of this type. Not in `serde-content`.
-    const IS_DIRECT: bool = false;
+    #[inline(always)]
+    fn is_direct() -> bool {
+        false
+    }
 
     /// Makes the value that the calls of the script spell, for a serialiser that is human readable
     /// or not, without making them: all its texts are owned, and each part gets the memory that it

@@ -11,7 +11,7 @@ pub use crate::fields_read::{
 };
 pub use crate::fields_sent::{
     SendElement, SendEnd, SendField, SendFieldUnless, SendInside, SendOpen, SendPart, SendRow,
-    SendTag, refuse_unsent, send_row,
+    SendTag, direct_row, refuse_unsent, send_row,
 };
 pub use crate::flattened_sent::{SendAll, SendEntries, SendRest};
 pub use crate::made_of::{

@@ -11,7 +11,7 @@ ghost use Rattle.serde_content.specs.Literals.{row_or_then, RowOrThen};
 ghost use Rattle.serde_content.specs.Skips.{fields_less, field_unless};
 
 use crate::fields_read::ReadFields;
-use crate::fields_sent::{SendRow, send_field};
+use crate::fields_sent::{Added, Fields, SendRow, add_field, send_field};
 use crate::name_lists::{Names, name_at};
 use content_de::{Deserialize, FieldsByName};
 use content_ser::{Sent, Serialize, Serializer};
@@ -127,5 +127,26 @@ impl<'a, K: Names, P: SkipIf<T>, T: Serialize, R: SendRow> SendRow for SendField
         } else {
             send_field::<K, T, R, S>(self.2, value, &self.4, alloc, serializer, error)
         }
+    }
+
+    #[inline(always)]
+    fn count(&self) -> usize {
+        self.4
+            .count()
+            .saturating_add(usize::from(!P::is_skipped(self.3)))
+    }
+
+    #[inline(always)]
+    fn add_fields<'v, 'n>(
+        &self,
+        alloc: Global,
+        readable: bool,
+        room: usize,
+        fields: &mut Fields<'v, 'n>,
+    ) -> Added {
+        if P::is_skipped(self.3) {
+            return self.4.add_fields(alloc, readable, room, fields);
+        }
+        add_field::<K, T, R>(self.2, self.3, &self.4, alloc, readable, room, fields)
     }
 }

@@ -1,7 +1,8 @@
 -- Values that are made with no calls: they are what the calls of a script spell.
 use Rattle.std.specs.Prelude.{◌≡◌, ℕ, ◌+◌, ◌≤◌, Bool, List, ◌++◌, None, Result, Ok, Err}
 use Rattle.content_tree.specs.Values.Tree.{Tree, Trees, Fields}
-use Rattle.content_tree.specs.Values.Value.{tree_of}
+use Rattle.content_tree.specs.Values.Value.{tree_of, trees_view, fields_view}
+use Rattle.content_tree.specs.declared.cow.CowStr.{CowStr}
 use Rattle.content_tree.specs.declared.value.NamedValue.{NamedValue}
 use Rattle.content_ser.specs.declared.direct.Unmade.{Unmade}
 use Rattle.content_ser.specs.Grammar.Depth.{Keeps, ElementsKeep, MapItemsKeep, FieldsKeep}
@@ -46,3 +47,19 @@ IsMadeBy f readable room x v = Makes room (f x readable) (tree_of v)
 -- the key and the value of this pair
 abbrev pub ArePairMadeBy : {K V : Type 0} → ScriptOf K → ScriptOf V → Bool → ℕ → K × V → NamedValue × NamedValue → Type 0
 ArePairMadeBy f g readable room p q = IsMadeBy f readable room p.0 q.0 × IsMadeBy g readable room p.1 q.1
+
+-- fields are added, which the calls of the script spell with their end; nothing is said where they aren't made
+pub data AddsFields : ℕ → Script → List (CowStr × NamedValue) → List (CowStr × NamedValue) → Result (Unit {0}) Unmade → Type 0 where
+  fields_added : {room : ℕ} {sc : Script} {old new : List (CowStr × NamedValue)} {u : Unit {0}} (more : List (CowStr × NamedValue))
+      → new ≡ old ++ more
+      → Reads (TheFields room (fields_view more)) sc
+      → AddsFields room sc old new (Ok u)
+  fields_unmade : {room : ℕ} {sc : Script} {old new : List (CowStr × NamedValue)} {why : Unmade} → AddsFields room sc old new (Err why)
+
+-- the same of values by place
+pub data AddsItems : ItemCall → ℕ → Script → List NamedValue → List NamedValue → Result (Unit {0}) Unmade → Type 0 where
+  items_added : {m : ItemCall} {room : ℕ} {sc : Script} {old new : List NamedValue} {u : Unit {0}} (more : List NamedValue)
+      → new ≡ old ++ more
+      → Reads (TheElements m room (trees_view more)) sc
+      → AddsItems m room sc old new (Ok u)
+  items_unmade : {m : ItemCall} {room : ℕ} {sc : Script} {old new : List NamedValue} {why : Unmade} → AddsItems m room sc old new (Err why)

@@ -19,8 +19,6 @@ impl<T: Serialize, const N: usize> Serialize for [T; N] {
 
     ghost lawful = { array_lawful N T.lawful };
 
-    const IS_DIRECT: bool = T::IS_DIRECT;
-
     fn serialize<S: Serializer>(&self, alloc: Global, serializer: &mut S) -> Result<()> {
         answered!(error => self.serialize_aside(alloc, serializer, &mut error))
     }
@@ -36,6 +34,11 @@ impl<T: Serialize, const N: usize> Serialize for [T; N] {
             announce(Call::Element, item, alloc, serializer, error)?;
         }
         end(serializer, error)
+    }
+
+    #[inline(always)]
+    fn is_direct() -> bool {
+        T::is_direct()
     }
 
     fn direct<'v, 'n>(&self, alloc: Global, readable: bool, room: usize) -> Made<'v, 'n> {

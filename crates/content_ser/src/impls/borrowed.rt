@@ -12,8 +12,6 @@ impl<'a, T: Serialize> Serialize for &'a T {
 
     ghost lawful = { λ r. T.lawful r.now };
 
-    const IS_DIRECT: bool = T::IS_DIRECT;
-
     fn serialize<S: Serializer>(&self, alloc: Global, serializer: &mut S) -> Result<()> {
         Serialize::serialize(*self, alloc, serializer)
     }
@@ -25,6 +23,11 @@ impl<'a, T: Serialize> Serialize for &'a T {
         error: &mut Error,
     ) -> Sent {
         Serialize::serialize_aside(*self, alloc, serializer, error)
+    }
+
+    #[inline(always)]
+    fn is_direct() -> bool {
+        T::is_direct()
     }
 
     fn direct<'v, 'n>(&self, alloc: Global, readable: bool, room: usize) -> Made<'v, 'n> {

@@ -22,8 +22,6 @@ impl Serialize for BoxedStr {
 
     ghost lawful = { λ x readable. leaf_lawful refl };
 
-    const IS_DIRECT: bool = true;
-
     fn serialize<S: Serializer>(&self, _alloc: Global, serializer: &mut S) -> Result<()> {
         serializer.serialize_str(self.as_str())
     }
@@ -36,6 +34,11 @@ impl Serialize for BoxedStr {
         error: &mut Error,
     ) -> Sent {
         serializer.call_aside(Call::Str(CowStr::Borrowed(self.as_str())), error)
+    }
+
+    #[inline(always)]
+    fn is_direct() -> bool {
+        true
     }
 
     #[inline(always)]

@@ -18,8 +18,6 @@ impl<T: Serialize> Serialize for Option<T> {
 
     ghost lawful = { option_lawful T.lawful };
 
-    const IS_DIRECT: bool = T::IS_DIRECT;
-
     fn serialize<S: Serializer>(&self, alloc: Global, serializer: &mut S) -> Result<()> {
         answered!(error => self.serialize_aside(alloc, serializer, &mut error))
     }
@@ -39,6 +37,11 @@ impl<T: Serialize> Serialize for Option<T> {
         }
     }
 
+    #[inline(always)]
+    fn is_direct() -> bool {
+        T::is_direct()
+    }
+
     fn direct<'v, 'n>(&self, alloc: Global, readable: bool, room: usize) -> Made<'v, 'n> {
         match self {
             None => Ok(NamedValue::Option(None)),
@@ -55,8 +58,6 @@ impl<T: Serialize> Serialize for Box<T> {
 
     ghost lawful = { λ b. T.lawful b.value };
 
-    const IS_DIRECT: bool = T::IS_DIRECT;
-
     fn serialize<S: Serializer>(&self, alloc: Global, serializer: &mut S) -> Result<()> {
         Serialize::serialize(&**self, alloc, serializer)
     }
@@ -68,6 +69,11 @@ impl<T: Serialize> Serialize for Box<T> {
         error: &mut Error,
     ) -> Sent {
         Serialize::serialize_aside(&**self, alloc, serializer, error)
+    }
+
+    #[inline(always)]
+    fn is_direct() -> bool {
+        T::is_direct()
     }
 
     fn direct<'v, 'n>(&self, alloc: Global, readable: bool, room: usize) -> Made<'v, 'n> {

@@ -20,8 +20,6 @@ impl<K: Serialize + Ord, V: Serialize> Serialize for BTreeMap<K, V> {
 
     ghost lawful = { λ m. map_lawful K.lawful V.lawful m.entries };
 
-    const IS_DIRECT: bool = K::IS_DIRECT && V::IS_DIRECT;
-
     fn serialize<S: Serializer>(&self, alloc: Global, serializer: &mut S) -> Result<()> {
         answered!(error => self.serialize_aside(alloc, serializer, &mut error))
     }
@@ -38,6 +36,11 @@ impl<K: Serialize + Ord, V: Serialize> Serialize for BTreeMap<K, V> {
             value.serialize_aside(alloc, serializer, error)?;
         }
         end(serializer, error)
+    }
+
+    #[inline(always)]
+    fn is_direct() -> bool {
+        K::is_direct() && V::is_direct()
     }
 
     fn direct<'v, 'n>(&self, alloc: Global, readable: bool, room: usize) -> Made<'v, 'n> {

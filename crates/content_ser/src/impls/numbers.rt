@@ -21,8 +21,6 @@ impl Serialize for i8 {
 
     ghost lawful = { λ x readable. leaf_lawful refl };
 
-    const IS_DIRECT: bool = true;
-
     fn serialize<S: Serializer>(&self, _alloc: Global, serializer: &mut S) -> Result<()> {
         serializer.serialize_i8(*self)
     }
@@ -38,6 +36,11 @@ impl Serialize for i8 {
     }
 
     #[inline(always)]
+    fn is_direct() -> bool {
+        true
+    }
+
+    #[inline(always)]
     fn direct<'v, 'n>(&self, _alloc: Global, _readable: bool, _room: usize) -> Made<'v, 'n> {
         made_number(Number::from(*self))
     }
@@ -47,8 +50,6 @@ impl Serialize for u8 {
     ghost script = { λ n. only (number (num.U8 n)) };
 
     ghost lawful = { λ x readable. leaf_lawful refl };
-
-    const IS_DIRECT: bool = true;
 
     fn serialize<S: Serializer>(&self, _alloc: Global, serializer: &mut S) -> Result<()> {
         serializer.serialize_u8(*self)
@@ -65,6 +66,11 @@ impl Serialize for u8 {
     }
 
     #[inline(always)]
+    fn is_direct() -> bool {
+        true
+    }
+
+    #[inline(always)]
     fn direct<'v, 'n>(&self, _alloc: Global, _readable: bool, _room: usize) -> Made<'v, 'n> {
         made_number(Number::from(*self))
     }
@@ -74,8 +80,6 @@ impl Serialize for i16 {
     ghost script = { λ n. only (number (num.I16 n)) };
 
     ghost lawful = { λ x readable. leaf_lawful refl };
-
-    const IS_DIRECT: bool = true;
 
     fn serialize<S: Serializer>(&self, _alloc: Global, serializer: &mut S) -> Result<()> {
         serializer.serialize_i16(*self)
@@ -92,6 +96,11 @@ impl Serialize for i16 {
     }
 
     #[inline(always)]
+    fn is_direct() -> bool {
+        true
+    }
+
+    #[inline(always)]
     fn direct<'v, 'n>(&self, _alloc: Global, _readable: bool, _room: usize) -> Made<'v, 'n> {
         made_number(Number::from(*self))
     }
@@ -101,8 +110,6 @@ impl Serialize for u16 {
     ghost script = { λ n. only (number (num.U16 n)) };
 
     ghost lawful = { λ x readable. leaf_lawful refl };
-
-    const IS_DIRECT: bool = true;
 
     fn serialize<S: Serializer>(&self, _alloc: Global, serializer: &mut S) -> Result<()> {
         serializer.serialize_u16(*self)
@@ -119,6 +126,11 @@ impl Serialize for u16 {
     }
 
     #[inline(always)]
+    fn is_direct() -> bool {
+        true
+    }
+
+    #[inline(always)]
     fn direct<'v, 'n>(&self, _alloc: Global, _readable: bool, _room: usize) -> Made<'v, 'n> {
         made_number(Number::from(*self))
     }
@@ -128,8 +140,6 @@ impl Serialize for i32 {
     ghost script = { λ n. only (number (num.I32 n)) };
 
     ghost lawful = { λ x readable. leaf_lawful refl };
-
-    const IS_DIRECT: bool = true;
 
     fn serialize<S: Serializer>(&self, _alloc: Global, serializer: &mut S) -> Result<()> {
         serializer.serialize_i32(*self)
@@ -146,6 +156,11 @@ impl Serialize for i32 {
     }
 
     #[inline(always)]
+    fn is_direct() -> bool {
+        true
+    }
+
+    #[inline(always)]
     fn direct<'v, 'n>(&self, _alloc: Global, _readable: bool, _room: usize) -> Made<'v, 'n> {
         made_number(Number::from(*self))
     }
@@ -155,8 +170,6 @@ impl Serialize for u32 {
     ghost script = { λ n. only (number (num.U32 n)) };
 
     ghost lawful = { λ x readable. leaf_lawful refl };
-
-    const IS_DIRECT: bool = true;
 
     fn serialize<S: Serializer>(&self, _alloc: Global, serializer: &mut S) -> Result<()> {
         serializer.serialize_u32(*self)
@@ -173,6 +186,11 @@ impl Serialize for u32 {
     }
 
     #[inline(always)]
+    fn is_direct() -> bool {
+        true
+    }
+
+    #[inline(always)]
     fn direct<'v, 'n>(&self, _alloc: Global, _readable: bool, _room: usize) -> Made<'v, 'n> {
         made_number(Number::from(*self))
     }
@@ -182,8 +200,6 @@ impl Serialize for i64 {
     ghost script = { λ n. only (number (num.I64 n)) };
 
     ghost lawful = { λ x readable. leaf_lawful refl };
-
-    const IS_DIRECT: bool = true;
 
     fn serialize<S: Serializer>(&self, _alloc: Global, serializer: &mut S) -> Result<()> {
         serializer.serialize_i64(*self)
@@ -200,6 +216,11 @@ impl Serialize for i64 {
     }
 
     #[inline(always)]
+    fn is_direct() -> bool {
+        true
+    }
+
+    #[inline(always)]
     fn direct<'v, 'n>(&self, _alloc: Global, _readable: bool, _room: usize) -> Made<'v, 'n> {
         made_number(Number::from(*self))
     }
@@ -209,8 +230,6 @@ impl Serialize for u64 {
     ghost script = { λ n. only (number (num.U64 n)) };
 
     ghost lawful = { λ x readable. leaf_lawful refl };
-
-    const IS_DIRECT: bool = true;
 
     fn serialize<S: Serializer>(&self, _alloc: Global, serializer: &mut S) -> Result<()> {
         serializer.serialize_u64(*self)
@@ -227,6 +246,11 @@ impl Serialize for u64 {
     }
 
     #[inline(always)]
+    fn is_direct() -> bool {
+        true
+    }
+
+    #[inline(always)]
     fn direct<'v, 'n>(&self, _alloc: Global, _readable: bool, _room: usize) -> Made<'v, 'n> {
         made_number(Number::from(*self))
     }
@@ -236,8 +260,6 @@ impl Serialize for i128 {
     ghost script = { λ n. only (number (num.I128 n)) };
 
     ghost lawful = { λ x readable. leaf_lawful refl };
-
-    const IS_DIRECT: bool = true;
 
     fn serialize<S: Serializer>(&self, _alloc: Global, serializer: &mut S) -> Result<()> {
         serializer.serialize_i128(*self)
@@ -254,6 +276,11 @@ impl Serialize for i128 {
     }
 
     #[inline(always)]
+    fn is_direct() -> bool {
+        true
+    }
+
+    #[inline(always)]
     fn direct<'v, 'n>(&self, _alloc: Global, _readable: bool, _room: usize) -> Made<'v, 'n> {
         made_number(Number::from(*self))
     }
@@ -263,8 +290,6 @@ impl Serialize for u128 {
     ghost script = { λ n. only (number (num.U128 n)) };
 
     ghost lawful = { λ x readable. leaf_lawful refl };
-
-    const IS_DIRECT: bool = true;
 
     fn serialize<S: Serializer>(&self, _alloc: Global, serializer: &mut S) -> Result<()> {
         serializer.serialize_u128(*self)
@@ -281,6 +306,11 @@ impl Serialize for u128 {
     }
 
     #[inline(always)]
+    fn is_direct() -> bool {
+        true
+    }
+
+    #[inline(always)]
     fn direct<'v, 'n>(&self, _alloc: Global, _readable: bool, _room: usize) -> Made<'v, 'n> {
         made_number(Number::from(*self))
     }
@@ -290,8 +320,6 @@ impl Serialize for usize {
     ghost script = { λ n. only (number (num.U64 n)) };
 
     ghost lawful = { λ x readable. leaf_lawful refl };
-
-    const IS_DIRECT: bool = true;
 
     fn serialize<S: Serializer>(&self, _alloc: Global, serializer: &mut S) -> Result<()> {
         serializer.serialize_u64(*self as u64)
@@ -308,6 +336,11 @@ impl Serialize for usize {
     }
 
     #[inline(always)]
+    fn is_direct() -> bool {
+        true
+    }
+
+    #[inline(always)]
     fn direct<'v, 'n>(&self, _alloc: Global, _readable: bool, _room: usize) -> Made<'v, 'n> {
         made_number(Number::from(*self as u64))
     }
@@ -317,8 +350,6 @@ impl Serialize for isize {
     ghost script = { λ n. only (number (num.I64 n)) };
 
     ghost lawful = { λ x readable. leaf_lawful refl };
-
-    const IS_DIRECT: bool = true;
 
     fn serialize<S: Serializer>(&self, _alloc: Global, serializer: &mut S) -> Result<()> {
         serializer.serialize_i64(*self as i64)
@@ -335,6 +366,11 @@ impl Serialize for isize {
     }
 
     #[inline(always)]
+    fn is_direct() -> bool {
+        true
+    }
+
+    #[inline(always)]
     fn direct<'v, 'n>(&self, _alloc: Global, _readable: bool, _room: usize) -> Made<'v, 'n> {
         made_number(Number::from(*self as i64))
     }
@@ -344,8 +380,6 @@ impl Serialize for Number {
     ghost script = { λ n. only (number n) };
 
     ghost lawful = { λ x readable. leaf_lawful refl };
-
-    const IS_DIRECT: bool = true;
 
     fn serialize<S: Serializer>(&self, _alloc: Global, serializer: &mut S) -> Result<()> {
         serializer.call(Call::Number(*self))
@@ -359,6 +393,11 @@ impl Serialize for Number {
         error: &mut Error,
     ) -> Sent {
         serializer.call_aside(Call::Number(*self), error)
+    }
+
+    #[inline(always)]
+    fn is_direct() -> bool {
+        true
     }
 
     #[inline(always)]

@@ -15,8 +15,6 @@ impl<T: Serialize> Serialize for Rc<T> {
 
     ghost lawful = { λ b. T.lawful b.value };
 
-    const IS_DIRECT: bool = T::IS_DIRECT;
-
     fn serialize<S: Serializer>(&self, alloc: Global, serializer: &mut S) -> Result<()> {
         Serialize::serialize(&**self, alloc, serializer)
     }
@@ -28,6 +26,11 @@ impl<T: Serialize> Serialize for Rc<T> {
         error: &mut Error,
     ) -> Sent {
         Serialize::serialize_aside(&**self, alloc, serializer, error)
+    }
+
+    #[inline(always)]
+    fn is_direct() -> bool {
+        T::is_direct()
     }
 
     fn direct<'v, 'n>(&self, alloc: Global, readable: bool, room: usize) -> Made<'v, 'n> {

@@ -20,8 +20,6 @@ impl<T: Serialize + Ord> Serialize for BTreeSet<T> {
 
     ghost lawful = { λ s. seq_lawful T.lawful s.keys };
 
-    const IS_DIRECT: bool = T::IS_DIRECT;
-
     fn serialize<S: Serializer>(&self, alloc: Global, serializer: &mut S) -> Result<()> {
         answered!(error => self.serialize_aside(alloc, serializer, &mut error))
     }
@@ -37,6 +35,11 @@ impl<T: Serialize + Ord> Serialize for BTreeSet<T> {
             announce(Call::Element, item, alloc, serializer, error)?;
         }
         end(serializer, error)
+    }
+
+    #[inline(always)]
+    fn is_direct() -> bool {
+        T::is_direct()
     }
 
     fn direct<'v, 'n>(&self, alloc: Global, readable: bool, room: usize) -> Made<'v, 'n> {

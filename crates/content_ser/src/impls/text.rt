@@ -20,8 +20,6 @@ impl Serialize for bool {
 
     ghost lawful = { λ x readable. leaf_lawful refl };
 
-    const IS_DIRECT: bool = true;
-
     fn serialize<S: Serializer>(&self, _alloc: Global, serializer: &mut S) -> Result<()> {
         serializer.serialize_bool(*self)
     }
@@ -37,6 +35,11 @@ impl Serialize for bool {
     }
 
     #[inline(always)]
+    fn is_direct() -> bool {
+        true
+    }
+
+    #[inline(always)]
     fn direct<'v, 'n>(&self, _alloc: Global, _readable: bool, _room: usize) -> Made<'v, 'n> {
         Ok(NamedValue::Bool(*self))
     }
@@ -46,8 +49,6 @@ impl Serialize for char {
     ghost script = { λ c. only (character c) };
 
     ghost lawful = { λ x readable. leaf_lawful refl };
-
-    const IS_DIRECT: bool = true;
 
     fn serialize<S: Serializer>(&self, _alloc: Global, serializer: &mut S) -> Result<()> {
         serializer.serialize_char(*self)
@@ -64,6 +65,11 @@ impl Serialize for char {
     }
 
     #[inline(always)]
+    fn is_direct() -> bool {
+        true
+    }
+
+    #[inline(always)]
     fn direct<'v, 'n>(&self, _alloc: Global, _readable: bool, _room: usize) -> Made<'v, 'n> {
         Ok(NamedValue::Char(*self))
     }
@@ -73,8 +79,6 @@ impl Serialize for String {
     ghost script = { λ s. only (text (string_bytes s)) };
 
     ghost lawful = { λ x readable. leaf_lawful refl };
-
-    const IS_DIRECT: bool = true;
 
     fn serialize<S: Serializer>(&self, _alloc: Global, serializer: &mut S) -> Result<()> {
         serializer.serialize_str(self.as_str())
@@ -91,6 +95,11 @@ impl Serialize for String {
     }
 
     #[inline(always)]
+    fn is_direct() -> bool {
+        true
+    }
+
+    #[inline(always)]
     fn direct<'v, 'n>(&self, alloc: Global, _readable: bool, _room: usize) -> Made<'v, 'n> {
         made_text(alloc, self.as_str())
     }
@@ -100,8 +109,6 @@ impl Serialize for &str {
     ghost script = { λ s. only (text s.now) };
 
     ghost lawful = { λ x readable. leaf_lawful refl };
-
-    const IS_DIRECT: bool = true;
 
     fn serialize<S: Serializer>(&self, _alloc: Global, serializer: &mut S) -> Result<()> {
         serializer.serialize_str(self)
@@ -118,6 +125,11 @@ impl Serialize for &str {
     }
 
     #[inline(always)]
+    fn is_direct() -> bool {
+        true
+    }
+
+    #[inline(always)]
     fn direct<'v, 'n>(&self, alloc: Global, _readable: bool, _room: usize) -> Made<'v, 'n> {
         made_text(alloc, self)
     }
@@ -127,8 +139,6 @@ impl Serialize for () {
     ghost script = { λ u. only unit };
 
     ghost lawful = { λ x readable. leaf_lawful refl };
-
-    const IS_DIRECT: bool = true;
 
     fn serialize<S: Serializer>(&self, _alloc: Global, serializer: &mut S) -> Result<()> {
         serializer.serialize_unit()
@@ -142,6 +152,11 @@ impl Serialize for () {
         error: &mut Error,
     ) -> Sent {
         serializer.call_aside(Call::Unit, error)
+    }
+
+    #[inline(always)]
+    fn is_direct() -> bool {
+        true
     }
 
     #[inline(always)]

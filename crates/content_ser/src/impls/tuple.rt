@@ -20,8 +20,6 @@ impl<A: Serialize> Serialize for (A,) {
 
     ghost lawful = { λ t readable. tuple_lawful (element_fits (A.lawful t.0 readable) end_fits) };
 
-    const IS_DIRECT: bool = A::IS_DIRECT;
-
     fn serialize<S: Serializer>(&self, alloc: Global, serializer: &mut S) -> Result<()> {
         answered!(error => self.serialize_aside(alloc, serializer, &mut error))
     }
@@ -35,6 +33,11 @@ impl<A: Serialize> Serialize for (A,) {
         serialize_tuple(1, serializer, error)?;
         announce(Call::Element, &self.0, alloc, serializer, error)?;
         end(serializer, error)
+    }
+
+    #[inline(always)]
+    fn is_direct() -> bool {
+        A::is_direct()
     }
 
     fn direct<'v, 'n>(&self, alloc: Global, readable: bool, room: usize) -> Made<'v, 'n> {
@@ -52,8 +55,6 @@ impl<A: Serialize, B: Serialize> Serialize for (A, B) {
     ghost lawful = { λ t readable. tuple_lawful
         (element_fits (A.lawful t.0 readable) (element_fits (B.lawful t.1 readable) end_fits)) };
 
-    const IS_DIRECT: bool = A::IS_DIRECT && B::IS_DIRECT;
-
     fn serialize<S: Serializer>(&self, alloc: Global, serializer: &mut S) -> Result<()> {
         answered!(error => self.serialize_aside(alloc, serializer, &mut error))
     }
@@ -68,6 +69,11 @@ impl<A: Serialize, B: Serialize> Serialize for (A, B) {
         announce(Call::Element, &self.0, alloc, serializer, error)?;
         announce(Call::Element, &self.1, alloc, serializer, error)?;
         end(serializer, error)
+    }
+
+    #[inline(always)]
+    fn is_direct() -> bool {
+        A::is_direct() && B::is_direct()
     }
 
     fn direct<'v, 'n>(&self, alloc: Global, readable: bool, room: usize) -> Made<'v, 'n> {
@@ -87,8 +93,6 @@ impl<A: Serialize, B: Serialize, C: Serialize> Serialize for (A, B, C) {
         (element_fits (A.lawful t.0 readable) (element_fits (B.lawful t.1 readable)
         (element_fits (C.lawful t.2 readable) end_fits))) };
 
-    const IS_DIRECT: bool = A::IS_DIRECT && B::IS_DIRECT && C::IS_DIRECT;
-
     fn serialize<S: Serializer>(&self, alloc: Global, serializer: &mut S) -> Result<()> {
         answered!(error => self.serialize_aside(alloc, serializer, &mut error))
     }
@@ -104,6 +108,11 @@ impl<A: Serialize, B: Serialize, C: Serialize> Serialize for (A, B, C) {
         announce(Call::Element, &self.1, alloc, serializer, error)?;
         announce(Call::Element, &self.2, alloc, serializer, error)?;
         end(serializer, error)
+    }
+
+    #[inline(always)]
+    fn is_direct() -> bool {
+        A::is_direct() && B::is_direct() && C::is_direct()
     }
 
     fn direct<'v, 'n>(&self, alloc: Global, readable: bool, room: usize) -> Made<'v, 'n> {
@@ -126,8 +135,6 @@ impl<A: Serialize, B: Serialize, C: Serialize, D: Serialize> Serialize for (A, B
         (element_fits (C.lawful t.2 readable)
         (element_fits (D.lawful t.3 readable) end_fits)))) };
 
-    const IS_DIRECT: bool = A::IS_DIRECT && B::IS_DIRECT && C::IS_DIRECT && D::IS_DIRECT;
-
     fn serialize<S: Serializer>(&self, alloc: Global, serializer: &mut S) -> Result<()> {
         answered!(error => self.serialize_aside(alloc, serializer, &mut error))
     }
@@ -144,6 +151,11 @@ impl<A: Serialize, B: Serialize, C: Serialize, D: Serialize> Serialize for (A, B
         announce(Call::Element, &self.2, alloc, serializer, error)?;
         announce(Call::Element, &self.3, alloc, serializer, error)?;
         end(serializer, error)
+    }
+
+    #[inline(always)]
+    fn is_direct() -> bool {
+        A::is_direct() && B::is_direct() && C::is_direct() && D::is_direct()
     }
 
     fn direct<'v, 'n>(&self, alloc: Global, readable: bool, room: usize) -> Made<'v, 'n> {

@@ -17,8 +17,6 @@ impl<T: Serialize> Serialize for Vec<T> {
 
     ghost lawful = { λ v. seq_lawful T.lawful v.items };
 
-    const IS_DIRECT: bool = T::IS_DIRECT;
-
     fn serialize<S: Serializer>(&self, alloc: Global, serializer: &mut S) -> Result<()> {
         answered!(error => self.serialize_aside(alloc, serializer, &mut error))
     }
@@ -30,6 +28,11 @@ impl<T: Serialize> Serialize for Vec<T> {
         error: &mut Error,
     ) -> Sent {
         self.as_slice().serialize_aside(alloc, serializer, error)
+    }
+
+    #[inline(always)]
+    fn is_direct() -> bool {
+        T::is_direct()
     }
 
     fn direct<'v, 'n>(&self, alloc: Global, readable: bool, room: usize) -> Made<'v, 'n> {

@@ -1,0 +1,8 @@
+use Rattle.std.proofs.Common.{sym}
+use Rattle.content_ser.specs.Calls.Head.{head_of}
+use Rattle.content_ser.proofs.Making.{record_spelled}
+use Rattle.serde_content.proofs.fields_sent.made_record.Goals as goal
+
+pub returns : goal.returns
+returns g c = λ call is. record_spelled (head_of c.args.head) call _ _ c.made_of.result is c.in_ok-levels.ensures
+    (rw (sym c.in_ok-fields.ensures.items) c.in_ok-add_fields.ensures) c.made_of.ensures
