@@ -101,11 +101,12 @@ class EnumWriter:
         if not self.is_apart(holder):
             return []
         given, value = self.whole_given(v)
-        lines, told = self.send_values(v, holder), []
+        lines, told = self.send_values(v, holder, self.sent(v)), []
         if self.is_told(v, holder):
-            name, sent = f"send_told_{v.owner}", v.data.to_send()
-            script = self.script_of(v, holder, [f"{in_term(p)}.now" for p in v.data.places()]).strip()
-            told = [self.sender("Sends its values.", name, "".join(f", {p}: &{f.type.rust()}" for f, p in sent), "", script, lines)]
+            name, sent, values = f"send_told_{v.owner}", v.data.to_send(), self.values(v.data)
+            script = self.script_of(v, holder, [f"{x}.now" for x in values]).strip()
+            parameters = "".join(f", {x}: &{f.type.rust()}" for f, x in zip(v.data.fields, values) if f.sent)
+            told = [self.sender("Sends its values.", name, parameters, "", script, self.send_values(v, holder, values))]
             lines = [f"{name}({', '.join(['alloc', 'serializer', *(p for _, p in sent)])})"]
         script, requires = f"⟦<{self.whole} as Serialize>⟧.script whole.now", clause("requires", f"whole.now ≡ {value}")
         return [*told, self.sender("Sends that variant.", self.whole_name(v), f", whole: &{self.whole}{given}", requires, script, lines)]
@@ -138,9 +139,9 @@ class EnumWriter:
         """Whether a variant is sent by a function of its own: each that has a row of values is."""
         return holder.many and holder.count > 0
 
-    def send_values(self, v: Variant, holder: Holder) -> List[str]:
-        """The statements that send its values."""
-        return holder.send(self.sent(v))
+    def send_values(self, v: Variant, holder: Holder, values: List[str]) -> List[str]:
+        """The statements that send its values, which code calls so."""
+        return holder.send(values)
 
     def whole_name(self, v: Variant) -> str:
         return f"send_whole_{v.owner}"
@@ -148,7 +149,7 @@ class EnumWriter:
     def send_variant(self, v: Variant, holder: Holder) -> List[str]:
         """The statements that send a variant."""
         if not self.is_apart(holder):
-            return self.send_values(v, holder)
+            return self.send_values(v, holder, self.sent(v))
         return [f"{self.whole_name(v)}({', '.join(['alloc', 'serializer', 'self', *v.data.places()])})"]
 
     def names_list(self) -> List[str]:

@@ -57,10 +57,10 @@ class UntaggedWriter(EnumWriter):
         """The struct that a variant of values by name is read as, and how."""
         return self.structs[v.name].texts() if v.data.named else []
 
-    def send_values(self, v: Variant, holder: Holder) -> List[str]:
+    def send_values(self, v: Variant, holder: Holder, values: List[str]) -> List[str]:
         if v.data.named:
-            return self.structs[v.name].holder.send(v.data.places())
-        return sending(f"Call::Tuple({len(v.data.fields)})", [f"SendElement({p}, row)" for p in v.data.places()])
+            return self.structs[v.name].holder.send(values)
+        return sending(f"Call::Tuple({len(values)})", [f"SendElement({x}, row)" for x in values])
 
     def serialize(self) -> List[str]:
         return [ghost("script", self.each(lambda v, h, x: self.script_of(v, h, x) if v.sent else self.unsent_script(v))),
