@@ -65,10 +65,10 @@ offline = true
 CONFIG
 }
 
-# build_port: the static library content_port, with a mark between phases. tools/derive writes its struct.
+# build_port: the static library content_port, with a mark between phases. tools/derive writes its types.
 build_port() {
-    "$room/ours/tools/derive" --crate content_port --module point "$room/ours/crates/content_port/point.rs" \
-        -o "$room/ours/crates/content_port/src/point.rt"
+    "$room/ours/tools/derive" --crate content_port --module types "$room/ours/crates/content_port/types.rs" \
+        -o "$room/ours/crates/content_port/src/types.rt"
     (cd "$room/ours/crates/content_port" && RT_ALLOW_C=content_port rt lib) \
         > "$room/ours.log" 2>&1 || { tail -n 5 "$room/ours.log"; exit 1; }
 }

@@ -1,19 +1,14 @@
 //! The shapes of data, made from a number alone, and a sum of each.
 
-use serde::{Deserialize, Serialize};
+use crate::types::{Point, Record};
 use serde_content::{Number, Value};
 use std::collections::BTreeMap;
-
-#[derive(Serialize, Deserialize)]
-pub struct Point {
-    pub x: i32,
-    pub y: i32,
-}
 
 pub type Points = Vec<Point>;
 pub type Nest = Vec<Vec<Vec<u32>>>;
 pub type Map = BTreeMap<String, u64>;
 pub type Tree = Value<'static>;
+pub type Records = Vec<Record>;
 
 /// So many points.
 pub fn points(count: u64) -> Points {
@@ -48,9 +43,12 @@ pub fn tree(count: u64) -> Tree {
     node(0, count)
 }
 
+fn sum_point(point: &Point) -> u64 {
+    (i64::from(point.x) * 3 + i64::from(point.y)) as u64
+}
+
 pub fn sum_points(points: &Points) -> u64 {
-    let sum = |a: u64, p: &Point| a.wrapping_add((i64::from(p.x) * 3 + i64::from(p.y)) as u64);
-    points.iter().fold(0, sum)
+    points.iter().fold(0, |a: u64, point| a.wrapping_add(sum_point(point)))
 }
 
 pub fn sum_nest(nest: &Nest) -> u64 {
@@ -69,4 +67,17 @@ pub fn sum_tree(tree: &Tree) -> u64 {
         Value::Number(Number::U64(value)) => *value,
         _ => 0,
     }
+}
+
+pub fn sum_records(records: &Records) -> u64 {
+    records.iter().fold(0, |a: u64, record| a.wrapping_add(sum_record(record)))
+}
+
+fn sum_record(record: &Record) -> u64 {
+    let times = if matches!(record, Record::Added { .. }) { 1 } else { 3 };
+    let (Record::Added { id, name, used, limit, place, counts }
+    | Record::Changed { id, name, used, limit, place, counts }) = record;
+    let counts: u64 = counts.iter().map(|count| u64::from(*count)).sum();
+    let sum = *id + name.len() as u64 + u64::from(*used) + u64::from(limit.unwrap_or(0));
+    (sum + sum_point(place) + counts).wrapping_mul(times)
 }

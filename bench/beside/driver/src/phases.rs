@@ -1,23 +1,34 @@
 //! One phase after another, each between two marks, the same in the Rust crate and in ours.
 
-use crate::data::{map, nest, points, sum_map, sum_nest, sum_points, sum_tree, tree};
+use crate::data::{map, nest, points, tree};
+use crate::data::{sum_map, sum_nest, sum_points, sum_records, sum_tree};
+use crate::records::records;
 use serde::{de::DeserializeOwned, Serialize};
 use serde_content::{Deserializer, Expected, Serializer, Unexpected, Value};
 use std::cmp::Ordering;
 use std::hint::black_box;
+use std::process::exit;
+use std::sync::atomic::{AtomicU32, Ordering::Relaxed};
 
 extern "C" {
     fn port_points_phases(count: u64) -> u64;
     fn port_nest_phases(count: u64) -> u64;
     fn port_map_phases(count: u64) -> u64;
     fn port_tree_phases(count: u64) -> u64;
+    fn port_records_phases(count: u64) -> u64;
+    fn port_by_hand_phases(count: u64) -> u64;
 }
+
+/// The mark at which the program ends.
+pub static LAST: AtomicU32 = AtomicU32::new(u32::MAX);
 
 /// The mark before a phase. Ours calls it too.
 #[no_mangle]
 #[inline(never)]
 pub extern "C" fn port_mark(phase: u32) {
-    black_box(phase);
+    if phase == LAST.load(Relaxed) {
+        exit(0);
+    }
 }
 
 /// Runs the phases; the answer is the length of the printed error, where all went well.
@@ -27,11 +38,16 @@ pub fn run(who: &str, shape: &str, count: u64) -> u64 {
         ("rust", "nest") => typed(&nest(count), sum_nest),
         ("rust", "map") => typed(&map(count), sum_map),
         ("rust", "tree") => typed(&tree(count), sum_tree),
+        ("rust", "records") => typed(&records(count), sum_records),
+        // The Rust crate has only one way, so these are its derived points.
+        ("rust", "by_hand") => typed(&points(count), sum_points),
         // SAFETY: each takes a number, gives one, and keeps nothing.
         ("ours", "points") => unsafe { port_points_phases(count) },
         ("ours", "nest") => unsafe { port_nest_phases(count) },
         ("ours", "map") => unsafe { port_map_phases(count) },
         ("ours", "tree") => unsafe { port_tree_phases(count) },
+        ("ours", "records") => unsafe { port_records_phases(count) },
+        ("ours", "by_hand") => unsafe { port_by_hand_phases(count) },
         _ => panic!("no such shape"),
     }
 }

@@ -1,20 +1,20 @@
 //! Runs the phases of one shape of data, in serde_cbor or in ours. Callgrind writes its counts at
 //! each mark between two phases.
 
-use serde::{de::DeserializeOwned, Deserialize, Serialize};
+mod records;
+mod types;
+
+use records::records;
+use serde::{de::DeserializeOwned, Serialize};
 use serde_cbor::{from_slice, to_vec, Value};
 use std::collections::BTreeMap;
 use std::hint::black_box;
-
-#[derive(Serialize, Deserialize, PartialEq)]
-struct Point {
-    x: i32,
-    y: i32,
-}
+use types::Point;
 
 extern "C" {
     fn port_points_phases(count: u64) -> u64;
     fn port_map_phases(count: u64) -> u64;
+    fn port_records_phases(count: u64) -> u64;
 }
 
 /// The mark before a phase. Ours calls it too.
@@ -27,15 +27,17 @@ pub extern "C" fn port_mark(phase: u32) {
 fn main() {
     let words: Vec<String> = std::env::args().skip(1).collect();
     let [who, shape, count] = words.as_slice() else {
-        panic!("usage: bench rust|ours points|map COUNT");
+        panic!("usage: bench rust|ours points|map|records COUNT");
     };
     let count = count.parse().expect("a number");
     let sum = match (who.as_str(), shape.as_str()) {
         ("rust", "points") => phases(&points(count)),
         ("rust", "map") => phases(&map(count)),
+        ("rust", "records") => phases(&records(count)),
         // SAFETY: each takes a number, gives one, and keeps nothing.
         ("ours", "points") => unsafe { port_points_phases(count) },
         ("ours", "map") => unsafe { port_map_phases(count) },
+        ("ours", "records") => unsafe { port_records_phases(count) },
         _ => panic!("no such shape"),
     };
     println!("{sum}");
