@@ -16,7 +16,7 @@ from typing import Dict, Iterator, List, NamedTuple, Set, Tuple
 
 TOP = Path(__file__).resolve().parents[2]
 FOLDER = TOP / "docs" / "calling"
-LIBRARIES = ["content_tree", "content_ser", "content_build", "content_de", "serde_content", "content_nested", "content_cbor",
+LIBRARIES = ["content_tree", "content_ser", "content_build", "content_de", "serde_content", "content_nested", "content_cbor", "content_json",
              "content_uses", "content_lines"]
 # What an implementation of a trait of std defines to say what its calls give.
 MEANINGS = ("from_gives", "try_from_gives", "output", "eq", "cmp", "is_default", "view")

@@ -1,0 +1,19 @@
+#!/usr/bin/env bash
+# checks/json.sh [SEED]: makes 20,000 random trees as lines of words, and compares the two texts that content_json writes
+# of each, or the key that it refuses, with what python3's json and the rules of serde_json's keys say. It stands outside
+# the gate, proves nothing, needs rsync and python3, and takes two minutes.
+set -euo pipefail
+top=$(cd "$(dirname "$0")/.." && pwd)
+parts=$top/checks/json
+room=$(mktemp -d)
+trap 'rm -rf "$room"' EXIT
+
+# shellcheck source=bench/common.sh
+. "$top/bench/common.sh"
+need rsync python3
+
+place_ours json_texts "$parts/here" 'json_texts: content_json content_tree'
+python3 "$parts/trees.py" make "${1:-1}" 20000 "$room"
+(cd "$room/ours/crates/json_texts" && rt try --steps 1 --seconds 300 < "$room/lines") \
+    > "$room/here" 2> "$room/log" || { tail -n 5 "$room/log"; exit 1; }
+python3 "$parts/trees.py" compare "$room"
