@@ -879,12 +879,12 @@ pub enum Token { Ident(String, Span), At { of: Span }, Only(Span), Eof }
 
 // + struct From1OfAX(String, Option<u8>, i16, String, u8);
 // + impl serde_content::derive_support::MadeFrom<From1OfAX> for A
-// + fn send_told_a_x<S: Serializer>(alloc: Global, serializer: &mut S, a: &String, b: &Option<u8>, c: &i16) -> Result<()>
-// + { send_told_a_x(alloc, serializer, a, b, c) }
-// + A::X { a, b, c, d, e } => send_whole_a_x(alloc, serializer, self, a, b, c, d, e),
+// + fn send_told_a_x<S: Serializer>(alloc: Global, serializer: &mut S, x1: &String, x2: &Option<u8>, x3: &i16) -> Result<()>
+// + { send_told_a_x(alloc, serializer, name, b, c) }
+// + A::X { name, b, c, d, e } => send_whole_a_x(alloc, serializer, self, name, b, c, d, e),
 // + struct From1OfBY(u8, (Vec<i8>, Option<(bool, char)>, BTreeMap<u8, String>));
 #[derive(Serialize, Deserialize)]
-enum A { X { a: String, b: Option<u8>, c: i16, #[serde(skip)] d: String, #[serde(skip)] e: u8 }, Y }
+enum A { X { name: String, b: Option<u8>, c: i16, #[serde(skip)] d: String, #[serde(skip)] e: u8 }, Y }
 #[derive(Deserialize)]
 enum B { Y(u8, (Vec<i8>, Option<(bool, char)>, BTreeMap<u8, String>)) }
 
