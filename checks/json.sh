@@ -1,7 +1,9 @@
 #!/usr/bin/env bash
 # checks/json.sh [SEED]: makes 20,000 random trees as lines of words, and compares the two texts that content_json writes
-# of each, or the key that it refuses, with what python3's json and the rules of serde_json's keys say. It stands outside
-# the gate, proves nothing, needs rsync and python3, and takes two minutes.
+# of each, or the key that it refuses, with what python3's json and the rules of serde_json's keys say. Then it makes
+# 20,000 texts, half of them damaged, and compares whether content_json decodes each, its value, and the place of the
+# first wrong byte with what python3's json and an automaton in Python say. It stands outside the gate, proves nothing,
+# needs rsync and python3, and takes two minutes.
 set -euo pipefail
 top=$(cd "$(dirname "$0")/.." && pwd)
 parts=$top/checks/json
@@ -17,3 +19,7 @@ python3 "$parts/trees.py" make "${1:-1}" 20000 "$room"
 (cd "$room/ours/crates/json_texts" && rt try --steps 1 --seconds 300 < "$room/lines") \
     > "$room/here" 2> "$room/log" || { tail -n 5 "$room/log"; exit 1; }
 python3 "$parts/trees.py" compare "$room"
+python3 "$parts/texts.py" make "${1:-1}" 20000 "$room"
+(cd "$room/ours/crates/json_texts" && rt try --steps 1 --seconds 300 < "$room/texts") \
+    > "$room/read" 2> "$room/log" || { tail -n 5 "$room/log"; exit 1; }
+python3 "$parts/texts.py" compare "$room"

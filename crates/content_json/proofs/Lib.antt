@@ -1,2 +1,11 @@
 pub mod Quoting
 pub mod Writing
+pub mod Loops
+pub mod Runs
+pub mod Sound
+pub mod SoundTexts
+pub mod SoundValues
+pub mod Complete
+pub mod CompleteTexts
+pub mod CompleteValues
+pub mod Stops

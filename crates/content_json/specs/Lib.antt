@@ -6,3 +6,7 @@ pub mod Keys
 pub mod Json
 pub mod Encoded
 pub mod PrintedError
+pub mod Inner
+pub mod Codes
+pub mod PrintedFault
+pub mod Decoded

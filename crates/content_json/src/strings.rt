@@ -59,7 +59,7 @@ fn first_escape(text: &str) -> Option<usize>
 
 /// Whether a byte is written as anything but itself. It is a character of its own, so a text may be
 /// cut before it and after it.
-fn has_escape(byte: u8) -> bool
+pub(crate) fn has_escape(byte: u8) -> bool
     ensures { result ≡ has_escape byte }
 {
     byte < b' ' || byte == b'"' || byte == b'\\'
