@@ -1,7 +1,7 @@
 #!/usr/bin/env bash
 # checks/pages.sh [--unproved]: compares the pages (README.md, CHANGELOG.md, CONTRIBUTING.md, docs/, bench/README.md and
 # each crate's README.md) with the repository, and ends with status 1 where one of these fails:
-# - README.md has at most 1,200 words, any other page at most 2,500, and all pages together at most 19,000. Not counted is
+# - README.md has at most 1,200 words, any other page at most 2,500, and all pages together at most 19,200. Not counted is
 #   docs/calling/: its pages are what checks/pages/calling.py writes from the sources.
 # - Each relative link leads to a file, and where it names a heading, to one of that page; each file that a page names in
 #   code type is there; each page can be reached from README.md.

@@ -1,5 +1,5 @@
 #!/usr/bin/env python3
-"""trees.py make SEED COUNT ROOM | compare ROOM: the work of checks/json.sh.
+"""trees.py make SEED COUNT ROOM | compare ROOM | beside ROOM: the work of checks/json.sh.
 
 A tree is a tuple of its kind and what it holds. `make` writes each as words of a line into ROOM/lines, and into ROOM/wanted
 its text on one line, its text on several, and a line of two dashes. Texts, numbers and literals are what `json.dumps`
@@ -196,4 +196,17 @@ def compare(room):
     sys.exit(1 if wrong or len(answers) != len(due) else 0)
 
 
-{"make": make, "compare": compare}[sys.argv[1]](*sys.argv[2:])
+def beside(room):
+    """Compares what serde_json writes, in ROOM/beside, with the texts wanted; which key it refuses doesn't count."""
+    with open(f"{room}/beside", encoding="utf-8") as theirs, open(f"{room}/wanted", encoding="utf-8") as wanted:
+        answers, due = theirs.read().split("\n--\n"), wanted.read().split("\n--\n")
+    due = ["refused\nrefused" if it.startswith("a key of a map is ") else it for it in due]
+    wrong = [pair for pair in zip(answers, due) if pair[0] != pair[1]]
+    refused = sum(answer.startswith("refused") for answer, _ in wrong)
+    print(f"serde_json: of {len(due) - 1} trees {len(due) - 1 - len(wrong)} have the same texts; it refuses {refused} more")
+    for answer, text in wrong[:10]:
+        print(f"wanted: {text}\ntheirs: {answer}")
+    sys.exit(1 if wrong or len(answers) != len(due) else 0)
+
+
+{"make": make, "compare": compare, "beside": beside}[sys.argv[1]](*sys.argv[2:])

@@ -31,7 +31,7 @@ ROOTS = [it for it in FILES if re.fullmatch(r"crates/\w+/src/lib\.rt", it)]
 CRATES = re.findall(r"^(\w+):", read(f"{TOP}/crates.txt"), re.M)
 
 # The most words of README.md, of any other page, and of all pages together, as `wc -w` counts them.
-README_WORDS, PAGE_WORDS, ALL_WORDS = 1200, 2500, 19000
+README_WORDS, PAGE_WORDS, ALL_WORDS = 1200, 2500, 19200
 
 
 def anchors_of(text):
